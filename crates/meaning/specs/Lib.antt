@@ -1,0 +1,9 @@
+pub mod Lists
+pub mod Refusal
+pub mod Sketch
+pub mod SketchCalls
+pub mod Trie
+pub mod Rights
+pub mod Ledger
+pub mod Forest
+pub mod Questions
