@@ -16,10 +16,10 @@ sketchLimits b m = ltb 0 b && leb b 8 && (ltb 0 m && leb m 64)
 unfoldable pub measureNumber : ℕ → ℕ → List ℕ → List ℕ → ℕ
 measureNumber b m x y =
     firstNo (
-      ask 4 (sketchLimits b m)
-      ∷ ask 10 (eqb (length x) m && eqb (length y) m)
-      ∷ ask 11 (inRange b x && inRange b y)
-      ∷ [])
+    ask 4 (sketchLimits b m)
+    ∷ ask 10 (eqb (length x) m && eqb (length y) m)
+    ∷ ask 11 (inRange b x && inRange b y)
+    ∷ [])
 
 -- the distance; 0 with a refusal
 unfoldable pub measureValue : ℕ → ℕ → List ℕ → List ℕ → ℕ
@@ -29,21 +29,21 @@ measureValue b m x y = cond (eqb (measureNumber b m x y) 0) (distance x y) 0
 unfoldable pub packNumber : ℕ → ℕ → List ℕ → List ℕ → ℕ
 packNumber b m x out =
     firstNo (
-      ask 4 (sketchLimits b m)
-      ∷ ask 10 (eqb (length x) m)
-      ∷ ask 11 (inRange b x)
-      ∷ ask 13 (leb (packedLength b m) (length out))
-      ∷ [])
+    ask 4 (sketchLimits b m)
+    ∷ ask 10 (eqb (length x) m)
+    ∷ ask 11 (inRange b x)
+    ∷ ask 13 (leb (packedLength b m) (length out))
+    ∷ [])
 
 -- unpacking m symbols into an output
 unfoldable pub unpackNumber : ℕ → ℕ → List ℕ → List ℕ → ℕ
 unpackNumber b m bs out =
     firstNo (
-      ask 4 (sketchLimits b m)
-      ∷ ask 10 (eqb (length bs) (packedLength b m))
-      ∷ ask 11 (allPackable b m bs)
-      ∷ ask 13 (leb m (length out))
-      ∷ [])
+    ask 4 (sketchLimits b m)
+    ∷ ask 10 (eqb (length bs) (packedLength b m))
+    ∷ ask 11 (allPackable b m bs)
+    ∷ ask 13 (leb m (length out))
+    ∷ [])
 
 -- the length given: with 0 what was written, with 13 what is needed, with any other refusal 0
 unfoldable pub lengthGiven : ℕ → ℕ → ℕ

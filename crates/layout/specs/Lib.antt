@@ -1,0 +1,5 @@
+pub mod Settings
+pub mod Nodes
+pub mod Pages
+pub mod Working
+pub mod Lengths

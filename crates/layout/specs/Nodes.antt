@@ -1,0 +1,39 @@
+-- The node table, of N nodes: N chain words, N state words, then eight heads a node. A link is 0 for none, else a number + 1.
+use Prim.Native.Nat.{ℕ, _+_, _*_, _/_, _%_}
+use mathlib.Core.List.{List}
+use lib.ListN.{getD}
+
+-- A chain word holds a link to the next sibling, or to the next free node, and the node's byte above it.
+-- A head holds a link to the first child of its range of 32 bytes. A word that holds a link is a slot.
+abbrev pub linkOf : ℕ → ℕ
+linkOf w = w % 524288
+
+abbrev pub byteOf : ℕ → ℕ
+byteOf w = w / 524288
+
+abbrev pub chainWord : ℕ → ℕ → ℕ
+chainWord byte link = link + byte * 524288
+
+-- a slot's word with another link
+abbrev pub withLink : ℕ → ℕ → ℕ
+withLink w link = chainWord (byteOf w) link
+
+-- where the words of node x stand
+abbrev pub chainAt : ℕ → ℕ
+chainAt x = x
+
+abbrev pub stateAt : ℕ → ℕ → ℕ
+stateAt N x = N + x
+
+abbrev pub headAt : ℕ → ℕ → ℕ → ℕ
+headAt N x g = 2 * N + 8 * x + g
+
+-- the state of a node: free, inner, or a leaf with the link to its first page
+abbrev pub freeState : ℕ
+freeState = 0
+
+abbrev pub innerState : ℕ
+innerState = 1
+
+abbrev pub leafState : ℕ → ℕ
+leafState link = 2 + link

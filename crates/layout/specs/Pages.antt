@@ -1,0 +1,22 @@
+-- The page table, of P pages and q blocks: P live words, P classes, then for each block P links to the next page of the same leaf.
+-- The sketch table: m symbols a page, a byte each.
+use Prim.Native.Nat.{ℕ, _+_, _*_}
+use mathlib.Core.Bool.{Bool}
+use mathlib.Core.List.{List}
+use lib.Dec.{eqb}
+use lib.ListN.{getD, take, drop}
+
+-- where block j's links begin: page p's link is at nextAt P j + p
+abbrev pub nextAt : ℕ → ℕ → ℕ
+nextAt P j = (2 + j) * P
+
+-- exactly 1: live
+unfoldable pub isLive : List ℕ → ℕ → Bool
+isLive pages p = eqb (getD pages p 0) 1
+
+unfoldable pub classOf : List ℕ → ℕ → ℕ → ℕ
+classOf pages P p = getD pages (P + p) 0
+
+-- a page's row of the sketch table
+unfoldable pub rowOf : ℕ → List ℕ → ℕ → List ℕ
+rowOf m sketches p = take m (drop (p * m) sketches)
