@@ -1,12 +1,12 @@
 -- The tries of demand 2 beside the ledger: one for each block, grown by the same events.
-use Prim.Native.Nat.{ℕ, suc, _+_}
+use Prim.Native.Nat.{ℕ, suc, _+_, _/_}
 use mathlib.Core.Bool.{cond}
-use mathlib.Core.List.{List, [], _∷_, map}
+use mathlib.Core.List.{List, [], _∷_, _++_, map}
 use lib.Dec.{eqb}
 use lib.ListN.{replicate}
 use Rattle.meaning.specs.Lists.{sum}
 use Rattle.meaning.specs.Sketch.{pack, packedLength, block, blockLength}
-use Rattle.meaning.specs.Trie.{Tree, fresh, insert, remove}
+use Rattle.meaning.specs.Trie.{Tree, fresh, insert, remove, met}
 use Rattle.meaning.specs.Trie.{nodes as nodesOf}
 use Rattle.meaning.specs.Ledger.{Settings, Row, Ledger, Event, Call, opening, add, drop, join, leave, grant, revoke, search, show, check, putRow, ledger}
 
@@ -51,3 +51,8 @@ forest (e ∷ es) = cond (e .refused) (forest es) (forestAfter (ledger es .setti
 -- how many nodes the tries have together
 unfoldable pub totalNodes : List Tree → ℕ
 totalNodes F = sum (map nodesOf F)
+
+-- the pages that a search meets in the tries of blocks j, j + 1, ..: each is walked within radius / q
+unfoldable pub metFrom : Settings → ℕ → List ℕ → ℕ → List Tree → List ℕ
+metFrom s radius x j [] = []
+metFrom s radius x j (t ∷ ts) = met (s .bits) (radius / s .blocks) t (bytesOfSketch s j x) ++ metFrom s radius x (suc j) ts

@@ -7,3 +7,4 @@ pub mod Rights
 pub mod Ledger
 pub mod Forest
 pub mod Questions
+pub mod Sums
