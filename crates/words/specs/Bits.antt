@@ -1,0 +1,53 @@
+-- Bits of a word of 32 bits, flags in a run of words, and runs of zeros.
+use Prim.Native.Nat.{ℕ, zero, suc, _+_, _-_, _/_, _%_, _^_}
+use mathlib.Core.Bool.{Bool, true, false, cond}
+use mathlib.Core.List.{List, [], _∷_, _++_}
+use lib.Dec.{eqb}
+use lib.ListN.{length, getD, set, take, drop, replicate}
+
+-- ---- a word
+
+-- bit k of a word
+unfoldable pub bit : ℕ → ℕ → Bool
+bit w k = eqb (w / 2 ^ k % 2) 1
+
+-- a word with bit k set to v
+unfoldable pub withBit : ℕ → ℕ → Bool → ℕ
+withBit w k true = cond (bit w k) w (w + 2 ^ k)
+withBit w k false = cond (bit w k) (w - 2 ^ k) w
+
+-- which of the n bits from bit k on are set, rising
+unfoldable pub bitsFrom : ℕ → ℕ → ℕ → List ℕ
+bitsFrom w k zero = []
+bitsFrom w k (suc n) = cond (bit w k) (k ∷ []) [] ++ bitsFrom w (suc k) n
+
+-- the set bits of a word, rising
+unfoldable pub bitsOf : ℕ → List ℕ
+bitsOf w = bitsFrom w 0 32
+
+-- the lowest set bit; 32 if there is none
+unfoldable pub lowest : ℕ → ℕ
+lowest w = getD (bitsOf w) 0 32
+
+-- how many bits are set
+unfoldable pub ones : ℕ → ℕ
+ones w = length (bitsOf w)
+
+-- ---- words in a table
+
+-- flag n of the words that begin at word `base`, 32 in a word
+unfoldable pub flag : List ℕ → ℕ → ℕ → Bool
+flag ws base n = bit (getD ws (base + n / 32) 0) (n % 32)
+
+-- the table with that flag set to v
+unfoldable pub withFlag : List ℕ → ℕ → ℕ → Bool → List ℕ
+withFlag ws base n v = set ws (base + n / 32) (withBit (getD ws (base + n / 32) 0) (n % 32) v)
+
+-- the n words from `base` on are 0, the rest is as it was
+unfoldable pub zeroed : List ℕ → ℕ → ℕ → List ℕ
+zeroed ws base n = take base ws ++ (replicate n 0 ++ drop (base + n) ws)
+
+-- how many bits are set in the n words from `base` on
+unfoldable pub onesIn : List ℕ → ℕ → ℕ → ℕ
+onesIn ws base zero = 0
+onesIn ws base (suc n) = onesIn ws base n + ones (getD ws (base + n) 0)
