@@ -1,0 +1,25 @@
+-- What each call promises: an equation for its answer and for every table lent to it, refused or not.
+use Prim.Native.Nat.{ℕ}
+use mathlib.Core.Path.{_≡_}
+use mathlib.Core.Bool.{cond}
+use mathlib.Core.List.{List, []}
+use lib.Dec.{eqb}
+use Rattle.meaning.specs.Ledger.{Settings, Call, opening, show}
+use Rattle.promises.specs.Tables.{Tables, settingsAlone, pageRow}
+use Rattle.promises.specs.Answers.{number, opened, registered}
+
+-- an opening with settings s, lent the tables T; it leaves the sketch table and the working table as they were
+pub record OpenPromise (s : Settings) (T : Tables) (n : ℕ) (settings nodes pages : List ℕ) : Type 0 where
+  pub answers : n ≡ number T [] (opening s)
+  pub settings-left : settings ≡ cond (eqb (number T [] (opening s)) 0) (opened s T .settings) (T .settings)
+  pub nodes-left : nodes ≡ cond (eqb (number T [] (opening s)) 0) (opened s T .nodes) (T .nodes)
+  pub pages-left : pages ≡ cond (eqb (number T [] (opening s)) 0) (opened s T .pages) (T .pages)
+
+-- a join, leave, grant or revoke, lent the settings table ws
+pub record RightsPromise (c : Call) (ws : List ℕ) (n : ℕ) (settings : List ℕ) : Type 0 where
+  pub answers : n ≡ number (settingsAlone ws) [] c
+  pub settings-left : settings ≡ cond (eqb (number (settingsAlone ws) [] c) 0) (registered c ws) ws
+
+-- a show, by what it gives: the page's row, or nothing
+unfoldable pub rowShown : Tables → ℕ → ℕ → List ℕ
+rowShown T reader p = cond (eqb (number T [] (show reader p)) 0) (pageRow T p) []

@@ -1,0 +1,69 @@
+-- The tables lent to a call, and what the questions read off them. A table that a call does not take stands as [].
+use Prim.Native.Nat.{ℕ, suc, zero}
+use mathlib.Core.Bool.{Bool, true, false, cond, _&&_, _||_, not}
+use mathlib.Core.List.{List, [], _∷_}
+use lib.Dec.{leb}
+use lib.ListN.{length}
+use Rattle.meaning.specs.Lists.{keep, upto}
+use Rattle.meaning.specs.Sketch.{distance}
+use Rattle.meaning.specs.Trie.{Tree}
+use Rattle.meaning.specs.Ledger.{Settings, Row, Call, opening, add, drop, join, leave, grant, revoke, search, show, check}
+use Rattle.meaning.specs.Forest.{forestAfter, totalNodes}
+use Rattle.meaning.specs.Questions.{View}
+use Rattle.layout.specs.Settings.{settingsOf}
+use Rattle.layout.specs.Pages.{isLive, classOf, rowOf}
+use Rattle.rights.specs.Register.{opens}
+
+-- words, words, words, bytes, words
+pub record Tables : Type 0 where
+  pub settings : List ℕ
+  pub nodes : List ℕ
+  pub pages : List ℕ
+  pub sketches : List ℕ
+  pub working : List ℕ
+
+abbrev pub settingsAlone : List ℕ → Tables
+settingsAlone ws = record { settings = ws; nodes = []; pages = []; sketches = []; working = [] }
+
+abbrev pub withSettings : Tables → List ℕ → Tables
+withSettings T ws = record { settings = ws; nodes = T .nodes; pages = T .pages; sketches = T .sketches; working = T .working }
+
+-- what the settings table says that the opening was given
+abbrev pub given : Tables → Settings
+given T = settingsOf (T .settings)
+
+-- a page's class and row
+unfoldable pub pageClass : Tables → ℕ → ℕ
+pageClass T p = classOf (T .pages) (given T .pages) p
+
+unfoldable pub pageRow : Tables → ℕ → List ℕ
+pageRow T p = rowOf (given T .symbols) (T .sketches) p
+
+-- a page is live, and its class is open to the reader
+unfoldable pub isShown : Tables → ℕ → ℕ → Bool
+isShown T reader p = isLive (T .pages) p && opens (T .settings) reader (pageClass T p)
+
+-- the pages that a search is to list: those shown to the reader whose rows are within the radius of the query, rising
+unfoldable pub scan : Tables → ℕ → ℕ → List ℕ → List ℕ
+scan T reader radius x = keep (λ p. isShown T reader p && leb (distance (pageRow T p) x) radius) (upto (given T .pages))
+
+-- the rows of the live pages among n from page k on
+unfoldable pub rowsFrom : (ℕ → Bool) → (ℕ → Row) → ℕ → ℕ → List Row
+rowsFrom live row k zero = []
+rowsFrom live row k (suc n) = cond (live k) (row k ∷ rowsFrom live row (suc k) n) (rowsFrom live row (suc k) n)
+
+unfoldable pub rowsOf : Tables → List Row
+rowsOf T =
+    rowsFrom (isLive (T .pages)) (λ p. record { page = p; class = pageClass T p; sketch = pageRow T p }) 0 (given T .pages)
+
+-- what 8 to 13 are judged by, from the tables and the tries that they hold
+unfoldable pub byTables : Tables → List Tree → View
+byTables T F = record {
+  bits = given T .bits;
+  symbols = given T .symbols;
+  pages = given T .pages;
+  live = isLive (T .pages);
+  shown = isShown T;
+  found = λ reader radius x. length (scan T reader radius x);
+  room = λ p c x. leb (totalNodes (forestAfter (given T) (rowsOf T) (add p c x) F)) (given T .nodes);
+}
