@@ -16,6 +16,7 @@ fn symbols_fit(b: u32, x: &[u8]) -> bool {
 }
 
 /// The number of places where two sketches differ.
+#[inline(never)]
 pub fn measure(b: u32, m: u32, x: &[u8], y: &[u8]) -> Answer<u32> {
     limits(b, m)?;
     if x.len() != m as usize || y.len() != m as usize {
@@ -65,4 +66,52 @@ pub fn unpack(b: u32, m: u32, bytes: &[u8]) -> Answer<Vec<u8>> {
         }
     }
     Ok(out)
+}
+
+/// Packing into a lent output, as a caller in Rust would write it.
+#[inline(never)]
+pub fn pack_to(b: u32, m: u32, x: &[u8], out: &mut [u8]) -> Answer<usize> {
+    limits(b, m)?;
+    if x.len() != m as usize {
+        return Err(10);
+    }
+    if !symbols_fit(b, x) {
+        return Err(11);
+    }
+    let n = packed_length(b, m);
+    if out.len() < n {
+        return Err(13);
+    }
+    let z = (8 / b) as usize;
+    for (byte, cs) in out.iter_mut().zip(x.chunks(z)) {
+        *byte = cs.iter().rev().fold(0u32, |v, &c| (v << b) | u32::from(c)) as u8;
+    }
+    Ok(n)
+}
+
+/// Unpacking into a lent output.
+#[inline(never)]
+pub fn unpack_to(b: u32, m: u32, bytes: &[u8], out: &mut [u8]) -> Answer<usize> {
+    limits(b, m)?;
+    if bytes.len() != packed_length(b, m) {
+        return Err(10);
+    }
+    let z = 8 / b;
+    for (k, &v) in bytes.iter().enumerate() {
+        let count = z.min(m - k as u32 * z);
+        if u32::from(v) >> (b * count) != 0 {
+            return Err(11);
+        }
+    }
+    if out.len() < m as usize {
+        return Err(13);
+    }
+    for (&v, cs) in bytes.iter().zip(out[..m as usize].chunks_mut(z as usize)) {
+        let mut rest = u32::from(v);
+        for c in cs {
+            *c = (rest % (1 << b)) as u8;
+            rest >>= b;
+        }
+    }
+    Ok(m as usize)
 }
