@@ -1,1 +1,3 @@
+pub mod Rising
 pub mod Bits
+pub mod Machine
