@@ -1,2 +1,5 @@
 pub mod Lists
 pub mod Packing
+pub mod Pairs
+pub mod Distance
+pub mod ByteDistance

@@ -9,6 +9,10 @@ use mathlib.Core.List.{List, [], _∷_, _++_, map, map-append}
 use lib.ListN.{length, getD}
 use Rattle.meaning.specs.Lists.{all, any, count, from, upto, sum}
 
+pub not-so : (t : Bool) → (t ≡ true → ⊥) → t ≡ false
+not-so true h = absurd (h refl)
+not-so false h = refl
+
 -- ---- a test of two parts
 pub and-intro : (s t : Bool) → s ≡ true → t ≡ true → s && t ≡ true
 and-intro true t h k = k
@@ -120,6 +124,9 @@ module _ (p : ℕ → Bool) where
       (λ q. ap p q ∙ and-second (all p (upto n)) (p n) both)
       (upto-all n (and-first (all p (upto n)) (p n) both) i)
       (eq-or-lt-of-le (le-of-suc-le-suc h))
+
+  pub upto-not : (n i : ℕ) → i < n → p i ≡ false → all p (upto n) ≡ false
+  upto-not n i h e = not-so (all p (upto n)) (λ a. false≢true (sym e ∙ upto-all n a i h))
 
   pub count-none : (n : ℕ) → ((i : ℕ) → i < n → p i ≡ false) → count p (upto n) ≡ 0
   unfolding count upto from

@@ -2,11 +2,11 @@
 -- Each law is over the bits a symbol, b.
 use Prim.Native.Nat.{ℕ, zero, suc, _+_, _*_, _-_, _/_, _%_, _^_, _≤_, _<_}
 use native.Mathlib.Omega.{arith}
-use native.Mathlib.Nat.{not-suc-le-zero, lt-of-lt-of-le, eq-zero-or-pos, le-div-iff-mul-le, div-mul-le-self, div-add-mod', mod-lt, mod-eq-of-lt, mul-le-mul-left, mul-le-mul-right, min-le-left, mul-zero, mul-suc, mul-comm, zero-mul, div-div-eq-div-mul, zero-add, zero-div, zero-mod, div-one, mod-one, add-mul-mod-self-left, add-mul-div-left, div-eq-of-lt, add-comm}
+use native.Mathlib.Nat.{not-suc-le-zero, not-le-of-lt, lt-of-lt-of-le, eq-zero-or-pos, le-div-iff-mul-le, div-mul-le-self, div-add-mod', mod-lt, mod-eq-of-lt, mul-le-mul-left, mul-le-mul-right, min-le-left, mul-zero, mul-suc, mul-comm, zero-mul, div-div-eq-div-mul, zero-add, zero-div, zero-mod, div-one, mod-one, add-mul-mod-self-left, add-mul-div-left, div-eq-of-lt, add-comm}
 use mathlib.Core.Path.{_≡_, refl, sym, ap, _∙_}
 use native.Mathlib.Decide.{decLt}
 use mathlib.Core.Logic.{_↔_, ⊎-elim, by-cases}
-use mathlib.Core.Bool.{true}
+use mathlib.Core.Bool.{true, false}
 use mathlib.Core.List.{List, [], _∷_, _++_, map, map-append}
 use lib.Dec.{ltb}
 use lib.ListN.{length, getD, take, drop, length-map, length-take, length-drop, drop-of-length-le, List·getD-eq-default}
@@ -16,7 +16,8 @@ use lib.Pow.{pow-pos, pow-mono, pow-add, mod-pow-add}
 use borrow.Author.Tests.{ltb-true, lt-ltb}
 use Rattle.meaning.specs.Lists.{all, from, upto}
 use Rattle.meaning.specs.Sketch.{inRange, perByte, packedLength, packByte, packBytes, pack, group, symbolsAt, packable, allPackable, unpack}
-use Rattle.sketch_laws.proofs.Lists.{and-intro, and-first, and-second, length-upto, upto-suc, upto-at, all-upto, upto-all}
+use Rattle.sketch_laws.specs.Packed.{symbolsOf}
+use Rattle.sketch_laws.proofs.Lists.{not-so, and-intro, and-first, and-second, length-upto, upto-suc, upto-at, all-upto, upto-all}
 
 -- ---- symbols in range
 module _ (b : ℕ) where
@@ -39,6 +40,12 @@ module _ (b : ℕ) where
 
   pub range-drop : (n : ℕ) (xs : List ℕ) → inRange b xs ≡ true → inRange b (drop n xs) ≡ true
   range-drop n xs r = range-of (drop n xs) (λ i l. rw (getD-drop n xs i 0) (range-at xs r (n + i)))
+
+  pub range-symbols : (k : ℕ) (xs : List ℕ) → inRange b xs ≡ true → inRange b (symbolsOf b k xs) ≡ true
+  range-symbols k xs r = range-take (perByte b) (drop (k * perByte b) xs) (range-drop (k * perByte b) xs r)
+
+  pub range-not : (xs : List ℕ) (i : ℕ) → 2 ^ b ≤ getD xs i 0 → inRange b xs ≡ false
+  range-not xs i h = not-so (inRange b xs) (λ r. not-le-of-lt (range-at xs r i) h)
 
 -- ---- one byte
 module _ (b : ℕ) where
@@ -116,7 +123,7 @@ module _ (b : ℕ) where
   unfolding pack
   pack-length xs = packs-length (packedLength b (length xs)) xs
 
-  packs-at : (n k : ℕ) (xs : List ℕ) → k < n → getD (packBytes b n xs) k 0 ≡ packByte b (take (perByte b) (drop (k * perByte b) xs))
+  packs-at : (n k : ℕ) (xs : List ℕ) → k < n → getD (packBytes b n xs) k 0 ≡ packByte b (symbolsOf b k xs)
   unfolding packBytes
   packs-at zero k xs h = absurd (not-suc-le-zero h)
   packs-at (suc n) zero xs h = rw (zero-mul (perByte b))
@@ -124,7 +131,7 @@ module _ (b : ℕ) where
       let e : perByte b + k * perByte b ≡ suc k * perByte b = omega arith in
       packs-at n k (drop (perByte b) xs) (omega arith) ∙ rw (drop-drop (k * perByte b) (perByte b) xs, e)
 
-  past-none : (n k : ℕ) (xs : List ℕ) → length xs ≡ n → packedLength b n ≤ k → take (perByte b) (drop (k * perByte b) xs) ≡ []
+  past-none : (n k : ℕ) (xs : List ℕ) → length xs ≡ n → packedLength b n ≤ k → symbolsOf b k xs ≡ []
   past-none n k xs e h = ⊎-elim
       (λ z. ap (λ (i : ℕ). take i (drop (k * perByte b) xs)) z)
       (λ z.
@@ -133,7 +140,7 @@ module _ (b : ℕ) where
       (eq-zero-or-pos (perByte b))
 
   -- byte k has the symbols from k × z on; past the end there are none
-  pub pack-at : (xs : List ℕ) (k : ℕ) → getD (pack b xs) k 0 ≡ packByte b (take (perByte b) (drop (k * perByte b) xs))
+  pub pack-at : (xs : List ℕ) (k : ℕ) → getD (pack b xs) k 0 ≡ packByte b (symbolsOf b k xs)
   unfolding pack packByte
   pack-at xs k =
       by-cases (decLt k (packedLength b (length xs)))
@@ -142,14 +149,14 @@ module _ (b : ℕ) where
       let past : packedLength b (length xs) ≤ k = omega arith in
       List·getD-eq-default (pack b xs) 0 (omega (arith, pack-length xs)) ∙ rw (past-none (length xs) k xs refl past))
 
-  pub symbols-length : (xs : List ℕ) (k : ℕ) → length (take (perByte b) (drop (k * perByte b) xs)) ≡ symbolsAt b (length xs) k
+  pub symbols-length : (xs : List ℕ) (k : ℕ) → length (symbolsOf b k xs) ≡ symbolsAt b (length xs) k
   unfolding symbolsAt
   symbols-length xs k = rw (length-take (perByte b) (drop (k * perByte b) xs), length-drop (k * perByte b) xs)
 
   pub pack-lt : (xs : List ℕ) → inRange b xs ≡ true → (k : ℕ) → getD (pack b xs) k 0 < 2 ^ (b * symbolsAt b (length xs) k)
   pack-lt xs r k =
       rw (pack-at xs k, ← symbols-length xs k)
-      (byte-lt b (take (perByte b) (drop (k * perByte b) xs)) (range-take b (perByte b) (drop (k * perByte b) xs) (range-drop b (k * perByte b) xs r)))
+      (byte-lt b (symbolsOf b k xs) (range-symbols b k xs r))
 
   pub pack-packable : (xs : List ℕ) → inRange b xs ≡ true → allPackable b (length xs) (pack b xs) ≡ true
   unfolding allPackable packable
@@ -191,11 +198,11 @@ module _ (b : ℕ) where
 
   -- the symbols that byte k gives
   unpack-part : (n : ℕ) (bs : List ℕ) (k : ℕ)
-      → take (perByte b) (drop (k * perByte b) (unpack b n bs)) ≡ map (group b (getD bs k 0)) (upto (symbolsAt b n k))
+      → symbolsOf b k (unpack b n bs) ≡ map (group b (getD bs k 0)) (upto (symbolsAt b n k))
   unfolding symbolsAt
   unpack-part n bs k =
       let s : ℕ = symbolsAt b n k in
-      let part : List ℕ = take (perByte b) (drop (k * perByte b) (unpack b n bs)) in
+      let part : List ℕ = symbolsOf b k (unpack b n bs) in
       let long : length part ≡ s = symbols-length b (unpack b n bs) k ∙ ap (λ (i : ℕ). symbolsAt b i k) (unpack-length n bs) in
       ext-getD 0 part (map (group b (getD bs k 0)) (upto s))
       (long ∙ sym (length-map (upto s) (group b (getD bs k 0)) ∙ length-upto s))
@@ -225,10 +232,9 @@ module _ (b : ℕ) where
       let z : ℕ = perByte b in
       ext-getD 0 (unpack b (length xs) (pack b xs)) xs (unpack-length (length xs) (pack b xs))
       (λ i l.
-      let part : List ℕ = take z (drop (i / z * z) xs) in
       unpack-at (length xs) (pack b xs) i (omega (arith, unpack-length (length xs) (pack b xs)))
       ∙ ap (λ (v : ℕ). group b v (i % z)) (pack-at b xs (i / z))
-      ∙ group-byte b part (range-take b z (drop (i / z * z) xs) (range-drop b (i / z * z) xs r)) (i % z)
+      ∙ group-byte b (symbolsOf b (i / z) xs) (range-symbols b (i / z) xs r) (i % z)
       ∙ getD-take z (drop (i / z * z) xs) (i % z) 0 (mod-lt i (per-byte-pos b lo hi))
       ∙ getD-drop (i / z * z) xs (i % z) 0
       ∙ ap (λ (j : ℕ). getD xs j 0) (div-add-mod' i z))

@@ -1,11 +1,20 @@
--- The distance of two packings, byte by byte.
-use Prim.Native.Nat.{ℕ, _+_}
+-- What the laws of packings speak of beside crate meaning's definitions.
+use Prim.Native.Nat.{ℕ, _+_, _*_}
 use mathlib.Core.List.{List, [], _∷_}
 use lib.Bits.{bitXor}
-use Rattle.meaning.specs.Sketch.{byteDistance}
+use lib.ListN.{take, drop}
+use Rattle.meaning.specs.Sketch.{perByte, byteDistance}
 
--- the sum of the distances of their bytes
+-- the symbols that byte k of a packing has
+abbrev pub symbolsOf : ℕ → ℕ → List ℕ → List ℕ
+symbolsOf b k xs = take (perByte b) (drop (k * perByte b) xs)
+
+-- the sum of f over the pairs that stand at equal places of two lists
+unfoldable pub sumPairs : (ℕ → ℕ → ℕ) → List ℕ → List ℕ → ℕ
+sumPairs f [] ys = 0
+sumPairs f (x ∷ xs) [] = 0
+sumPairs f (x ∷ xs) (y ∷ ys) = f x y + sumPairs f xs ys
+
+-- the distance of two packings: the sum of the distances of their bytes
 unfoldable pub packedDistance : ℕ → List ℕ → List ℕ → ℕ
-packedDistance b [] ws = 0
-packedDistance b (v ∷ vs) [] = 0
-packedDistance b (v ∷ vs) (w ∷ ws) = byteDistance b (bitXor v w) + packedDistance b vs ws
+packedDistance b vs ws = sumPairs (λ v w. byteDistance b (bitXor v w)) vs ws
