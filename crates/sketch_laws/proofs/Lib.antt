@@ -3,3 +3,5 @@ pub mod Packing
 pub mod Pairs
 pub mod Distance
 pub mod ByteDistance
+pub mod Prefix
+pub mod Blocks

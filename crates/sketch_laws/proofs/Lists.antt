@@ -1,7 +1,8 @@
 -- Laws of the list functions of crate meaning: all, any, count, upto, sum.
 use Prim.Native.Nat.{ℕ, zero, suc, _+_, _≤_, _<_}
 use native.Mathlib.Omega.{arith}
-use native.Mathlib.Nat.{not-suc-le-zero, le-of-suc-le-suc, eq-or-lt-of-le}
+use native.Mathlib.Decide.{le-ind}
+use native.Mathlib.Nat.{le-refl, not-suc-le-zero, le-of-suc-le-suc, eq-or-lt-of-le}
 use mathlib.Core.Path.{_≡_, refl, sym, ap, ap₂, _∙_}
 use mathlib.Core.Logic.{_⊎_, inl, inr, ⊎-elim}
 use mathlib.Core.Bool.{Bool, true, false, cond, _&&_, _||_, and-true, and-assoc, or-assoc, false≢true}
@@ -127,6 +128,9 @@ module _ (p : ℕ → Bool) where
 
   pub upto-not : (n i : ℕ) → i < n → p i ≡ false → all p (upto n) ≡ false
   upto-not n i h e = not-so (all p (upto n)) (λ a. false≢true (sym e ∙ upto-all n a i h))
+
+  pub count-upto-le : (i n : ℕ) → i ≤ n → count p (upto i) ≤ count p (upto n)
+  count-upto-le i n h = le-ind (λ (m : ℕ). count p (upto i) ≤ count p (upto m)) (le-refl (count p (upto i))) (λ m l r. omega (arith, count-suc m)) n h
 
   pub count-none : (n : ℕ) → ((i : ℕ) → i < n → p i ≡ false) → count p (upto n) ≡ 0
   unfolding count upto from
