@@ -38,11 +38,12 @@ module _ (m q : ℕ) where
   unfolding blockStart
   block-last h = omega (arith, div-add-mod' m q, mod-lt m h)
 
+  pub block-rises : (i j : ℕ) → i ≤ j → blockStart m q i ≤ blockStart m q j
+  block-rises i j h =
+      le-ind (λ (k : ℕ). blockStart m q i ≤ blockStart m q k) (le-refl (blockStart m q i)) (λ k l r. omega (arith, block-next k)) j h
+
   pub block-end : (j : ℕ) → j < q → blockStart m q j + blockLength m q j ≤ m
-  block-end j h =
-      let rises : blockStart m q (suc j) ≤ blockStart m q q =
-      le-ind (λ (k : ℕ). blockStart m q (suc j) ≤ blockStart m q k) (le-refl (blockStart m q (suc j))) (λ k l r. omega (arith, block-next k)) q h in
-      omega (arith, block-next j, block-last (omega arith))
+  block-end j h = omega (arith, block-next j, block-rises (suc j) q h, block-last (omega arith))
 
   pub block-pos : (j : ℕ) → 0 < q → q ≤ m → 0 < blockLength m q j
   unfolding blockLength
@@ -107,5 +108,5 @@ near-packed b m q r xs ys lo hi h e f x y l =
     let same : length (block m q j xs) ≡ length (block m q j ys) = block-length m q j xs (near .1) e ∙ sym (block-length m q j ys (near .1) f) in (
       j,
       near .1,
-      omega (arith, distance-packed b lo hi (block m q j xs) (block m q j ys) same (block-range m q b j xs x) (block-range m q b j ys y)),
+      omega (arith, distance-packed b (block m q j xs) (block m q j ys) lo hi same (block-range m q b j xs x) (block-range m q b j ys y)),
     )

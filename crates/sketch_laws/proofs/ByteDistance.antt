@@ -79,7 +79,7 @@ byte-distance-symbols b cs ds e h r s =
     (λ i. not (eqb (group b (packByte b cs) i) (group b (packByte b ds) i)))
     (λ i. not (eqb (getD cs i 0) (getD ds i 0)))
     (perByte b)
-    (λ i l. rw (group-byte b cs r i, group-byte b ds s i))
+    (λ i l. rw (group-byte b cs i r, group-byte b ds i s))
     ∙ count-other (perByte b) cs ds e h
 
 -- ---- all bytes
@@ -99,10 +99,10 @@ packs-distance b (suc n) xs ys e h r s =
     ∙ sym (distance-split z xs ys)
 
 -- the distance of two sketches is that of their packings
-pub distance-packed : (b : ℕ) → 0 < b → b ≤ 8 → (xs ys : List ℕ) → length xs ≡ length ys → inRange b xs ≡ true → inRange b ys ≡ true
+pub distance-packed : (b : ℕ) (xs ys : List ℕ) → 0 < b → b ≤ 8 → length xs ≡ length ys → inRange b xs ≡ true → inRange b ys ≡ true
     → distance xs ys ≡ packedDistance b (pack b xs) (pack b ys)
 unfolding pack
-distance-packed b lo hi xs ys e r s =
+distance-packed b xs ys lo hi e r s =
     let n : ℕ = packedLength b (length xs) in
     sym (packs-distance b n xs ys e (packed-covers b (per-byte-pos b lo hi) (length xs)) r s)
     ∙ ap (λ (m : ℕ). packedDistance b (packBytes b n xs) (packBytes b (packedLength b m) ys)) e

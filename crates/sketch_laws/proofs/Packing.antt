@@ -21,11 +21,11 @@ use Rattle.sketch_laws.proofs.Lists.{not-so, and-intro, and-first, and-
 
 -- ---- symbols in range
 module _ (b : ℕ) where
-  pub range-at : (xs : List ℕ) → inRange b xs ≡ true → (i : ℕ) → getD xs i 0 < 2 ^ b
+  pub range-at : (xs : List ℕ) (i : ℕ) → inRange b xs ≡ true → getD xs i 0 < 2 ^ b
   unfolding inRange all
-  range-at [] r i = pow-pos b
-  range-at (x ∷ xs) r zero = ltb-true x (2 ^ b) (and-first (ltb x (2 ^ b)) (inRange b xs) r)
-  range-at (x ∷ xs) r (suc i) = range-at xs (and-second (ltb x (2 ^ b)) (inRange b xs) r) i
+  range-at [] i r = pow-pos b
+  range-at (x ∷ xs) zero r = ltb-true x (2 ^ b) (and-first (ltb x (2 ^ b)) (inRange b xs) r)
+  range-at (x ∷ xs) (suc i) r = range-at xs i (and-second (ltb x (2 ^ b)) (inRange b xs) r)
 
   pub range-of : (xs : List ℕ) → ((i : ℕ) → i < length xs → getD xs i 0 < 2 ^ b) → inRange b xs ≡ true
   unfolding inRange all
@@ -36,16 +36,16 @@ module _ (b : ℕ) where
   pub range-take : (n : ℕ) (xs : List ℕ) → inRange b xs ≡ true → inRange b (take n xs) ≡ true
   range-take n xs r =
       range-of (take n xs)
-      (λ i l. rw (getD-take n xs i 0 (omega (arith, length-take n xs))) (range-at xs r i))
+      (λ i l. rw (getD-take n xs i 0 (omega (arith, length-take n xs))) (range-at xs i r))
 
   pub range-drop : (n : ℕ) (xs : List ℕ) → inRange b xs ≡ true → inRange b (drop n xs) ≡ true
-  range-drop n xs r = range-of (drop n xs) (λ i l. rw (getD-drop n xs i 0) (range-at xs r (n + i)))
+  range-drop n xs r = range-of (drop n xs) (λ i l. rw (getD-drop n xs i 0) (range-at xs (n + i) r))
 
   pub range-symbols : (k : ℕ) (xs : List ℕ) → inRange b xs ≡ true → inRange b (symbolsOf b k xs) ≡ true
   range-symbols k xs r = range-take (perByte b) (drop (k * perByte b) xs) (range-drop (k * perByte b) xs r)
 
   pub range-not : (xs : List ℕ) (i : ℕ) → 2 ^ b ≤ getD xs i 0 → inRange b xs ≡ false
-  range-not xs i h = not-so (inRange b xs) (λ r. not-le-of-lt (range-at xs r i) h)
+  range-not xs i h = not-so (inRange b xs) (λ r. not-le-of-lt (range-at xs i r) h)
 
 -- ---- one byte
 module _ (b : ℕ) where
@@ -62,7 +62,7 @@ module _ (b : ℕ) where
   unfolding packByte inRange all
   byte-lt [] r = pow-pos (b * 0)
   byte-lt (c ∷ cs) r =
-      let h : c < 2 ^ b = range-at b (c ∷ cs) r 0 in
+      let h : c < 2 ^ b = range-at b (c ∷ cs) 0 r in
       let l : packByte b cs < 2 ^ (b * length cs) = byte-lt cs (and-second (ltb c (2 ^ b)) (inRange b cs) r) in
       omega (arith, width-suc (length cs), mul-le-mul-left (2 ^ b) l)
 
@@ -72,14 +72,14 @@ module _ (b : ℕ) where
       rw (width-suc i, mul-comm (2 ^ (b * i)) (2 ^ b), ← div-div-eq-div-mul (c + 2 ^ b * v) (2 ^ b) (2 ^ (b * i)), add-mul-div-left c v (pow-pos b), div-eq-of-lt h, zero-add v)
 
   -- the symbols of a byte are its groups
-  pub group-byte : (cs : List ℕ) → inRange b cs ≡ true → (i : ℕ) → group b (packByte b cs) i ≡ getD cs i 0
+  pub group-byte : (cs : List ℕ) (i : ℕ) → inRange b cs ≡ true → group b (packByte b cs) i ≡ getD cs i 0
   unfolding group packByte inRange all
-  group-byte [] r i = rw (zero-div (2 ^ (b * i)), zero-mod (2 ^ b))
-  group-byte (c ∷ cs) r zero =
+  group-byte [] i r = rw (zero-div (2 ^ (b * i)), zero-mod (2 ^ b))
+  group-byte (c ∷ cs) zero r =
       rw (mul-zero b, div-one (c + 2 ^ b * packByte b cs), add-mul-mod-self-left c (2 ^ b) (packByte b cs))
-      (mod-eq-of-lt (range-at b (c ∷ cs) r 0))
-  group-byte (c ∷ cs) r (suc i) =
-      group-tail c (packByte b cs) i (range-at b (c ∷ cs) r 0) ∙ group-byte cs (and-second (ltb c (2 ^ b)) (inRange b cs) r) i
+      (mod-eq-of-lt (range-at b (c ∷ cs) 0 r))
+  group-byte (c ∷ cs) (suc i) r =
+      group-tail c (packByte b cs) i (range-at b (c ∷ cs) 0 r) ∙ group-byte cs i (and-second (ltb c (2 ^ b)) (inRange b cs) r)
 
   -- the s lowest groups of a byte make up its b × s lowest bits
   pub byte-groups : (v s : ℕ) → packByte b (map (group b v) (upto s)) ≡ v % 2 ^ (b * s)
@@ -153,8 +153,8 @@ module _ (b : ℕ) where
   unfolding symbolsAt
   symbols-length xs k = rw (length-take (perByte b) (drop (k * perByte b) xs), length-drop (k * perByte b) xs)
 
-  pub pack-lt : (xs : List ℕ) → inRange b xs ≡ true → (k : ℕ) → getD (pack b xs) k 0 < 2 ^ (b * symbolsAt b (length xs) k)
-  pack-lt xs r k =
+  pub pack-lt : (xs : List ℕ) (k : ℕ) → inRange b xs ≡ true → getD (pack b xs) k 0 < 2 ^ (b * symbolsAt b (length xs) k)
+  pack-lt xs k r =
       rw (pack-at xs k, ← symbols-length xs k)
       (byte-lt b (symbolsOf b k xs) (range-symbols b k xs r))
 
@@ -162,7 +162,7 @@ module _ (b : ℕ) where
   unfolding allPackable packable
   pack-packable xs r =
       all-upto (λ k. packable b (length xs) k (getD (pack b xs) k 0)) (packedLength b (length xs))
-      (λ k l. lt-ltb (getD (pack b xs) k 0) (2 ^ (b * symbolsAt b (length xs) k)) (pack-lt xs r k))
+      (λ k l. lt-ltb (getD (pack b xs) k 0) (2 ^ (b * symbolsAt b (length xs) k)) (pack-lt xs k r))
 
   -- the bits of the symbols of byte k are in one byte
   pub symbols-fit : (n k : ℕ) → 2 ^ (b * symbolsAt b n k) ≤ 256
@@ -175,8 +175,8 @@ module _ (b : ℕ) where
   unfolding packable
   packable-byte n k v h = lt-of-lt-of-le (ltb-true v (2 ^ (b * symbolsAt b n k)) h) (symbols-fit n k)
 
-  pub pack-byte : (xs : List ℕ) → inRange b xs ≡ true → (k : ℕ) → getD (pack b xs) k 0 < 256
-  pack-byte xs r k = lt-of-lt-of-le (pack-lt xs r k) (symbols-fit (length xs) k)
+  pub pack-byte : (xs : List ℕ) (k : ℕ) → inRange b xs ≡ true → getD (pack b xs) k 0 < 256
+  pack-byte xs k r = lt-of-lt-of-le (pack-lt xs k r) (symbols-fit (length xs) k)
 
 -- ---- bytes to symbols
 module _ (b : ℕ) where
@@ -227,14 +227,14 @@ module _ (b : ℕ) where
       (ltb-true (getD bs k 0) (2 ^ (b * symbolsAt b n k))
       (upto-all (λ k. packable b n k (getD bs k 0)) (packedLength b n) h k (omega arith))))
 
-  pub unpack-pack : 0 < b → b ≤ 8 → (xs : List ℕ) → inRange b xs ≡ true → unpack b (length xs) (pack b xs) ≡ xs
-  unpack-pack lo hi xs r =
+  pub unpack-pack : (xs : List ℕ) → 0 < b → b ≤ 8 → inRange b xs ≡ true → unpack b (length xs) (pack b xs) ≡ xs
+  unpack-pack xs lo hi r =
       let z : ℕ = perByte b in
       ext-getD 0 (unpack b (length xs) (pack b xs)) xs (unpack-length (length xs) (pack b xs))
       (λ i l.
       unpack-at (length xs) (pack b xs) i (omega (arith, unpack-length (length xs) (pack b xs)))
       ∙ ap (λ (v : ℕ). group b v (i % z)) (pack-at b xs (i / z))
-      ∙ group-byte b (symbolsOf b (i / z) xs) (range-symbols b (i / z) xs r) (i % z)
+      ∙ group-byte b (symbolsOf b (i / z) xs) (i % z) (range-symbols b (i / z) xs r)
       ∙ getD-take z (drop (i / z * z) xs) (i % z) 0 (mod-lt i (per-byte-pos b lo hi))
       ∙ getD-drop (i / z * z) xs (i % z) 0
       ∙ ap (λ (j : ℕ). getD xs j 0) (div-add-mod' i z))
