@@ -5,3 +5,4 @@ pub mod Distance
 pub mod ByteDistance
 pub mod Prefix
 pub mod Blocks
+pub mod Walk

@@ -5,6 +5,7 @@ use native.Mathlib.Nat.{not-suc-le-zero}
 use mathlib.Core.Path.{_≡_, refl, ap₂}
 use mathlib.Core.List.{List, [], _∷_, _++_}
 use lib.ListN.{length, getD, take, drop}
+use lib.Seq.{drop-cons}
 use Rattle.sketch_laws.specs.Packed.{sumPairs}
 
 module _ (f : ℕ → ℕ → ℕ) where
@@ -37,6 +38,11 @@ module _ (f : ℕ → ℕ → ℕ) where
   pairs-suc n (x ∷ xs) [] h k = absurd (not-suc-le-zero k)
   pairs-suc zero (x ∷ xs) (y ∷ ys) h k = omega arith
   pairs-suc (suc n) (x ∷ xs) (y ∷ ys) h k = omega (arith, pairs-suc n xs ys (omega arith) (omega arith))
+
+  pub pairs-drop : (n : ℕ) (xs ys : List ℕ) → n < length xs → n < length ys
+      → sumPairs f (drop n xs) (drop n ys) ≡ f (getD xs n 0) (getD ys n 0) + sumPairs f (drop (suc n) xs) (drop (suc n) ys)
+  unfolding sumPairs
+  pairs-drop n xs ys h k = rw (drop-cons xs n 0 h, drop-cons ys n 0 k)
 
   pub pairs-comm : ((x y : ℕ) → f x y ≡ f y x) → (xs ys : List ℕ) → sumPairs f xs ys ≡ sumPairs f ys xs
   unfolding sumPairs

@@ -11,7 +11,7 @@ use Rattle.meaning.specs.Lists.{count, upto}
 use Rattle.meaning.specs.Sketch.{perByte, group, byteDistance}
 use Rattle.sketch_laws.specs.Packed.{packedDistance}
 use Rattle.sketch_laws.proofs.Lists.{count-upto-le}
-use Rattle.sketch_laws.proofs.Pairs.{pairs-split, pairs-take, pairs-suc, pairs-comm, pairs-self, pairs-le}
+use Rattle.sketch_laws.proofs.Pairs.{pairs-split, pairs-take, pairs-suc, pairs-drop, pairs-comm, pairs-self, pairs-le}
 use Rattle.sketch_laws.proofs.ByteDistance.{byte-distance-le, byte-distance-zero}
 
 module _ (b : ℕ) where
@@ -44,6 +44,12 @@ module _ (b : ℕ) where
       → packedDistance b (take (suc n) vs) (take (suc n) ws) ≡ packedDistance b (take n vs) (take n ws) + byteDistance b (bitXor (getD vs n 0) (getD ws n 0))
   unfolding packedDistance
   packed-suc n vs ws h k = pairs-suc bytes n vs ws h k
+
+  -- from byte n on
+  pub packed-drop : (n : ℕ) (vs ws : List ℕ) → n < length vs → n < length ws
+      → packedDistance b (drop n vs) (drop n ws) ≡ byteDistance b (bitXor (getD vs n 0) (getD ws n 0)) + packedDistance b (drop (suc n) vs) (drop (suc n) ws)
+  unfolding packedDistance
+  packed-drop n vs ws h k = pairs-drop bytes n vs ws h k
 
   -- n bytes and i groups of the next one
   pub packed-part : (n i : ℕ) (vs ws : List ℕ) → n < length vs → n < length ws → i ≤ perByte b
