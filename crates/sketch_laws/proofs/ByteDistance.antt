@@ -12,8 +12,8 @@ use lib.ListN.{length, getD, take, drop, length-take, length-drop}
 use borrow.Author.Tests.{eqb-true, eqb-false, eq-eqb, ne-eqb}
 use Rattle.meaning.specs.Lists.{count, from, upto}
 use Rattle.meaning.specs.Sketch.{distance, inRange, perByte, packedLength, packByte, packBytes, pack, group, byteDistance}
-use Rattle.sketch_laws.specs.Packed.{sumPairs, packedDistance}
-use Rattle.sketch_laws.proofs.Lists.{count-same, count-none, count-le, length-upto}
+use Rattle.sketch_laws.specs.Packed.{groupDistance, sumPairs, packedDistance}
+use Rattle.sketch_laws.proofs.Lists.{count-suc, count-upto-le, count-same, count-none, count-le, length-upto}
 use Rattle.sketch_laws.proofs.Packing.{range-take, range-drop, group-byte, per-byte-pos, packed-covers}
 use Rattle.sketch_laws.proofs.Distance.{distance-le, distance-split}
 
@@ -35,11 +35,34 @@ xor-eqb x y = go (eqb x y) refl
     go false e = ne-eqb (bitXor x y) 0 (λ q. eqb-false x y e (xor-zero x y q))
 
 -- ---- one byte
+cond-not : (t : Bool) → _≡_ {A = ℕ} (cond (not t) 1 0) (cond t 0 1)
+cond-not true = refl
+cond-not false = refl
+
 pub byte-distance : (b v w : ℕ) → byteDistance b (bitXor v w) ≡ count (λ i. not (eqb (group b v i) (group b w i))) (upto (perByte b))
 unfolding byteDistance
 byte-distance b v w =
     count-same (λ i. not (eqb (group b (bitXor v w) i) 0)) (λ i. not (eqb (group b v i) (group b w i))) (perByte b)
     (λ i l. rw (xor-group b v w i, xor-eqb (group b v i) (group b w i)))
+
+pub group-distance-all : (b v : ℕ) → groupDistance b v (perByte b) ≡ byteDistance b v
+unfolding groupDistance byteDistance
+group-distance-all b v = refl
+
+pub group-distance-none : (b v : ℕ) → groupDistance b v 0 ≡ 0
+unfolding groupDistance count upto from
+group-distance-none b v = refl
+
+-- one group more
+pub group-distance-suc : (b v i : ℕ) → groupDistance b v (suc i) ≡ groupDistance b v i + cond (eqb (group b v i) 0) 0 1
+unfolding groupDistance
+group-distance-suc b v i =
+    count-suc (λ j. not (eqb (group b v j) 0)) i
+    ∙ ap (λ (n : ℕ). count (λ j. not (eqb (group b v j) 0)) (upto i) + n) (cond-not (eqb (group b v i) 0))
+
+pub group-distance-le : (b v i : ℕ) → i ≤ perByte b → groupDistance b v i ≤ byteDistance b v
+unfolding groupDistance byteDistance
+group-distance-le b v i h = count-upto-le (λ j. not (eqb (group b v j) 0)) i (perByte b) h
 
 pub byte-distance-le : (b v : ℕ) → byteDistance b v ≤ perByte b
 unfolding byteDistance
@@ -53,10 +76,6 @@ count-shift : (p : ℕ → Bool) (k n : ℕ) → count p (from (suc k) n) ≡ co
 unfolding count from
 count-shift p k zero = refl
 count-shift p k (suc n) = ap (λ (c : ℕ). cond (p (suc k)) 1 0 + c) (count-shift p (suc k) n)
-
-cond-not : (t : Bool) → _≡_ {A = ℕ} (cond (not t) 1 0) (cond t 0 1)
-cond-not true = refl
-cond-not false = refl
 
 -- the places where two lists differ, counted; past their ends they do not
 count-other : (n : ℕ) (cs ds : List ℕ) → length cs ≡ length ds → length cs ≤ n

@@ -7,7 +7,9 @@ use mathlib.Core.Path.{_≡_, refl, sym, ap, ap₂, _∙_}
 use mathlib.Core.Logic.{_⊎_, inl, inr, ⊎-elim}
 use mathlib.Core.Bool.{Bool, true, false, cond, _&&_, _||_, and-true, and-assoc, or-assoc, false≢true}
 use mathlib.Core.List.{List, [], _∷_, _++_, map, map-append}
+use lib.Dec.{eqb}
 use lib.ListN.{length, getD}
+use borrow.Author.Tests.{eqb-true, eq-eqb}
 use Rattle.meaning.specs.Lists.{all, any, count, from, upto, sum}
 
 pub not-so : (t : Bool) → (t ≡ true → ⊥) → t ≡ false
@@ -64,6 +66,46 @@ module _ {A : Type 0} (p : A → Bool) where
       go : (t : Bool) → count p xs ≤ length xs → cond t 1 0 + count p xs ≤ suc (length xs)
       go true h = omega arith
       go false h = omega arith
+
+-- ---- a number in a list
+module _ (p : ℕ) where
+  pub in-first : (us vs : List ℕ) → any (eqb p) us ≡ true → any (eqb p) (us ++ vs) ≡ true
+  in-first us vs h = any-append (eqb p) us vs ∙ or-first (any (eqb p) us) (any (eqb p) vs) h
+
+  pub in-second : (us vs : List ℕ) → any (eqb p) vs ≡ true → any (eqb p) (us ++ vs) ≡ true
+  in-second us vs h = any-append (eqb p) us vs ∙ or-second (any (eqb p) us) (any (eqb p) vs) h
+
+  pub in-either : (us vs : List ℕ) → any (eqb p) (us ++ vs) ≡ true → (any (eqb p) us ≡ true) ⊎ (any (eqb p) vs ≡ true)
+  in-either us vs h = or-cases (any (eqb p) us) (any (eqb p) vs) (sym (any-append (eqb p) us vs) ∙ h)
+
+  -- two lists to two others
+  pub in-both : (us vs xs ys : List ℕ) → (any (eqb p) us ≡ true → any (eqb p) xs ≡ true) → (any (eqb p) vs ≡ true → any (eqb p) ys ≡ true)
+      → any (eqb p) (us ++ vs) ≡ true → any (eqb p) (xs ++ ys) ≡ true
+  in-both us vs xs ys f g h = ⊎-elim (λ i. in-first xs ys (f i)) (λ i. in-second xs ys (g i)) (in-either us vs h)
+
+  -- a list that a test takes or leaves
+  pub in-cond : (t : Bool) (us : List ℕ) → any (eqb p) (cond t us []) ≡ true → any (eqb p) us ≡ true
+  unfolding any
+  in-cond true us h = h
+  in-cond false us h = absurd (false≢true h)
+
+-- a test passes on a list where it passes on each number in it
+pub all-in : (t : ℕ → Bool) (p : ℕ) (us : List ℕ) → all t us ≡ true → any (eqb p) us ≡ true → t p ≡ true
+unfolding all any
+all-in t p [] a h = absurd (false≢true h)
+all-in t p (u ∷ us) a h =
+    ⊎-elim
+    (λ e. ap t (eqb-true p u e) ∙ and-first (t u) (all t us) a)
+    (all-in t p us (and-second (t u) (all t us) a))
+    (or-cases (eqb p u) (any (eqb p) us) h)
+
+pub in-all : (t : ℕ → Bool) (us : List ℕ) → ((p : ℕ) → any (eqb p) us ≡ true → t p ≡ true) → all t us ≡ true
+unfolding all any
+in-all t [] h = refl
+in-all t (u ∷ us) h =
+    and-intro (t u) (all t us)
+    (h u (or-first (eqb u u) (any (eqb u) us) (eq-eqb u u refl)))
+    (in-all t us (λ p i. h p (or-second (eqb p u) (any (eqb p) us) i)))
 
 pub sum-append : (xs ys : List ℕ) → sum (xs ++ ys) ≡ sum xs + sum ys
 unfolding sum

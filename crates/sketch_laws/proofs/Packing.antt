@@ -2,15 +2,15 @@
 -- Each law is over the bits a symbol, b.
 use Prim.Native.Nat.{ℕ, zero, suc, _+_, _*_, _-_, _/_, _%_, _^_, _≤_, _<_}
 use native.Mathlib.Omega.{arith}
-use native.Mathlib.Nat.{not-suc-le-zero, not-le-of-lt, lt-of-lt-of-le, eq-zero-or-pos, le-div-iff-mul-le, div-mul-le-self, div-add-mod', mod-lt, mod-eq-of-lt, mul-le-mul-left, mul-le-mul-right, min-le-left, mul-zero, mul-suc, mul-comm, zero-mul, div-div-eq-div-mul, zero-add, zero-div, zero-mod, div-one, mod-one, add-mul-mod-self-left, add-mul-div-left, div-eq-of-lt, add-comm}
+use native.Mathlib.Nat.{div-zero, le-mul-of-pos-right, not-suc-le-zero, not-le-of-lt, lt-of-lt-of-le, eq-zero-or-pos, le-div-iff-mul-le, div-mul-le-self, div-add-mod', mod-lt, mod-eq-of-lt, mul-le-mul-left, mul-le-mul-right, min-le-left, mul-zero, mul-suc, mul-comm, zero-mul, div-div-eq-div-mul, zero-add, zero-div, zero-mod, div-one, mod-one, add-mul-mod-self-left, add-mul-div-left, div-eq-of-lt, add-comm}
 use mathlib.Core.Path.{_≡_, refl, sym, ap, _∙_}
-use native.Mathlib.Decide.{decLt}
+use native.Mathlib.Decide.{decLe, decLt}
 use mathlib.Core.Logic.{_↔_, ⊎-elim, by-cases}
 use mathlib.Core.Bool.{true, false}
 use mathlib.Core.List.{List, [], _∷_, _++_, map, map-append}
 use lib.Dec.{ltb}
 use lib.ListN.{length, getD, take, drop, length-map, length-take, length-drop, drop-of-length-le, List·getD-eq-default}
-use lib.Seq.{take-nil, getD-take, getD-drop, drop-drop, ext-getD}
+use lib.Seq.{take-nil, take-suc, drop-cons, length-take-le, getD-take, getD-drop, drop-drop, ext-getD}
 use lib.Arith.{digits-div, digits-mod}
 use lib.Pow.{pow-pos, pow-mono, pow-add, mod-pow-add}
 use borrow.Author.Tests.{ltb-true, lt-ltb}
@@ -57,6 +57,16 @@ module _ (b : ℕ) where
   unfolding packByte
   byte-append [] ds = rw (mul-zero b) (omega arith)
   byte-append (c ∷ cs) ds = rw (byte-append cs ds, width-suc (length cs)) (omega arith)
+
+  -- one symbol more, from either end
+  pub byte-suc : (cs : List ℕ) (i : ℕ) → i < length cs → packByte b (take (suc i) cs) ≡ packByte b (take i cs) + getD cs i 0 * 2 ^ (b * i)
+  unfolding packByte
+  byte-suc cs i h =
+      ap (packByte b) (take-suc cs i 0 h) ∙ byte-append (take i cs) (getD cs i 0 ∷ []) ∙ rw (length-take-le i cs (omega arith)) (omega arith)
+
+  pub byte-drop : (cs : List ℕ) (i : ℕ) → i < length cs → packByte b (drop i cs) ≡ getD cs i 0 + 2 ^ b * packByte b (drop (suc i) cs)
+  unfolding packByte
+  byte-drop cs i h = rw (drop-cons cs i 0 h)
 
   pub byte-lt : (cs : List ℕ) → inRange b cs ≡ true → packByte b cs < 2 ^ (b * length cs)
   unfolding packByte inRange all
@@ -111,6 +121,14 @@ module _ (b : ℕ) (z : 0 < perByte b) where
   pub packed-covers : (n : ℕ) → n ≤ packedLength b n * perByte b
   unfolding packedLength
   packed-covers n = omega (arith, div-add-mod' (n + perByte b - 1) (perByte b), mod-lt (n + perByte b - 1) z)
+
+pub packed-most : (b n : ℕ) → packedLength b n ≤ n
+unfolding packedLength
+packed-most b n =
+    ⊎-elim
+    (λ z. omega (arith, ap (λ (d : ℕ). (n + d - 1) / d) z ∙ div-zero (n + 0 - 1)))
+    (λ z. by-cases (decLe (packedLength b n) n) (λ h. h) (λ h. absurd (omega (arith, byte-there b z n n .0 (omega arith), le-mul-of-pos-right n z))))
+    (eq-zero-or-pos (perByte b))
 
 -- ---- symbols to bytes
 module _ (b : ℕ) where

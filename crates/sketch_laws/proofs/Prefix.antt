@@ -2,17 +2,13 @@
 use Prim.Native.Nat.{ℕ, suc, _+_, _*_, _≤_, _<_}
 use native.Mathlib.Omega.{arith}
 use mathlib.Core.Path.{_≡_, ap, _∙_}
-use mathlib.Core.Bool.{Bool, not}
 use mathlib.Core.List.{List}
-use lib.Dec.{eqb}
 use lib.Bits.{bitXor, xor-self, xor-comm}
 use lib.ListN.{length, getD, take, drop}
-use Rattle.meaning.specs.Lists.{count, upto}
-use Rattle.meaning.specs.Sketch.{perByte, group, byteDistance}
-use Rattle.sketch_laws.specs.Packed.{packedDistance}
-use Rattle.sketch_laws.proofs.Lists.{count-upto-le}
+use Rattle.meaning.specs.Sketch.{perByte, byteDistance}
+use Rattle.sketch_laws.specs.Packed.{groupDistance, packedDistance}
 use Rattle.sketch_laws.proofs.Pairs.{pairs-split, pairs-take, pairs-suc, pairs-drop, pairs-comm, pairs-self, pairs-le}
-use Rattle.sketch_laws.proofs.ByteDistance.{byte-distance-le, byte-distance-zero}
+use Rattle.sketch_laws.proofs.ByteDistance.{group-distance-le, byte-distance-le, byte-distance-zero}
 
 module _ (b : ℕ) where
   -- the distance of two bytes
@@ -53,8 +49,6 @@ module _ (b : ℕ) where
 
   -- n bytes and i groups of the next one
   pub packed-part : (n i : ℕ) (vs ws : List ℕ) → n < length vs → n < length ws → i ≤ perByte b
-      → packedDistance b (take n vs) (take n ws) + count (λ j. not (eqb (group b (bitXor (getD vs n 0) (getD ws n 0)) j) 0)) (upto i) ≤ packedDistance b vs ws
-  unfolding byteDistance
+      → packedDistance b (take n vs) (take n ws) + groupDistance b (bitXor (getD vs n 0) (getD ws n 0)) i ≤ packedDistance b vs ws
   packed-part n i vs ws h k l =
-      let p : ℕ → Bool = λ j. not (eqb (group b (bitXor (getD vs n 0) (getD ws n 0)) j) 0) in
-      omega (arith, packed-suc n vs ws h k, packed-take (suc n) vs ws, count-upto-le p i (perByte b) l)
+      omega (arith, packed-suc n vs ws h k, packed-take (suc n) vs ws, group-distance-le b (bitXor (getD vs n 0) (getD ws n 0)) i l)

@@ -2,49 +2,21 @@
 use Prim.Native.Nat.{ℕ, suc, _+_, _-_, _/_, _≤_, _<_}
 use native.Mathlib.Omega.{arith}
 use mathlib.Core.Path.{_≡_, sym, ap, _∙_}
-use mathlib.Core.Logic.{_⊎_, ⊎-elim}
-use mathlib.Core.Bool.{Bool, true, false, cond, false≢true}
-use mathlib.Core.List.{List, [], _∷_, _++_}
+use mathlib.Core.Bool.{true, cond, false≢true}
+use mathlib.Core.List.{List, [], _∷_}
 use lib.Dec.{eqb, leb}
 use lib.Bits.{bitXor}
 use lib.ListN.{length, getD, drop}
 use lib.Seq.{drop-cons}
 use borrow.Author.Tests.{le-leb, eqb-true}
-use Rattle.meaning.specs.Lists.{all, any}
+use Rattle.meaning.specs.Lists.{any}
 use Rattle.meaning.specs.Sketch.{distance, inRange, packedLength, pack, byteDistance, blockLength, block}
 use Rattle.meaning.specs.Trie.{Tree, leaf, inner, Children, none, child, byteAt, met, metIn}
 use Rattle.sketch_laws.specs.Packed.{packedDistance}
-use Rattle.sketch_laws.specs.Paths.{pagesIn, pagesUnder, OnPath, OnPathUnder, Within, WithinUnder}
+use Rattle.sketch_laws.specs.Paths.{pagesIn, pagesUnder, OnPath, OnPathUnder, Shallow, ShallowUnder}
 use Rattle.sketch_laws.proofs.Prefix.{packed-drop}
 use Rattle.sketch_laws.proofs.Blocks.{block-packed, near-packed}
-use Rattle.sketch_laws.proofs.Lists.{and-first, and-second, or-first, or-second, or-cases, any-append}
-
--- ---- a page in one of two lists
-module _ (p : ℕ) where
-  in-first : (us vs : List ℕ) → any (eqb p) us ≡ true → any (eqb p) (us ++ vs) ≡ true
-  in-first us vs h = any-append (eqb p) us vs ∙ or-first (any (eqb p) us) (any (eqb p) vs) h
-
-  in-second : (us vs : List ℕ) → any (eqb p) vs ≡ true → any (eqb p) (us ++ vs) ≡ true
-  in-second us vs h = any-append (eqb p) us vs ∙ or-second (any (eqb p) us) (any (eqb p) vs) h
-
-  in-either : (us vs : List ℕ) → any (eqb p) (us ++ vs) ≡ true → (any (eqb p) us ≡ true) ⊎ (any (eqb p) vs ≡ true)
-  in-either us vs h = or-cases (any (eqb p) us) (any (eqb p) vs) (sym (any-append (eqb p) us vs) ∙ h)
-
-  -- a list that is taken or left
-  in-cond : (t : Bool) (us : List ℕ) → any (eqb p) (cond t us []) ≡ true → any (eqb p) us ≡ true
-  unfolding any
-  in-cond true us h = h
-  in-cond false us h = absurd (false≢true h)
-
-  -- what holds of all pages of a list holds of each
-  all-in : (f : ℕ → ℕ) (c : ℕ) (ps : List ℕ) → all (λ q. eqb (f q) c) ps ≡ true → any (eqb p) ps ≡ true → f p ≡ c
-  unfolding all any
-  all-in f c [] a h = absurd (false≢true h)
-  all-in f c (q ∷ ps) a h =
-      ⊎-elim
-      (λ e. ap f (eqb-true p q e) ∙ eqb-true (f q) c (and-first (eqb (f q) c) (all (λ q. eqb (f q) c) ps) a))
-      (all-in f c ps (and-second (eqb (f q) c) (all (λ q. eqb (f q) c) ps) a))
-      (or-cases (eqb p q) (any (eqb p) ps) h)
+use Rattle.sketch_laws.proofs.Lists.{in-both, in-cond, all-in}
 
 -- ---- what is met is in the trie
 mutual
@@ -59,22 +31,22 @@ mutual
   met-under b r p (child c t cs) [] h = absurd (false≢true h)
   met-under b r p (child c t cs) (y ∷ ys) h =
       let d : ℕ = byteDistance b (bitXor c y) in
-      ⊎-elim
-      (λ g. in-first p (pagesIn t) (pagesUnder cs) (met-in b (r - d) p t ys (in-cond p (leb d r) (met b (r - d) t ys) g)))
-      (λ g. in-second p (pagesIn t) (pagesUnder cs) (met-under b r p cs (y ∷ ys) g))
-      (in-either p (cond (leb d r) (met b (r - d) t ys) []) (metIn b r cs (y ∷ ys)) h)
+      in-both p (cond (leb d r) (met b (r - d) t ys) []) (metIn b r cs (y ∷ ys)) (pagesIn t) (pagesUnder cs)
+      (λ g. met-in b (r - d) p t ys (in-cond p (leb d r) (met b (r - d) t ys) g))
+      (met-under b r p cs (y ∷ ys))
+      h
 
 -- ---- a page that is near is met
 module _ (bytesOf : ℕ → List ℕ) where
   mutual
     unfolding met metIn pagesIn pagesUnder any byteAt
 
-    pub met-near : (b r k p : ℕ) (t : Tree) (ys : List ℕ) → OnPath bytesOf k t → Within (length ys) k t → length (bytesOf p) ≡ length ys
+    pub met-near : (b r k p : ℕ) (t : Tree) (ys : List ℕ) → OnPath bytesOf k t → Shallow (length ys) k t → length (bytesOf p) ≡ length ys
         → any (eqb p) (pagesIn t) ≡ true → packedDistance b (drop k (bytesOf p)) (drop k ys) ≤ r → any (eqb p) (met b r t (drop k ys)) ≡ true
     met-near b r k p (leaf ps) ys o w e i n = i
     met-near b r k p (inner cs) ys o w e i n = met-near-under b r k p cs ys o (w .0) (w .1) e i n
 
-    pub met-near-under : (b r k p : ℕ) (cs : Children) (ys : List ℕ) → OnPathUnder bytesOf k cs → k < length ys → WithinUnder (length ys) k cs
+    pub met-near-under : (b r k p : ℕ) (cs : Children) (ys : List ℕ) → OnPathUnder bytesOf k cs → k < length ys → ShallowUnder (length ys) k cs
         → length (bytesOf p) ≡ length ys → any (eqb p) (pagesUnder cs) ≡ true → packedDistance b (drop k (bytesOf p)) (drop k ys) ≤ r
         → any (eqb p) (metIn b r cs (drop k ys)) ≡ true
     met-near-under b r k p none ys o l w e i n = absurd (false≢true i)
@@ -82,20 +54,14 @@ module _ (bytesOf : ℕ → List ℕ) where
         let y : ℕ = getD ys k 0 in
         let d : ℕ = byteDistance b (bitXor c y) in
         let rest : List ℕ = drop (suc k) ys in
-        let here : List ℕ = cond (leb d r) (met b (r - d) t rest) [] in
-        let more : List ℕ = metIn b r cs (y ∷ rest) in
+        let here : any (eqb p) (pagesIn t) ≡ true → any (eqb p) (cond (leb d r) (met b (r - d) t rest) []) ≡ true = λ g.
+        let path : getD (bytesOf p) k 0 ≡ c = eqb-true (getD (bytesOf p) k 0) c (all-in (λ v. eqb (byteAt bytesOf k v) c) p (pagesIn t) (o .0) g) in
+        let near : d + packedDistance b (drop (suc k) (bytesOf p)) rest ≤ r = rw path at (rw (packed-drop b k (bytesOf p) ys (omega arith) l) at n) in
+        rw (le-leb d r (omega arith)) (met-near b (r - d) (suc k) p t ys (o .1) (w .0) e g (omega arith)) in
+        let beside : any (eqb p) (pagesUnder cs) ≡ true → any (eqb p) (metIn b r cs (y ∷ rest)) ≡ true = λ g.
+        rw (drop-cons ys k 0 l) at (met-near-under b r k p cs ys (o .2) l (w .1) e g n) in
         rw (drop-cons ys k 0 l)
-        (⊎-elim
-        (λ g.
-        let path : getD (bytesOf p) k 0 ≡ c = all-in p (byteAt bytesOf k) c (pagesIn t) (o .0) g in
-        let far : d + packedDistance b (drop (suc k) (bytesOf p)) rest ≤ r =
-        rw path at (rw (packed-drop b k (bytesOf p) ys (omega arith) l) at n) in
-        in-first p here more
-        (rw (le-leb d r (omega arith)) (met-near b (r - d) (suc k) p t ys (o .1) (w .0) e g (omega arith))))
-        (λ g.
-        in-second p here more
-        (rw (drop-cons ys k 0 l) at (met-near-under b r k p cs ys (o .2) l (w .1) e g n)))
-        (in-either p (pagesIn t) (pagesUnder cs) i))
+        (in-both p (pagesIn t) (pagesUnder cs) (cond (leb d r) (met b (r - d) t rest) []) (metIn b r cs (y ∷ rest)) here beside i)
 
 -- ---- a page within r of the query is met in some block's trie within r / q
 -- xs is the page's sketch; trie j and bytesOf j are the trie and the packed bytes of block j
@@ -103,7 +69,7 @@ pub met-somewhere : (b m q r p : ℕ) (xs ys : List ℕ) (bytesOf : ℕ → ℕ 
     → 0 < b → b ≤ 8 → 0 < q → length xs ≡ m → length ys ≡ m → inRange b xs ≡ true → inRange b ys ≡ true
     → ((j : ℕ) → j < q → bytesOf j p ≡ pack b (block m q j xs))
     → ((j : ℕ) → j < q → OnPath (bytesOf j) 0 (trie j))
-    → ((j : ℕ) → j < q → Within (packedLength b (blockLength m q j)) 0 (trie j))
+    → ((j : ℕ) → j < q → Shallow (packedLength b (blockLength m q j)) 0 (trie j))
     → ((j : ℕ) → j < q → any (eqb p) (pagesIn (trie j)) ≡ true)
     → distance xs ys ≤ r
     → (j : ℕ) × (j < q) × (any (eqb p) (met b (r / q) (trie j) (pack b (block m q j ys))) ≡ true)

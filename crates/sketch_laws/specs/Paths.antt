@@ -32,10 +32,10 @@ module _ (bytesOf : ℕ → List ℕ) where
 
 abbrev mutual
   -- inner nodes have levels below the packed length
-  pub Within : ℕ → ℕ → Tree → Type 0
-  Within len k (leaf ps) = Unit {0}
-  Within len k (inner cs) = (k < len) × WithinUnder len k cs
+  pub Shallow : ℕ → ℕ → Tree → Type 0
+  Shallow len k (leaf ps) = Unit {0}
+  Shallow len k (inner cs) = (k < len) × ShallowUnder len k cs
 
-  pub WithinUnder : ℕ → ℕ → Children → Type 0
-  WithinUnder len k none = Unit {0}
-  WithinUnder len k (child c t cs) = Within len (suc k) t × WithinUnder len k cs
+  pub ShallowUnder : ℕ → ℕ → Children → Type 0
+  ShallowUnder len k none = Unit {0}
+  ShallowUnder len k (child c t cs) = Shallow len (suc k) t × ShallowUnder len k cs
