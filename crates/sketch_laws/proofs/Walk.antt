@@ -9,7 +9,7 @@ use lib.Bits.{bitXor}
 use lib.ListN.{length, getD, drop}
 use lib.Seq.{drop-cons}
 use borrow.Author.Tests.{le-leb, eqb-true}
-use Rattle.meaning.specs.Lists.{any}
+use Rattle.meaning.specs.Lists.{all, any}
 use Rattle.meaning.specs.Sketch.{distance, inRange, packedLength, pack, byteDistance, blockLength, block}
 use Rattle.meaning.specs.Trie.{Tree, leaf, inner, Children, none, child, byteAt, met, metIn}
 use Rattle.sketch_laws.specs.Packed.{packedDistance}
@@ -38,8 +38,17 @@ mutual
 
 -- ---- a page that is near is met
 module _ (bytesOf : ℕ → List ℕ) where
+  -- a page within r from level k on, and below the child with byte c, is from the next level on within what c leaves of r
+  near-below : (b r k c p : ℕ) (us ys : List ℕ) → k < length ys → length (bytesOf p) ≡ length ys
+      → all (λ u. eqb (byteAt bytesOf k u) c) us ≡ true → any (eqb p) us ≡ true → packedDistance b (drop k (bytesOf p)) (drop k ys) ≤ r
+      → byteDistance b (bitXor c (getD ys k 0)) + packedDistance b (drop (suc k) (bytesOf p)) (drop (suc k) ys) ≤ r
+  unfolding byteAt
+  near-below b r k c p us ys l e a i n =
+      let path : getD (bytesOf p) k 0 ≡ c = eqb-true (getD (bytesOf p) k 0) c (all-in (λ u. eqb (byteAt bytesOf k u) c) p us a i) in
+      rw path at (rw (packed-drop b k (bytesOf p) ys (omega arith) l) at n)
+
   mutual
-    unfolding met metIn pagesIn pagesUnder any byteAt
+    unfolding met metIn pagesIn pagesUnder any
 
     pub met-near : (b r k p : ℕ) (t : Tree) (ys : List ℕ) → OnPath bytesOf k t → Shallow (length ys) k t → length (bytesOf p) ≡ length ys
         → any (eqb p) (pagesIn t) ≡ true → packedDistance b (drop k (bytesOf p)) (drop k ys) ≤ r → any (eqb p) (met b r t (drop k ys)) ≡ true
@@ -52,19 +61,30 @@ module _ (bytesOf : ℕ → List ℕ) where
     met-near-under b r k p none ys o l w e i n = absurd (false≢true i)
     met-near-under b r k p (child c t cs) ys o l w e i n =
         let y : ℕ = getD ys k 0 in
-        let d : ℕ = byteDistance b (bitXor c y) in
         let rest : List ℕ = drop (suc k) ys in
-        let here : any (eqb p) (pagesIn t) ≡ true → any (eqb p) (cond (leb d r) (met b (r - d) t rest) []) ≡ true = λ g.
-        let path : getD (bytesOf p) k 0 ≡ c = eqb-true (getD (bytesOf p) k 0) c (all-in (λ v. eqb (byteAt bytesOf k v) c) p (pagesIn t) (o .0) g) in
-        let near : d + packedDistance b (drop (suc k) (bytesOf p)) rest ≤ r = rw path at (rw (packed-drop b k (bytesOf p) ys (omega arith) l) at n) in
-        rw (le-leb d r (omega arith)) (met-near b (r - d) (suc k) p t ys (o .1) (w .0) e g (omega arith)) in
-        let beside : any (eqb p) (pagesUnder cs) ≡ true → any (eqb p) (metIn b r cs (y ∷ rest)) ≡ true = λ g.
-        rw (drop-cons ys k 0 l) at (met-near-under b r k p cs ys (o .2) l (w .1) e g n) in
+        let d : ℕ = byteDistance b (bitXor c y) in
         rw (drop-cons ys k 0 l)
-        (in-both p (pagesIn t) (pagesUnder cs) (cond (leb d r) (met b (r - d) t rest) []) (metIn b r cs (y ∷ rest)) here beside i)
+        (in-both p (pagesIn t) (pagesUnder cs) (cond (leb d r) (met b (r - d) t rest) []) (metIn b r cs (y ∷ rest))
+        (λ g.
+        let near : d + packedDistance b (drop (suc k) (bytesOf p)) rest ≤ r = near-below b r k c p (pagesIn t) ys l e (o .0) g n in
+        rw (le-leb d r (omega arith)) (met-near b (r - d) (suc k) p t ys (o .1) (w .0) e g (omega arith)))
+        (λ g. rw (drop-cons ys k 0 l) at (met-near-under b r k p cs ys (o .2) l (w .1) e g n))
+        i)
 
--- ---- a page within r of the query is met in some block's trie within r / q
--- xs is the page's sketch; trie j and bytesOf j are the trie and the packed bytes of block j
+  -- a page with the sketch xs is met in the trie of block j by a query ys whose block j is within r of its own
+  pub met-block : (b m q r j p : ℕ) (xs ys : List ℕ) (t : Tree) → j < q → length xs ≡ m → length ys ≡ m
+      → bytesOf p ≡ pack b (block m q j xs) → OnPath bytesOf 0 t → Shallow (packedLength b (blockLength m q j)) 0 t
+      → any (eqb p) (pagesIn t) ≡ true → packedDistance b (pack b (block m q j xs)) (pack b (block m q j ys)) ≤ r
+      → any (eqb p) (met b r t (pack b (block m q j ys))) ≡ true
+  met-block b m q r j p xs ys t l e f same path shallow there near =
+      met-near b r 0 p t (pack b (block m q j ys)) path
+      (rw (block-packed m q b j ys l f) shallow)
+      (ap length same ∙ block-packed m q b j xs l e ∙ sym (block-packed m q b j ys l f))
+      there
+      (rw same near)
+
+-- ---- a page with the sketch xs, within r of the query ys, is met within r / q in some block's trie
+-- trie j and bytesOf j are the trie and the packed bytes of block j
 pub met-somewhere : (b m q r p : ℕ) (xs ys : List ℕ) (bytesOf : ℕ → ℕ → List ℕ) (trie : ℕ → Tree)
     → 0 < b → b ≤ 8 → 0 < q → length xs ≡ m → length ys ≡ m → inRange b xs ≡ true → inRange b ys ≡ true
     → ((j : ℕ) → j < q → bytesOf j p ≡ pack b (block m q j xs))
@@ -73,16 +93,11 @@ pub met-somewhere : (b m q r p : ℕ) (xs ys : List ℕ) (bytesOf : ℕ → ℕ 
     → ((j : ℕ) → j < q → any (eqb p) (pagesIn (trie j)) ≡ true)
     → distance xs ys ≤ r
     → (j : ℕ) × (j < q) × (any (eqb p) (met b (r / q) (trie j) (pack b (block m q j ys))) ≡ true)
-met-somewhere b m q r p xs ys bytesOf trie lo hi h e f x y same path within there near =
-    let s : (j : ℕ) × (j < q) × (packedDistance b (pack b (block m q j xs)) (pack b (block m q j ys)) ≤ r / q) =
-    near-packed b m q r xs ys lo hi h e f x y near in
-    let j : ℕ = s .0 in
-    let l : j < q = s .1 in (
-      j,
-      l,
-      met-near (bytesOf j) b (r / q) 0 p (trie j) (pack b (block m q j ys)) (path j l)
-          (rw (block-packed m q b j ys l f) (within j l))
-          (ap length (same j l) ∙ block-packed m q b j xs l e ∙ sym (block-packed m q b j ys l f))
-          (there j l)
-          (rw (same j l) (s .2)),
-    )
+met-somewhere b m q r p xs ys bytesOf trie lo hi h e f x y same path shallow there near = meets (near-packed b m q r xs ys lo hi h e f x y near)
+  where
+    meets : (j : ℕ) × (j < q) × (packedDistance b (pack b (block m q j xs)) (pack b (block m q j ys)) ≤ r / q)
+        → (j : ℕ) × (j < q) × (any (eqb p) (met b (r / q) (trie j) (pack b (block m q j ys))) ≡ true)
+    meets s =
+        let j : ℕ = s .0 in
+        let l : j < q = s .1 in
+        (j, l, met-block (bytesOf j) b m q (r / q) j p xs ys (trie j) l e f (same j l) (path j l) (shallow j l) (there j l) (s .2))
