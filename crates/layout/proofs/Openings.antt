@@ -3,12 +3,13 @@ use Prim.Native.Nat.{ℕ, zero, suc, _+_, _≤_, _<_}
 use native.Mathlib.Omega.{arith}
 use native.Mathlib.Nat.{suc-add, zero-add}
 use mathlib.Core.Path.{_≡_, refl, sym, ap, ap₂, _∙_}
-use mathlib.Core.Bool.{Bool, true, false, cond, _&&_}
+use mathlib.Core.Bool.{Bool, true, false, cond, _&&_, and-assoc}
 use mathlib.Core.List.{List, [], _∷_, _++_}
 use borrow.Author.Tests.{le-leb, leb-true, leb-false, eq-eqb}
 use lib.Dec.{leb, eqb}
-use lib.ListN.{length, getD, set, take, drop, length-set}
+use lib.ListN.{length, getD, set, take, drop, length-set, length-take, length-drop}
 use lib.Seq.{take-at, take-set-le, take-nil, take-take, getD-take}
+use Rattle.meaning.specs.Lists.{all}
 use Rattle.meaning.specs.Refusal.{Question, ask, firstNo}
 use Rattle.meaning.specs.Ledger.{Settings}
 use Rattle.meaning.specs.Questions.{inLimits}
@@ -19,25 +20,35 @@ use Rattle.layout.specs.Settings.{mark, settingsLength, header, settings
 use Rattle.layout.specs.Header.{headerOf, openingOf, pick, tablesFirst}
 use Rattle.layout.specs.Limits.{HeaderLimits, Bounds}
 use Rattle.layout.proofs.Tests.{and-left, and-right}
-use Rattle.layout.proofs.Limits.{bounds}
+use Rattle.layout.proofs.Limits.{short, limitsOn, in-limits, bounds}
 
 -- ---- a table that begins with a header
 module _ (s : Settings) (rest : List ℕ) (count : length (s .thresholds) ≡ 64) where
   pub settings-header : settingsOf (header s ++ rest) ≡ s
   unfolding settingsOf header
   settings-header = λ i.
-    record {
-      bits = s .bits;
-      symbols = s .symbols;
-      blocks = s .blocks;
-      pages = s .pages;
-      nodes = s .nodes;
-      thresholds = take-at (s .thresholds) rest 64 count i;
-    }
+      record {
+        bits = s .bits;
+        symbols = s .symbols;
+        blocks = s .blocks;
+        pages = s .pages;
+        nodes = s .nodes;
+        thresholds = take-at (s .thresholds) rest 64 count i;
+      }
 
   pub shows-header : showsOpening (header s ++ rest) ≡ inLimits s
   unfolding showsOpening header
   shows-header = rw settings-header
+
+-- ---- the test of a table, as the code makes it
+module _ (ws : List ℕ) (long : 70 ≤ length ws) where
+  pub thresholds-count : length (settingsOf ws .thresholds) ≡ 64
+  unfolding settingsOf
+  thresholds-count = simp (length-take, length-drop) (omega arith)
+
+  pub shows-tests : eqb (getD ws 0 0) mark && limitsOn (headerOf (settingsOf ws)) 64 && all short (settingsOf ws .thresholds) ≡ showsOpening ws
+  unfolding showsOpening
+  shows-tests = rw (in-limits, thresholds-count, and-assoc)
 
 -- ---- an opening hangs on the first 70 words alone
 drop-take : (n m : ℕ) (ws : List ℕ) → drop n (take (n + m) ws) ≡ take m (drop n ws)
@@ -48,14 +59,14 @@ drop-take (suc n) m (w ∷ ws) = rw (suc-add, drop-take n m ws)
 settings-take : (ws : List ℕ) → settingsOf (take 70 ws) ≡ settingsOf ws
 unfolding settingsOf
 settings-take ws = λ i.
-  record {
-    bits = getD-take 70 ws 1 0 (omega arith) i;
-    symbols = getD-take 70 ws 2 0 (omega arith) i;
-    blocks = getD-take 70 ws 3 0 (omega arith) i;
-    pages = getD-take 70 ws 4 0 (omega arith) i;
-    nodes = getD-take 70 ws 5 0 (omega arith) i;
-    thresholds = (ap (take 64) (drop-take 6 64 ws) ∙ take-take 64 64 (drop 6 ws) (omega arith)) i;
-  }
+    record {
+      bits = getD-take 70 ws 1 0 (omega arith) i;
+      symbols = getD-take 70 ws 2 0 (omega arith) i;
+      blocks = getD-take 70 ws 3 0 (omega arith) i;
+      pages = getD-take 70 ws 4 0 (omega arith) i;
+      nodes = getD-take 70 ws 5 0 (omega arith) i;
+      thresholds = (ap (take 64) (drop-take 6 64 ws) ∙ take-take 64 64 (drop 6 ws) (omega arith)) i;
+    }
 
 shows-take : (ws : List ℕ) → showsOpening (take 70 ws) ≡ showsOpening ws
 unfolding showsOpening

@@ -4,7 +4,6 @@ ghost use Rattle.layout.specs.Header.{bare};
 ghost use Rattle.layout.specs.Limits.{HeaderLimits};
 ghost use Rattle.layout.specs.Lengths.{nodesLength, pagesLength, sketchesLength, workingLength};
 ghost use Rattle.layout.specs.Working.{mapWords, summaryWords};
-
 use crate::Header;
 
 pub fn nodes_length(h: Header) -> usize

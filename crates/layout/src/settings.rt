@@ -4,15 +4,16 @@ ghost use Prim.Native.Nat.{_≤_, _<_};
 ghost use lib.Dec.{ltb};
 ghost use lib.ListN.{length, getD, set};
 ghost use Rattle.meaning.specs.Lists.{all};
-ghost use Rattle.layout.specs.Settings.{settingsLength, settingsOf, freeAt};
+ghost use Rattle.layout.specs.Settings.{settingsLength, settingsOf, showsOpening, freeAt};
 ghost use Rattle.layout.specs.Limits.{limitsOf};
-ghost use Rattle.layout.specs.Header.{openingOf};
-
+ghost use Rattle.layout.specs.Header.{headerOf, openingOf};
 use crate::Header;
 use crate::Opening;
 
 const MARK: u32 = 0x56440001;
+
 const LENGTH: usize = 391;
+
 const FREE: usize = 390;
 
 // Question 4 of an opening with so many thresholds, each of 16 bits.
@@ -40,6 +41,36 @@ fn thresholds_fit(settings: &[u32]) -> bool
     seen < 65536
 }
 
+// Does the table show an opening?
+fn shows_opening(settings: &[u32]) -> bool
+    requires { ⌜ settingsLength ≤ length (now settings) ⌝ }
+    ensures { λ r. ⌜ r ≡ showsOpening (now (settings .entry)) ⌝ }
+{
+    (settings[0] == MARK)
+        & limits(
+            settings[1],
+            settings[2],
+            settings[3],
+            settings[4],
+            settings[5],
+            64,
+        )
+        & thresholds_fit(settings)
+}
+
+fn header(settings: &[u32]) -> Header
+    requires { ⌜ settingsLength ≤ length (now settings) ⌝ }
+    ensures { λ r. ⌜ r ≡ headerOf (settingsOf (now (settings .entry))) ⌝ }
+{
+    Header {
+        b: settings[1] as usize,
+        m: settings[2] as usize,
+        q: settings[3] as usize,
+        pages: settings[4] as usize,
+        nodes: settings[5] as usize,
+    }
+}
+
 // The opening that the table shows; else 5 where it is too short, and 6 where it shows none.
 pub fn opening(settings: &[u32]) -> Opening
     ensures { λ r. ⌜ r ≡ openingOf (now (settings .entry)) ⌝ }
@@ -47,22 +78,10 @@ pub fn opening(settings: &[u32]) -> Opening
     if settings.len() < LENGTH {
         return Opening::Refused(5);
     }
-    if settings[0] != MARK {
+    if !shows_opening(settings) {
         return Opening::Refused(6);
     }
-    if !limits(settings[1], settings[2], settings[3], settings[4], settings[5], 64) {
-        return Opening::Refused(6);
-    }
-    if !thresholds_fit(settings) {
-        return Opening::Refused(6);
-    }
-    Opening::Shown(Header {
-        b: settings[1] as usize,
-        m: settings[2] as usize,
-        q: settings[3] as usize,
-        pages: settings[4] as usize,
-        nodes: settings[5] as usize,
-    })
+    Opening::Shown(header(settings))
 }
 
 // The threshold of level k.

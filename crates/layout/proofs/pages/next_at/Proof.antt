@@ -1,18 +1,16 @@
+-- `next_at` is `nextAt`.
+use native.Mathlib.Omega.{arith}
 use borrow.Author.Needs.{needs}
+use Rattle.layout.proofs.Sizes.{product-fits}
 use Rattle.layout.proofs.pages.next_at.Statement.{statement}
 use Rattle.layout.proofs.pages.next_at.Tie as tie
-use Rattle.layout.proofs.pages.next_at.Reads as reads
-use Rattle.layout.proofs.pages.next_at.Lts as lts
 
--- src/pages.rt:27:6
 add-result : tie.Need-add-result
 add-result c = search needs
 
--- src/pages.rt:27:5
 mul-result : tie.Need-mul-result
-mul-result c = ?
+mul-result c = record { fits = product-fits (omega arith) (omega arith) }
 
--- src/pages.rt:23:1
 returns : tie.Need-returns
 returns c = search needs
 
