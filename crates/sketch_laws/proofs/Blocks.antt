@@ -58,7 +58,7 @@ module _ (m q : ℕ) where
   block-range b j xs r = range-take b (blockLength m q j) (drop (blockStart m q j) xs) (range-drop b (blockStart m q j) xs r)
 
   pub block-packed : (b j : ℕ) (xs : List ℕ) → j < q → length xs ≡ m → length (pack b (block m q j xs)) ≡ packedLength b (blockLength m q j)
-  block-packed b j xs h e = pack-length b (block m q j xs) ∙ ap (packedLength b) (block-length j xs h e)
+  block-packed b j xs h e = pack-length b (blockLength m q j) (block m q j xs) (block-length j xs h e)
 
   -- ---- the distance by blocks
   blocks-distance : (xs ys : List ℕ) → length xs ≡ length ys → (n : ℕ)
