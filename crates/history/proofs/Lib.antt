@@ -1,2 +1,4 @@
 pub mod Lists
 pub mod Rights
+pub mod Pages
+pub mod Represents

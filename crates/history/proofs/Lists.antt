@@ -82,7 +82,7 @@ rising-keep g k (suc n) = go (g k) (rising-keep g (suc k) n)
 
 -- ---- the rows of the live pages among n from k on
 
-pub rows-cong : (l l′ : ℕ → Bool) (h h′ : ℕ → Row) (k n : ℕ) → ((i : ℕ) → k ≤ i → i < k + n → l i ≡ l′ i)
+rows-cong : (l l′ : ℕ → Bool) (h h′ : ℕ → Row) (k n : ℕ) → ((i : ℕ) → k ≤ i → i < k + n → l i ≡ l′ i)
     → ((i : ℕ) → k ≤ i → i < k + n → h i ≡ h′ i) → rowsFrom l h k n ≡ rowsFrom l′ h′ k n
 unfolding rowsFrom
 rows-cong l l′ h h′ k zero a b = refl
@@ -93,10 +93,17 @@ rows-cong l l′ h h′ k (suc n) a b =
       rows-cong l l′ h h′ (suc k) n (λ i x y. a i (omega arith) (omega arith)) (λ i x y. b i (omega arith) (omega arith)),
     )
 
-pub rows-none : (l : ℕ → Bool) (h : ℕ → Row) (k n : ℕ) → ((i : ℕ) → k ≤ i → i < k + n → l i ≡ false) → rowsFrom l h k n ≡ []
+pub rows-upto : (l l′ : ℕ → Bool) (h h′ : ℕ → Row) (n : ℕ) → ((i : ℕ) → i < n → l i ≡ l′ i) → ((i : ℕ) → i < n → h i ≡ h′ i)
+    → rowsFrom l h 0 n ≡ rowsFrom l′ h′ 0 n
+rows-upto l l′ h h′ n a b = rows-cong l l′ h h′ 0 n (λ i x y. a i (omega arith)) (λ i x y. b i (omega arith))
+
+dead : (h : ℕ → Row) (k n : ℕ) → rowsFrom (λ i. false) h k n ≡ []
 unfolding rowsFrom
-rows-none l h k zero a = refl
-rows-none l h k (suc n) a = rw (a k (omega arith) (omega arith), rows-none l h (suc k) n (λ i x y. a i (omega arith) (omega arith)))
+dead h k zero = refl
+dead h k (suc n) = dead h (suc k) n
+
+pub rows-none : (l : ℕ → Bool) (h : ℕ → Row) (n : ℕ) → ((i : ℕ) → i < n → l i ≡ false) → rowsFrom l h 0 n ≡ []
+rows-none l h n a = rows-upto l (λ i. false) h h n a (λ i x. refl) ∙ dead h 0 n
 
 -- each row has its own page number
 module _ (l : ℕ → Bool) (h : ℕ → Row) (own : (i : ℕ) → h i .page ≡ i) where

@@ -1,0 +1,175 @@
+-- The tables show the ledger: the invariant of a history, and what the questions read under it.
+use mathlib.Core.Path.{_≡_, refl, sym, ap, _∙_}
+use mathlib.Core.Bool.{Bool, true, _&&_, and-assoc}
+use mathlib.Core.List.{List}
+use Prim.Native.Nat.{ℕ, _+_, _*_, _≤_, _<_}
+use native.Mathlib.Omega.{arith}
+use lib.Dec.{ltb, leb, eqb}
+use lib.ListN.{length, getD, take, length-map}
+use lib.ListN.{drop as skip}
+use lib.Seq.{take-all, take-take, getD-take}
+use borrow.Author.Tests.{eqb-true, ltb-true, leb-true}
+use Rattle.meaning.specs.Lists.{any, upto}
+use Rattle.meaning.specs.Refusal.{firstNo}
+use Rattle.meaning.specs.Sketch.{distance}
+use Rattle.meaning.specs.Rights.{openTo}
+use Rattle.meaning.specs.Trie.{Tree}
+use Rattle.meaning.specs.Ledger.{Settings, Row, Ledger, Call, opening, add, drop, join, leave, grant, revoke, search, show, check, calledFor, listed}
+use Rattle.meaning.specs.Questions.{inLimits, asked, byLedger}
+use Rattle.layout.specs.Settings.{mark, membersAt, grantsAt, header, settingsOf, showsOpening}
+use Rattle.layout.specs.Pages.{isLive, classOf, rowOf}
+use Rattle.rights.specs.Register.{opens}
+use Rattle.promises.specs.Tables.{Tables, given, pageClass, pageRow, isShown, scan, rowsFrom, rowsOf, byTables}
+use Rattle.promises.specs.Answers.{longFor, longSettings, longNodes, longPages, longWorking, shown56, entered, number}
+use Rattle.history.specs.History.{admitted, judged}
+use Rattle.history.proofs.Lists.{and-left, and-right, and-both, and-then, asks, keep-from, rows-live, rows-any, rows-keep}
+use Rattle.history.proofs.Rights.{Flags, opens-eq}
+use Rattle.history.proofs.Pages.{take-drop, rowAt, rowsIn}
+
+pub record Represents (T : Tables) (L : Ledger) : Type 0 where
+  pub head : take membersAt (T .settings) ≡ header (L .settings)
+  pub limits : inLimits (L .settings) ≡ true
+  -- all five tables
+  pub long : longSettings T && longFor (L .settings) T (opening (L .settings)) ≡ true
+  pub members : Flags (T .settings) membersAt 256 32 (L .members)
+  pub grants : Flags (T .settings) grantsAt 32 64 (L .grants)
+  pub rows : L .rows ≡ rowsOf T
+  pub classes : (p : ℕ) → p < L .settings .pages → isLive (T .pages) p ≡ true → classOf (T .pages) (L .settings .pages) p < 64
+
+-- ---- the settings
+
+pub thresholds-64 : (s : Settings) → inLimits s ≡ true → length (s .thresholds) ≡ 64
+unfolding inLimits
+thresholds-64 s h = let e : eqb (length (s .thresholds)) 64 ≡ true = Prim.search (and-left, and-right) in eqb-true (length (s .thresholds)) 64 e
+
+-- they are read off the header
+pub settings-head : (ws : List ℕ) → settingsOf ws ≡ settingsOf (take membersAt ws)
+unfolding settingsOf
+settings-head ws =
+    rw (
+      getD-take 70 ws 1 0 (omega arith),
+      getD-take 70 ws 2 0 (omega arith),
+      getD-take 70 ws 3 0 (omega arith),
+      getD-take 70 ws 4 0 (omega arith),
+      getD-take 70 ws 5 0 (omega arith),
+      take-drop 6 64 ws,
+      take-drop 6 64 (take 70 ws),
+      take-take 70 70 ws (omega arith),
+    )
+
+settings-header : (s : Settings) → length (s .thresholds) ≡ 64 → settingsOf (header s) ≡ s
+unfolding settingsOf header
+settings-header s e = rw (take-all 64 (s .thresholds) (omega arith))
+
+-- ---- under the invariant
+
+module _ (T : Tables) (L : Ledger) (R : Represents T L) where
+  pub given-eq : given T ≡ L .settings
+  given-eq = settings-head (T .settings) ∙ rw (R .head) (settings-header (L .settings) (thresholds-64 (L .settings) (R .limits)))
+
+  -- 5 and 6
+  pub long-settings : longSettings T ≡ true
+  long-settings = and-left (longSettings T) (longFor (L .settings) T (opening (L .settings))) (R .long)
+
+  pub long-for : (c : Call) → longFor (L .settings) T c ≡ true
+  unfolding longFor
+  long-for c = go c (and-right (longSettings T) (longFor (L .settings) T (opening (L .settings))) (R .long))
+    where
+      go : (c : Call) → longNodes (L .settings) T && longPages (L .settings) T && longWorking (L .settings) T ≡ true → longFor (L .settings) T c ≡ true
+      go (opening s) h = h
+      go (add p c x) h = Prim.search (and-left, and-right)
+      go (drop p) h = Prim.search (and-left, and-right)
+      go (join r g) h = refl
+      go (leave r g) h = refl
+      go (grant g c) h = refl
+      go (revoke g c) h = refl
+      go (search r d x o) h = h
+      go (show r p) h = Prim.search (and-left, and-right)
+      go check h = h
+
+  pub shows-opening : showsOpening (T .settings) ≡ true
+  unfolding showsOpening header
+  shows-opening =
+      let m : getD (T .settings) 0 0 ≡ mark = sym (getD-take 70 (T .settings) 0 0 (omega arith)) ∙ rw (R .head) in
+      rw (m, given-eq, R .limits)
+
+  pub shown-6 : (c : Call) → showsOpening (T .settings) && longFor (given T) T c ≡ true
+  shown-6 c = rw (given-eq) (and-both shows-opening (long-for c))
+
+  -- ---- what 9, 12 and 13 read
+  live : ℕ → Bool
+  live = isLive (T .pages)
+
+  row : ℕ → Row
+  row = rowAt (L .settings .pages) (L .settings .symbols) (T .pages) (T .sketches)
+
+  rows-from : L .rows ≡ rowsFrom live row 0 (L .settings .pages)
+  unfolding rowsOf pageClass pageRow live row
+  rows-from = R .rows ∙ ap (λ (s : Settings). rowsIn (s .pages) (s .symbols) (T .pages) (T .sketches)) given-eq
+
+  pub live-eq : (p : ℕ) → p < L .settings .pages → isLive (T .pages) p ≡ any (λ r. eqb (r .page) p) (L .rows)
+  unfolding live row
+  live-eq p h = rw rows-from (sym (rows-live live row (λ i. refl) p 0 (L .settings .pages) (omega arith) (omega arith)))
+
+  opens-live : (reader p : ℕ) → reader < 256 → p < L .settings .pages → live p ≡ true
+      → opens (T .settings) reader (row p .class) ≡ openTo (L .members) (L .grants) reader (row p .class)
+  unfolding live row
+  opens-live reader p hr h e = opens-eq (T .settings) (L .members) (L .grants) (R .members) (R .grants) reader (row p .class) hr (R .classes p h e)
+
+  shown-row : (reader p : ℕ) → reader < 256 → p < L .settings .pages → isShown T reader p ≡ live p && openTo (L .members) (L .grants) reader (row p .class)
+  unfolding isShown pageClass live row
+  shown-row reader p hr h = rw given-eq (and-then (live p) (opens-live reader p hr h))
+
+  pub shown-eq : (reader p : ℕ) → reader < 256 → p < L .settings .pages
+      → isShown T reader p ≡ any (λ r. eqb (r .page) p && openTo (L .members) (L .grants) reader (r .class)) (L .rows)
+  unfolding row
+  shown-eq reader p hr h =
+      rw rows-from
+      (shown-row reader p hr h
+      ∙ sym (rows-any live row (λ i. refl) (λ r. openTo (L .members) (L .grants) reader (r .class)) p 0 (L .settings .pages) (omega arith) (omega arith)))
+
+  pub scan-eq : (reader radius : ℕ) (x : List ℕ) → reader < 256 → scan T reader radius x ≡ listed L reader radius x
+  unfolding scan listed calledFor pageRow upto row
+  scan-eq reader radius x hr =
+      rw (given-eq, rows-from)
+      (keep-from (λ p. isShown T reader p && near p) (λ p. live p && (mine p && near p)) 0 (L .settings .pages)
+      (λ p a b. rw (shown-row reader p hr (omega arith)) (and-assoc (live p) (mine p) (near p)))
+      ∙ sym (rows-keep live row (λ i. refl) (λ r. openTo (L .members) (L .grants) reader (r .class) && leb (distance (r .sketch) x) radius) 0 (L .settings .pages)))
+    where
+      mine : ℕ → Bool
+      mine p = openTo (L .members) (L .grants) reader (row p .class)
+
+      near : ℕ → Bool
+      near p = leb (distance (row p .sketch) x) radius
+
+  pub found-eq : (reader radius : ℕ) (x : List ℕ) → reader < 256 → length (scan T reader radius x) ≡ length (calledFor L reader radius x)
+  unfolding listed
+  found-eq reader radius x hr = ap length (scan-eq reader radius x hr) ∙ length-map (calledFor L reader radius x) (λ r. r .page)
+
+  -- ---- a call's number is the one that the ledger's questions give
+  pub number-eq : (F : List Tree) (c : Call) → number T F c ≡ judged T L F c
+  unfolding number judged admitted entered shown56 asked byTables byLedger firstNo
+  number-eq F (opening s) = refl
+  number-eq F (add p c x) =
+      rw (long-settings, shown-6 (add p c x), given-eq, ← R .rows)
+      (asks 7 (ltb c 64) λ h7.
+      asks 8 (ltb p (L .settings .pages)) λ h8.
+      rw (live-eq p (ltb-true p (L .settings .pages) h8)))
+  number-eq F (drop p) =
+      rw (long-settings, shown-6 (drop p), given-eq)
+      (asks 8 (ltb p (L .settings .pages)) λ h8.
+      rw (live-eq p (ltb-true p (L .settings .pages) h8)))
+  number-eq F (join r g) = rw (long-settings, shown-6 (join r g))
+  number-eq F (leave r g) = rw (long-settings, shown-6 (leave r g))
+  number-eq F (grant g c) = rw (long-settings, shown-6 (grant g c))
+  number-eq F (revoke g c) = rw (long-settings, shown-6 (revoke g c))
+  number-eq F (search r d x o) =
+      rw (long-settings, shown-6 (search r d x o), given-eq)
+      (asks 7 (ltb r 256 && leb d 64) λ h7.
+      rw (found-eq r d x (ltb-true r 256 (and-left (ltb r 256) (leb d 64) h7))))
+  number-eq F (show r p) =
+      rw (long-settings, shown-6 (show r p), given-eq)
+      (asks 7 (ltb r 256) λ h7.
+      asks 8 (ltb p (L .settings .pages)) λ h8.
+      rw (shown-eq r p (ltb-true r 256 h7) (ltb-true p (L .settings .pages) h8)))
+  number-eq F check = rw (long-settings, shown-6 check)
