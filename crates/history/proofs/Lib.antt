@@ -2,3 +2,4 @@ pub mod Lists
 pub mod Rights
 pub mod Pages
 pub mod Represents
+pub mod Opening

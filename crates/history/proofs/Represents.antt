@@ -36,6 +36,20 @@ pub record Represents (T : Tables) (L : Ledger) : Type 0 where
   pub rows : L .rows ≡ rowsOf T
   pub classes : (p : ℕ) → p < L .settings .pages → isLive (T .pages) p ≡ true → classOf (T .pages) (L .settings .pages) p < 64
 
+-- ---- the tables are as long as they were
+
+pub record AsLong (T T′ : Tables) : Type 0 where
+  pub settings : length (T′ .settings) ≡ length (T .settings)
+  pub nodes : length (T′ .nodes) ≡ length (T .nodes)
+  pub pages : length (T′ .pages) ≡ length (T .pages)
+  pub sketches : length (T′ .sketches) ≡ length (T .sketches)
+  pub working : length (T′ .working) ≡ length (T .working)
+
+pub long-kept : (s : Settings) (T T′ : Tables) → AsLong T T′ → longSettings T && longFor s T (opening s) ≡ true
+    → longSettings T′ && longFor s T′ (opening s) ≡ true
+unfolding longSettings longFor longNodes longPages longWorking
+long-kept s T T′ l h = rw (l .settings, l .nodes, l .pages, l .sketches, l .working) h
+
 -- ---- the settings
 
 pub thresholds-64 : (s : Settings) → inLimits s ≡ true → length (s .thresholds) ≡ 64
@@ -43,29 +57,30 @@ unfolding inLimits
 thresholds-64 s h = let e : eqb (length (s .thresholds)) 64 ≡ true = Prim.search (and-left, and-right) in eqb-true (length (s .thresholds)) 64 e
 
 -- they are read off the header
-pub settings-head : (ws : List ℕ) → settingsOf ws ≡ settingsOf (take membersAt ws)
-unfolding settingsOf
-settings-head ws =
-    rw (
-      getD-take 70 ws 1 0 (omega arith),
-      getD-take 70 ws 2 0 (omega arith),
-      getD-take 70 ws 3 0 (omega arith),
-      getD-take 70 ws 4 0 (omega arith),
-      getD-take 70 ws 5 0 (omega arith),
-      take-drop 6 64 ws,
-      take-drop 6 64 (take 70 ws),
-      take-take 70 70 ws (omega arith),
-    )
+pub settings-read : (s : Settings) → inLimits s ≡ true → (ws : List ℕ) → take membersAt ws ≡ header s → settingsOf ws ≡ s
+settings-read s limits ws e = first ∙ rw e read
+  where
+    first : settingsOf ws ≡ settingsOf (take 70 ws)
+    first = unfold settingsOf in
+        rw (
+          getD-take 70 ws 1 0 (omega arith),
+          getD-take 70 ws 2 0 (omega arith),
+          getD-take 70 ws 3 0 (omega arith),
+          getD-take 70 ws 4 0 (omega arith),
+          getD-take 70 ws 5 0 (omega arith),
+          take-drop 6 64 ws,
+          take-drop 6 64 (take 70 ws),
+          take-take 70 70 ws (omega arith),
+        )
 
-settings-header : (s : Settings) → length (s .thresholds) ≡ 64 → settingsOf (header s) ≡ s
-unfolding settingsOf header
-settings-header s e = rw (take-all 64 (s .thresholds) (omega arith))
+    read : settingsOf (header s) ≡ s
+    read = unfold settingsOf header in rw (take-all 64 (s .thresholds) (omega (arith, thresholds-64 s limits)))
 
 -- ---- under the invariant
 
 module _ (T : Tables) (L : Ledger) (R : Represents T L) where
   pub given-eq : given T ≡ L .settings
-  given-eq = settings-head (T .settings) ∙ rw (R .head) (settings-header (L .settings) (thresholds-64 (L .settings) (R .limits)))
+  given-eq = settings-read (L .settings) (R .limits) (T .settings) (R .head)
 
   -- 5 and 6
   pub long-settings : longSettings T ≡ true
@@ -77,8 +92,8 @@ module _ (T : Tables) (L : Ledger) (R : Represents T L) where
     where
       go : (c : Call) → longNodes (L .settings) T && longPages (L .settings) T && longWorking (L .settings) T ≡ true → longFor (L .settings) T c ≡ true
       go (opening s) h = h
-      go (add p c x) h = Prim.search (and-left, and-right)
-      go (drop p) h = Prim.search (and-left, and-right)
+      go (add p c x) h = Prim.search and-left
+      go (drop p) h = Prim.search and-left
       go (join r g) h = refl
       go (leave r g) h = refl
       go (grant g c) h = refl

@@ -7,12 +7,12 @@ use Prim.Native.Nat.{ℕ, _+_, _*_, _/_, _%_, _<_}
 use native.Mathlib.Omega.{arith}
 use lib.Dec.{eqb}
 use lib.Arith.{digits-div, digits-mod}
-use lib.ListN.{length}
+use lib.ListN.{length, take}
 use borrow.Author.Tests.{eqb-true, eqb-false, eq-eqb, ne-eqb, lt-ltb}
 use Rattle.meaning.specs.Lists.{any, keep}
 use Rattle.meaning.specs.Rights.{Pair, pair, samePair, stands, write, strike, openTo}
 use Rattle.words.specs.Bits.{flag, withFlag}
-use Rattle.words.proofs.Flags.{flag-with-same, flag-with-other, flag-with-apart}
+use Rattle.words.proofs.Flags.{flag-take, flag-with-same, flag-with-other, flag-with-apart}
 use Rattle.layout.specs.Settings.{membersAt, grantsAt}
 use Rattle.rights.specs.Register.{isMember, isGranted, opens}
 use Rattle.history.proofs.Lists.{and-left, and-right, any-upto}
@@ -86,6 +86,11 @@ module _ (ws : List ℕ) (base rows w : ℕ) (ps : List Pair) (f : Flags ws base
   pub flags-keep : (base′ n : ℕ) (v : Bool) → ((c d : ℕ) → c < rows → d < w → base + (c * w + d) / 32 ≢ base′ + n / 32)
       → Flags (withFlag ws base′ n v) base rows w ps
   flags-keep base′ n v h c d hc hd = flag-with-apart ws base′ n v base (c * w + d) (h c d hc hd) ∙ f c d hc hd
+
+  -- in another table with the same beginning
+  pub flags-same : (m : ℕ) (ws′ : List ℕ) → take m ws′ ≡ take m ws → ((c d : ℕ) → c < rows → d < w → base + (c * w + d) / 32 < m) → Flags ws′ base rows w ps
+  flags-same m ws′ e h c d hc hd =
+      sym (flag-take m ws′ base (c * w + d) (h c d hc hd)) ∙ rw e (flag-take m ws base (c * w + d) (h c d hc hd)) ∙ f c d hc hd
 
 pub opens-eq : (ws : List ℕ) (M G : List Pair) → Flags ws membersAt 256 32 M → Flags ws grantsAt 32 64 G
     → (r c : ℕ) → r < 256 → c < 64 → opens ws r c ≡ openTo M G r c
