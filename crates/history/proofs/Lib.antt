@@ -3,3 +3,4 @@ pub mod Rights
 pub mod Pages
 pub mod Represents
 pub mod Opening
+pub mod Steps

@@ -3,6 +3,7 @@ use mathlib.Core.Path.{_≡_, refl, sym, ap, _∙_}
 use mathlib.Core.Bool.{Bool, true, _&&_, and-assoc}
 use mathlib.Core.List.{List}
 use Prim.Native.Nat.{ℕ, _+_, _*_, _≤_, _<_}
+use native.Mathlib.Nat.{mul-le-mul-right}
 use native.Mathlib.Omega.{arith}
 use lib.Dec.{ltb, leb, eqb}
 use lib.ListN.{length, getD, take, length-map}
@@ -18,6 +19,7 @@ use Rattle.meaning.specs.Ledger.{Settings, Row, Ledger, Call, opening, add, dro
 use Rattle.meaning.specs.Questions.{inLimits, asked, byLedger}
 use Rattle.layout.specs.Settings.{mark, membersAt, grantsAt, header, settingsOf, showsOpening}
 use Rattle.layout.specs.Pages.{isLive, classOf, rowOf}
+use Rattle.layout.specs.Lengths.{pagesLength, sketchesLength}
 use Rattle.rights.specs.Register.{opens}
 use Rattle.promises.specs.Tables.{Tables, given, pageClass, pageRow, isShown, scan, rowsFrom, rowsOf, byTables}
 use Rattle.promises.specs.Answers.{longFor, longSettings, longNodes, longPages, longWorking, shown56, entered, number}
@@ -102,6 +104,19 @@ module _ (T : Tables) (L : Ledger) (R : Represents T L) where
       go (show r p) h = Prim.search (and-left, and-right)
       go check h = h
 
+  -- the live words and the classes, and the rows
+  pub long-pages : 2 * L .settings .pages ≤ length (T .pages)
+  unfolding longFor longPages pagesLength
+  long-pages =
+      let a : leb (pagesLength (L .settings)) (length (T .pages)) ≡ true = and-left _ _ (long-for (show 0 0)) in
+      let b : 2 ≤ 2 + L .settings .blocks = omega arith in
+      omega (arith, leb-true (pagesLength (L .settings)) (length (T .pages)) a, mul-le-mul-right (L .settings .pages) b)
+
+  pub long-sketches : L .settings .pages * L .settings .symbols ≤ length (T .sketches)
+  unfolding longFor longPages sketchesLength
+  long-sketches =
+      leb-true (sketchesLength (L .settings)) (length (T .sketches)) (and-right (leb (pagesLength (L .settings)) (length (T .pages))) _ (long-for (show 0 0)))
+
   pub shows-opening : showsOpening (T .settings) ≡ true
   unfolding showsOpening header
   shows-opening =
@@ -112,41 +127,38 @@ module _ (T : Tables) (L : Ledger) (R : Represents T L) where
   shown-6 c = rw (given-eq) (and-both shows-opening (long-for c))
 
   -- ---- what 9, 12 and 13 read
-  live : ℕ → Bool
+  pub rows-eq : L .rows ≡ rowsIn (L .settings .pages) (L .settings .symbols) (T .pages) (T .sketches)
+  unfolding rowsOf pageClass pageRow
+  rows-eq = R .rows ∙ ap (λ (s : Settings). rowsIn (s .pages) (s .symbols) (T .pages) (T .sketches)) given-eq
+
+  abbrev live : ℕ → Bool
   live = isLive (T .pages)
 
-  row : ℕ → Row
+  abbrev row : ℕ → Row
   row = rowAt (L .settings .pages) (L .settings .symbols) (T .pages) (T .sketches)
 
-  rows-from : L .rows ≡ rowsFrom live row 0 (L .settings .pages)
-  unfolding rowsOf pageClass pageRow live row
-  rows-from = R .rows ∙ ap (λ (s : Settings). rowsIn (s .pages) (s .symbols) (T .pages) (T .sketches)) given-eq
-
   pub live-eq : (p : ℕ) → p < L .settings .pages → isLive (T .pages) p ≡ any (λ r. eqb (r .page) p) (L .rows)
-  unfolding live row
-  live-eq p h = rw rows-from (sym (rows-live live row (λ i. refl) p 0 (L .settings .pages) (omega arith) (omega arith)))
+  live-eq p h = rw rows-eq (sym (rows-live live row (λ i. refl) p 0 (L .settings .pages) (omega arith) (omega arith)))
 
   opens-live : (reader p : ℕ) → reader < 256 → p < L .settings .pages → live p ≡ true
       → opens (T .settings) reader (row p .class) ≡ openTo (L .members) (L .grants) reader (row p .class)
-  unfolding live row
   opens-live reader p hr h e = opens-eq (T .settings) (L .members) (L .grants) (R .members) (R .grants) reader (row p .class) hr (R .classes p h e)
 
   shown-row : (reader p : ℕ) → reader < 256 → p < L .settings .pages → isShown T reader p ≡ live p && openTo (L .members) (L .grants) reader (row p .class)
-  unfolding isShown pageClass live row
+  unfolding isShown pageClass
   shown-row reader p hr h = rw given-eq (and-then (live p) (opens-live reader p hr h))
 
   pub shown-eq : (reader p : ℕ) → reader < 256 → p < L .settings .pages
       → isShown T reader p ≡ any (λ r. eqb (r .page) p && openTo (L .members) (L .grants) reader (r .class)) (L .rows)
-  unfolding row
   shown-eq reader p hr h =
-      rw rows-from
+      rw rows-eq
       (shown-row reader p hr h
       ∙ sym (rows-any live row (λ i. refl) (λ r. openTo (L .members) (L .grants) reader (r .class)) p 0 (L .settings .pages) (omega arith) (omega arith)))
 
   pub scan-eq : (reader radius : ℕ) (x : List ℕ) → reader < 256 → scan T reader radius x ≡ listed L reader radius x
-  unfolding scan listed calledFor pageRow upto row
+  unfolding scan listed calledFor pageRow upto
   scan-eq reader radius x hr =
-      rw (given-eq, rows-from)
+      rw (given-eq, rows-eq)
       (keep-from (λ p. isShown T reader p && near p) (λ p. live p && (mine p && near p)) 0 (L .settings .pages)
       (λ p a b. rw (shown-row reader p hr (omega arith)) (and-assoc (live p) (mine p) (near p)))
       ∙ sym (rows-keep live row (λ i. refl) (λ r. openTo (L .members) (L .grants) reader (r .class) && leb (distance (r .sketch) x) radius) 0 (L .settings .pages)))
