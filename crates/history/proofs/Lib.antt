@@ -4,3 +4,5 @@ pub mod Pages
 pub mod Represents
 pub mod Opening
 pub mod Steps
+pub mod Searches
+pub mod Example
