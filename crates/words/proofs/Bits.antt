@@ -1,17 +1,18 @@
 -- Laws of the bits of a word. What holds at any width n is stated over n; a word of a table has the width 32.
-use mathlib.Core.Path.{_≡_, refl, sym, ap, _∙_, subst}
+use mathlib.Core.Path.{_≡_, refl, sym, ap, ap₂, _∙_}
 use mathlib.Core.Bool.{Bool, true, false, cond, _&&_, _||_}
 use mathlib.Core.Logic.{_≢_}
-use mathlib.Core.List.{List, [], _∷_, _++_}
+use mathlib.Core.List.{List, [], _∷_}
 use Prim.Native.Nat.{ℕ, zero, suc, _+_, _-_, _*_, _/_, _%_, _^_, _≤_, _<_, max, min, suc-le-suc}
-use native.Mathlib.Nat.{pow-suc, div-one, le-trans, le-div-iff-mul-le, zero-div}
+use native.Mathlib.Nat.{pow-suc, div-one, le-div-iff-mul-le, zero-div}
 use native.Mathlib.Omega.{arith}
 use lib.Dec.{eqb, eqb·zero-suc, eqb·suc-zero, eqb·suc-suc}
 use lib.Pow.{pow-pos, pow-mono, pow-lt, pow-add, shr-shr}
 use lib.Bits.{bitAnd, bitOr, and-high, and-step, or-step, and-shr, or-shr, or-add-and, or-lt}
 use lib.ListN.{length, getD}
 use borrow.Author.Tests.{eqb-true, eqb-false, eq-eqb, ne-eqb}
-use Rattle.words.specs.Bits.{bit, withBit, bitsFrom, bitsOf, lowest, ones}
+use Rattle.words.specs.Bits.{bit, withBit, rising, bitsOf, lowest, ones}
+use Rattle.words.proofs.Rising.{First, rising-none, rising-first, rising-length}
 
 -- ---- one bit
 
@@ -23,6 +24,11 @@ digit w k = go (bit w k) refl
     go : (t : Bool) → bit w k ≡ t → w / 2 ^ k % 2 ≡ cond t 1 0
     go true e = eqb-true (w / 2 ^ k % 2) 1 e
     go false e = let n : w / 2 ^ k % 2 ≢ 1 = eqb-false (w / 2 ^ k % 2) 1 e in omega arith
+
+pub bit-digit : (w k : ℕ) (t : Bool) → w / 2 ^ k % 2 ≡ cond t 1 0 → bit w k ≡ t
+unfolding bit
+bit-digit w k true e = rw e
+bit-digit w k false e = rw e
 
 -- bit 0, and the bits above it
 pub bit-low : (w : ℕ) → bit w 0 ≡ eqb (w % 2) 1
@@ -46,39 +52,32 @@ bit-le w k h =
 
 -- ---- and, or
 
-odd-or : (p q : ℕ) → p < 2 → q < 2 → eqb (max p q) 1 ≡ (eqb p 1 || eqb q 1)
-odd-or zero zero hp hq = refl
-odd-or zero (suc zero) hp hq = refl
-odd-or (suc zero) zero hp hq = refl
-odd-or (suc zero) (suc zero) hp hq = refl
-odd-or zero (suc (suc q)) hp hq = absurd (omega arith)
-odd-or (suc zero) (suc (suc q)) hp hq = absurd (omega arith)
-odd-or (suc (suc p)) q hp hq = absurd (omega arith)
-
-odd-and : (p q : ℕ) → p < 2 → q < 2 → eqb (min p q) 1 ≡ (eqb p 1 && eqb q 1)
-odd-and zero zero hp hq = refl
-odd-and zero (suc zero) hp hq = refl
-odd-and (suc zero) zero hp hq = refl
-odd-and (suc zero) (suc zero) hp hq = refl
-odd-and zero (suc (suc q)) hp hq = absurd (omega arith)
-odd-and (suc zero) (suc (suc q)) hp hq = absurd (omega arith)
-odd-and (suc (suc p)) q hp hq = absurd (omega arith)
+-- by an operation on digits that acts as one on bits
+bit-by : (f : ℕ → ℕ → ℕ) (g : Bool → Bool → Bool) → ((s t : Bool) → f (cond s 1 0) (cond t 1 0) ≡ cond (g s t) 1 0)
+    → (w a b k : ℕ) → w / 2 ^ k % 2 ≡ f (a / 2 ^ k % 2) (b / 2 ^ k % 2) → bit w k ≡ g (bit a k) (bit b k)
+bit-by f g acts w a b k e = bit-digit w k (g (bit a k) (bit b k)) (e ∙ ap₂ f (digit a k) (digit b k) ∙ acts (bit a k) (bit b k))
 
 pub bit-or : (a b k : ℕ) → bit (bitOr a b) k ≡ (bit a k || bit b k)
-unfolding bit
-bit-or a b k =
-    let e : bitOr a b / 2 ^ k % 2 ≡ max (a / 2 ^ k % 2) (b / 2 ^ k % 2) = omega (arith, or-shr a b k, or-step (a / 2 ^ k) (b / 2 ^ k)) in
-    rw e (odd-or (a / 2 ^ k % 2) (b / 2 ^ k % 2) (omega arith) (omega arith))
+bit-or a b k = bit-by max (_||_) acts (bitOr a b) a b k (omega (arith, or-shr a b k, or-step (a / 2 ^ k) (b / 2 ^ k)))
+  where
+    acts : (s t : Bool) → max (cond s 1 0) (cond t 1 0) ≡ cond (s || t) 1 0
+    acts true true = refl
+    acts true false = refl
+    acts false true = refl
+    acts false false = refl
 
 pub bit-and : (a b k : ℕ) → bit (bitAnd a b) k ≡ (bit a k && bit b k)
-unfolding bit
-bit-and a b k =
-    let e : bitAnd a b / 2 ^ k % 2 ≡ min (a / 2 ^ k % 2) (b / 2 ^ k % 2) = omega (arith, and-shr a b k, and-step (a / 2 ^ k) (b / 2 ^ k)) in
-    rw e (odd-and (a / 2 ^ k % 2) (b / 2 ^ k % 2) (omega arith) (omega arith))
+bit-and a b k = bit-by min (_&&_) acts (bitAnd a b) a b k (omega (arith, and-shr a b k, and-step (a / 2 ^ k) (b / 2 ^ k)))
+  where
+    acts : (s t : Bool) → min (cond s 1 0) (cond t 1 0) ≡ cond (s && t) 1 0
+    acts true true = refl
+    acts true false = refl
+    acts false true = refl
+    acts false false = refl
 
 -- ---- a word is its bits
 
-half-lt : (n w : ℕ) → w < 2 ^ suc n → w / 2 < 2 ^ n
+pub half-lt : (n w : ℕ) → w < 2 ^ suc n → w / 2 < 2 ^ n
 half-lt n w h = omega (arith, pow-suc 2 n)
 
 pub same-word : (n a b : ℕ) → a < 2 ^ n → b < 2 ^ n → ((k : ℕ) → k < n → bit a k ≡ bit b k) → a ≡ b
@@ -106,7 +105,7 @@ same-bits a b same =
 -- ---- a word with a bit set or cleared
 
 -- the sum that settles it
-with-sum : (w k : ℕ) (v : Bool) → withBit w k v + cond (bit w k) (2 ^ k) 0 ≡ w + cond v (2 ^ k) 0
+pub with-sum : (w k : ℕ) (v : Bool) → withBit w k v + cond (bit w k) (2 ^ k) 0 ≡ w + cond v (2 ^ k) 0
 unfolding withBit
 with-sum w k v = go v (bit w k) refl
   where
@@ -208,39 +207,52 @@ with-lt n w k false hw hk = rw (← with-and w k) (omega arith)
 
 -- ---- the set bits, rising
 
-module _ (a b : ℕ) where
-  pub bits-same : (k n : ℕ) → ((i : ℕ) → k ≤ i → i < k + n → bit a i ≡ bit b i) → bitsFrom a k n ≡ bitsFrom b k n
-  unfolding bitsFrom
-  bits-same k zero same = refl
-  bits-same k (suc n) same =
-      rw (same k (omega arith) (omega arith), bits-same (suc k) n (λ i l h. same i (omega arith) (omega arith)))
+pub bits-of-zero : bitsOf 0 ≡ []
+unfolding bitsOf rising bit
+bits-of-zero = refl
 
-pub bits-none : (w k n : ℕ) → bitsFrom w k n ≡ [] → (i : ℕ) → k ≤ i → i < k + n → bit w i ≡ false
-unfolding bitsFrom
-bits-none w k zero e i l h = absurd (omega arith)
-bits-none w k (suc n) e i l h = go (bit w k) refl (bits-none w (suc k) n)
-  where
-    go : (t : Bool) → bit w k ≡ t → (bitsFrom w (suc k) n ≡ [] → (i : ℕ) → suc k ≤ i → i < suc k + n → bit w i ≡ false) → bit w i ≡ false
-    go true b rest = let r : k ∷ bitsFrom w (suc k) n ≡ [] = rw b at e in let z : _≡_ {A = ℕ} 0 1 = cc in absurd (omega arith)
-    go false b rest = at (decEq i k)
-      where
-        at : Dec (i ≡ k) → bit w i ≡ false
-        at (yes p) = rw p b
-        at (no p) = rest (rw b at e) i (omega arith) (omega arith)
+pub ones-of-zero : ones 0 ≡ 0
+unfolding ones
+ones-of-zero = rw bits-of-zero
 
--- the first of them
-record First (w k n j : ℕ) (l : List ℕ) : Type 0 where
-  from : k ≤ j
-  below : j < k + n
-  isSet : bit w j ≡ true
-  least : (i : ℕ) → k ≤ i → i < j → bit w i ≡ false
-  rest : bitsFrom (withBit w j false) k n ≡ l
+pub ones-bits : (w : ℕ) → ones w ≡ length (bitsOf w)
+unfolding ones
+ones-bits w = refl
 
-first : (w k n j : ℕ) (l : List ℕ) → bitsFrom w k n ≡ j ∷ l → First w k n j l
-unfolding bitsFrom
-first w k zero j l e = let z : _≡_ {A = ℕ} 0 1 = cc in absurd (omega arith)
-first w k (suc n) j l e = go (bit w k) refl (first w (suc k) n j l)
-  where
-    go : (t : Bool) → bit w k ≡ t → (bitsFrom w (suc k) n ≡ j ∷ l → First w (suc k) n j l) → First w k (suc n) j l
-    go true b later = ?
-    go false b later = ?
+pub ones-le : (w : ℕ) → ones w ≤ 32
+unfolding ones bitsOf
+ones-le w = rising-length (bit w) 0 32
+
+-- a word that is not 0: its lowest bit, and the bits without it
+module _ (w : ℕ) (some : w ≢ 0) (fits : w < 2 ^ 32) where
+  bits-cut : First (bit w) 0 32 (lowest w) (bitsOf (withBit w (lowest w) false)) × (bitsOf w ≡ lowest w ∷ bitsOf (withBit w (lowest w) false))
+  unfolding lowest bitsOf
+  bits-cut = go (rising (bit w) 0 32) refl
+    where
+      cut : ℕ → List ℕ
+      cut k = rising (bit (withBit w k false)) 0 32
+
+      go : (l : List ℕ) → rising (bit w) 0 32 ≡ l → First (bit w) 0 32 (getD l 0 32) (cut (getD l 0 32)) × (rising (bit w) 0 32 ≡ getD l 0 32 ∷ cut (getD l 0 32))
+      go [] e = absurd (some (zero-word 32 w fits (λ k h. rising-none (bit w) 0 32 e k (omega arith) h)))
+      go (j ∷ l) e =
+          let f : First (bit w) 0 32 j l = rising-first (bit w) 0 32 j l e in
+          rw (f .rest (bit (withBit w j false)) (bit-with-same w j false) (bit-with-other w j false)) (f, e)
+
+  pub lowest-lt : lowest w < 32
+  lowest-lt = omega (arith, bits-cut .0 .below)
+
+  pub lowest-set : bit w (lowest w) ≡ true
+  lowest-set = bits-cut .0 .passes
+
+  pub lowest-least : (k : ℕ) → k < lowest w → bit w k ≡ false
+  lowest-least k h = bits-cut .0 .least k (omega arith) h
+
+  pub bits-step : bitsOf w ≡ lowest w ∷ bitsOf (withBit w (lowest w) false)
+  bits-step = bits-cut .1
+
+  pub ones-step : ones w ≡ suc (ones (withBit w (lowest w) false))
+  unfolding ones
+  ones-step = ap length bits-step
+
+  pub cut-lt : withBit w (lowest w) false < w
+  cut-lt = omega (arith, rw lowest-set at (with-sum w (lowest w) false), pow-pos (lowest w))

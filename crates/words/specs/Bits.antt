@@ -1,9 +1,14 @@
 -- Bits of a word of 32 bits, flags in a run of words, and runs of zeros.
-use Prim.Native.Nat.{ℕ, zero, suc, _+_, _-_, _/_, _%_, _^_}
 use mathlib.Core.Bool.{Bool, true, false, cond}
 use mathlib.Core.List.{List, [], _∷_, _++_}
+use Prim.Native.Nat.{ℕ, zero, suc, _+_, _-_, _/_, _%_, _^_}
 use lib.Dec.{eqb}
 use lib.ListN.{length, getD, set, take, drop, replicate}
+
+-- which of the n numbers from k on pass a test, rising
+unfoldable pub rising : (ℕ → Bool) → ℕ → ℕ → List ℕ
+rising p k zero = []
+rising p k (suc n) = cond (p k) (k ∷ []) [] ++ rising p (suc k) n
 
 -- ---- a word
 
@@ -16,14 +21,9 @@ unfoldable pub withBit : ℕ → ℕ → Bool → ℕ
 withBit w k true = cond (bit w k) w (w + 2 ^ k)
 withBit w k false = cond (bit w k) (w - 2 ^ k) w
 
--- which of the n bits from bit k on are set, rising
-unfoldable pub bitsFrom : ℕ → ℕ → ℕ → List ℕ
-bitsFrom w k zero = []
-bitsFrom w k (suc n) = cond (bit w k) (k ∷ []) [] ++ bitsFrom w (suc k) n
-
 -- the set bits of a word, rising
 unfoldable pub bitsOf : ℕ → List ℕ
-bitsOf w = bitsFrom w 0 32
+bitsOf w = rising (bit w) 0 32
 
 -- the lowest set bit; 32 if there is none
 unfoldable pub lowest : ℕ → ℕ
