@@ -1,30 +1,30 @@
 -- A small history whose tables compute and show its ledger, so that no hypothesis of the laws is empty.
-use mathlib.Core.Path.{_≡_, refl, _∙_}
-use mathlib.Core.Bool.{true, false}
+use mathlib.Core.Path.{_≡_, refl}
+use mathlib.Core.Bool.{true}
 use mathlib.Core.List.{List, [], _∷_}
 use Prim.Native.Nat.{ℕ}
 use lib.ListN.{getD, set, replicate}
 use Rattle.meaning.specs.Lists.{all, any, keep, onto, from, upto, sum}
 use Rattle.meaning.specs.Refusal.{firstNo}
-use Rattle.meaning.specs.Ledger.{Settings, Event, Call, opening, add, join, grant, accept, step, ledger, withRows, withMembers, withGrants, putRow, calledFor, listed}
+use Rattle.meaning.specs.Ledger.{Settings, Event, opening, add, join, grant, accept, step, ledger, withRows, withMembers, withGrants, putRow, calledFor, listed}
 use Rattle.meaning.specs.Forest.{blockBytes, forest, forestAfter, eachFrom, totalNodes}
 use Rattle.meaning.specs.Sketch.{distance, inRange, perByte, packedLength, blockLength}
 use Rattle.meaning.specs.Trie.{fresh, addLeaf, insert, nodes}
 use Rattle.meaning.specs.Rights.{samePair, stands, write, openTo}
 use Rattle.meaning.specs.SketchCalls.{sketchLimits}
 use Rattle.meaning.specs.Questions.{inLimits, asked, byLedger}
-use Rattle.words.specs.Bits.{bit, withBit, flag, withFlag}
+use Rattle.words.specs.Bits.{bit, withBit, withFlag}
 use Rattle.layout.specs.Settings.{header, settingsOf, showsOpening}
+use Rattle.layout.specs.Pages.{withPage, withRow}
 use Rattle.layout.specs.Lengths.{nodesLength, pagesLength, sketchesLength, workingLength}
 use Rattle.layout.specs.Working.{mapWords, summaryWords}
 use Rattle.rights.specs.Register.{withMember, withGrant}
-use Rattle.promises.specs.Tables.{Tables, settingsAlone, withSettings}
+use Rattle.promises.specs.Tables.{Tables, withSettings}
 use Rattle.promises.specs.Answers.{longFor, longSettings, longNodes, longPages, longWorking, entered, shown56, number, freeLink, freshSettings, freshChain, freshState, freshNodes, freshPages, opened, registered}
 use Rattle.promises.specs.Calls.{OpenPromise, RightsPromise}
 use Rattle.history.specs.History.{event, admitted, judged}
 use Rattle.history.proofs.Represents.{Represents, number-eq}
-use Rattle.history.proofs.Opening.{leftBy, begins}
-use Rattle.history.proofs.Pages.{withRow}
+use Rattle.history.proofs.Opening.{begins}
 use Rattle.history.proofs.Steps.{Added, joins, grants, adds}
 
 s : Settings
@@ -79,13 +79,13 @@ added-tables : Tables
 added-tables = record {
   settings = third;
   nodes = replicate 52 6;
-  pages = set (set (set (first .pages) 1 1) 4 3) 7 5;
+  pages = set (withPage 3 (first .pages) 1 3) 7 5;
   sketches = withRow 4 (held .sketches) 1 x;
   working = held .working;
 }
 
 added : Added opened-tables added-tables 1 3 x
-unfolding s x held first second third opened-tables added-tables opened freshSettings freshNodes freshChain freshState freshPages nodesLength pagesLength freeLink header onto upto from settingsOf withMember withGrant withFlag withBit bit
+unfolding s x held first second third opened-tables added-tables opened freshSettings freshNodes freshChain freshState freshPages nodesLength pagesLength freeLink header onto upto from settingsOf withPage withRow withMember withGrant withFlag withBit bit
 added = record {
   lengths = record { settings = refl; nodes = refl; pages = refl; sketches = refl; working = refl };
   settings = refl;

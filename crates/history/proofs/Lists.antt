@@ -1,6 +1,6 @@
 -- Laws of tests and of lists of numbers, and of the rows of the live pages among a run of page numbers.
 use mathlib.Core.Path.{_≡_, refl, sym, ap, _∙_, fun-ext}
-use mathlib.Core.Bool.{Bool, true, false, cond, _&&_, _||_, not, and-true, or-false, true≢false}
+use mathlib.Core.Bool.{Bool, true, false, cond, _&&_, not, and-true, or-false, true≢false}
 use mathlib.Core.Logic.{_≢_}
 use mathlib.Core.List.{List, [], _∷_, map}
 use Prim.Native.Nat.{ℕ, zero, suc, _+_, _≤_, _<_}
@@ -9,21 +9,11 @@ use lib.Dec.{ltb, eqb}
 use borrow.Author.Tests.{ltb-true, lt-ltb, le-ltb, eqb-true, eqb-false, eq-eqb, ne-eqb}
 use Rattle.meaning.specs.Lists.{all, any, keep, from, upto}
 use Rattle.meaning.specs.Ledger.{Row, putRow}
+use Rattle.layout.proofs.Tests.{and-left, and-right}
 use Rattle.promises.specs.Tables.{rowsFrom}
 use Rattle.history.specs.History.{rising}
 
 -- ---- tests
-
-pub and-left : (a b : Bool) → a && b ≡ true → a ≡ true
-and-left true b e = refl
-and-left false b e = e
-
-pub and-right : (a b : Bool) → a && b ≡ true → b ≡ true
-and-right true b e = e
-and-right false b e = absurd (true≢false (sym e))
-
-pub and-both : {a b : Bool} → a ≡ true → b ≡ true → a && b ≡ true
-and-both p q = rw p q
 
 -- what stands behind && counts only where the first test passes
 pub and-then : (a : Bool) {b c : Bool} → (a ≡ true → b ≡ c) → a && b ≡ a && c
@@ -65,7 +55,7 @@ above g x k (suc n) h = go (g k) (above g x (suc k) n (omega arith))
     rest = keep g (from (suc k) n)
 
     go : (t : Bool) → all (λ y. ltb x y) rest ≡ true → all (λ y. ltb x y) (cond t (k ∷ rest) rest) ≡ true
-    go true r = and-both (lt-ltb x k h) r
+    go true r = rw (lt-ltb x k h) r
     go false r = r
 
 pub rising-keep : (g : ℕ → Bool) (k n : ℕ) → rising (keep g (from k n)) ≡ true
@@ -77,7 +67,7 @@ rising-keep g k (suc n) = go (g k) (rising-keep g (suc k) n)
     rest = keep g (from (suc k) n)
 
     go : (t : Bool) → rising rest ≡ true → rising (cond t (k ∷ rest) rest) ≡ true
-    go true r = and-both (above g k (suc k) n (omega arith)) r
+    go true r = rw (above g k (suc k) n (omega arith)) r
     go false r = r
 
 -- ---- the rows of the live pages among n from k on

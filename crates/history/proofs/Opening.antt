@@ -1,35 +1,32 @@
 -- An accepted opening makes the invariant, whatever the tables held.
 use mathlib.Core.Path.{_≡_, refl, sym, ap, _∙_}
 use mathlib.Core.Bool.{Bool, true, false, cond, _&&_, not, true≢false}
-use mathlib.Core.List.{List, [], _∷_, _++_, map}
+use mathlib.Core.List.{List, [], _∷_, _++_}
 use Prim.Native.Nat.{ℕ, zero, suc, _+_, _*_, _/_, _%_, _≤_, _<_}
 use native.Mathlib.Nat.{mul-le-mul-right}
 use native.Mathlib.Omega.{arith}
-use lib.Dec.{ltb, leb, eqb}
+use lib.Dec.{leb, eqb}
 use lib.ListN.{length, getD, take, replicate, length-append, length-drop, length-map, length-replicate, getD-replicate, List·getD-append}
-use lib.Seq.{take-at, take-take, take-append-le, getD-append-add}
-use borrow.Author.Tests.{eqb-true, ltb-true, leb-true}
+use lib.Seq.{take-at, take-append-le, getD-append-add}
+use borrow.Author.Tests.{eqb-true, leb-true}
 use Rattle.meaning.specs.Lists.{any, onto, from, upto}
 use Rattle.meaning.specs.Refusal.{firstNo}
-use Rattle.meaning.specs.Rights.{Pair, pair, samePair, stands, write, strike}
-use Rattle.meaning.specs.Trie.{Tree}
-use Rattle.meaning.specs.Ledger.{Settings, Row, Ledger, Call, opening, add, drop, join, leave, grant, revoke, search, show, check, accept, step, withRows, withMembers, withGrants}
-use Rattle.meaning.specs.Questions.{inLimits, asked, byLedger}
-use Rattle.words.specs.Bits.{flag, withFlag}
+use Rattle.meaning.specs.Rights.{stands}
+use Rattle.meaning.specs.Ledger.{Settings, Ledger, opening, accept, step}
+use Rattle.meaning.specs.Questions.{inLimits, asked}
+use Rattle.words.specs.Bits.{flag}
 use Rattle.words.proofs.Bits.{bit-zero}
-use Rattle.words.proofs.Flags.{with-length, take-with}
-use Rattle.layout.specs.Settings.{membersAt, grantsAt, freeAt, header, settingsOf}
-use Rattle.layout.specs.Pages.{isLive, classOf}
+use Rattle.layout.specs.Settings.{settingsLength, membersAt, header}
+use Rattle.layout.specs.Pages.{isLive}
 use Rattle.layout.specs.Lengths.{nodesLength, pagesLength}
-use Rattle.rights.specs.Register.{withMember, withGrant}
-use Rattle.promises.specs.Tables.{Tables, settingsAlone, withSettings, given, pageClass, pageRow, rowsOf}
-use Rattle.promises.specs.Answers.{longFor, longSettings, longNodes, longPages, longWorking, entered, shown56, number, freeLink, freshSettings, freshNodes, freshPages, freshChain, freshState, opened, registered}
-use Rattle.promises.specs.Calls.{OpenPromise, RightsPromise}
-use Rattle.history.specs.History.{event, admitted, judged}
-use Rattle.history.proofs.Lists.{and-left, and-right, passed, rows-none}
-use Rattle.history.proofs.Rights.{Flags, stands-write, stands-strike, flags-put, flags-keep, flags-same}
-use Rattle.history.proofs.Pages.{rowsIn, rows-add, rows-drop, live-add, live-drop, class-add, class-drop}
-use Rattle.history.proofs.Represents.{Represents, AsLong, long-kept, thresholds-64, settings-read, given-eq, number-eq, live-eq}
+use Rattle.layout.proofs.Tests.{and-left, and-right}
+use Rattle.layout.proofs.Limits.{bounds}
+use Rattle.promises.specs.Tables.{Tables, given, rowsOf}
+use Rattle.promises.specs.Answers.{longFor, longSettings, longNodes, longPages, entered, number, freeLink, freshSettings, freshNodes, freshPages, opened}
+use Rattle.promises.specs.Calls.{OpenPromise}
+use Rattle.history.specs.History.{event}
+use Rattle.history.proofs.Lists.{passed, rows-none}
+use Rattle.history.proofs.Represents.{Represents, AsLong, long-kept, settings-read}
 
 onto-length : (xs table : List ℕ) → length xs ≤ length table → length (onto xs table) ≡ length table
 unfolding onto
@@ -49,15 +46,15 @@ zero-word : (n : ℕ) (t : List ℕ) (k : ℕ) → k < n → getD (replicate n 0
 zero-word n t k h = List·getD-append (replicate n 0) t 0 k (rw (length-replicate {A = ℕ} n 0) h) ∙ getD-replicate n k 0 0 h
 
 module _ (s : Settings) (limits : inLimits s ≡ true) where
-  header-length : length (header s) ≡ 70
+  header-length : length (header s) ≡ membersAt
   unfolding header
-  header-length = omega (arith, thresholds-64 s limits)
+  header-length = omega (arith, bounds s limits .count)
 
-  settings-length : length (freshSettings s) ≡ 391
+  settings-length : length (freshSettings s) ≡ settingsLength
   unfolding freshSettings
   settings-length = simp (length-append, header-length)
 
-  settings-word : (k : ℕ) → k < 320 → getD (freshSettings s) (70 + k) 0 ≡ 0
+  settings-word : (k : ℕ) → k < 320 → getD (freshSettings s) (membersAt + k) 0 ≡ 0
   unfolding freshSettings
   settings-word k h = rw (← header-length, getD-append-add (header s) _ k 0) (zero-word 320 (freeLink (s .nodes) (s .blocks) ∷ []) k h)
 
@@ -73,33 +70,33 @@ module _ (s : Settings) (limits : inLimits s ≡ true) where
     as-long : AsLong T (opened s T)
     unfolding opened longSettings longFor longNodes longPages
     as-long =
-        let h : leb 391 (length (T .settings)) ≡ true = Prim.search and-left in
-        let n : leb (nodesLength s) (length (T .nodes)) ≡ true = Prim.search (and-left, and-right) in
-        let p : leb (pagesLength s) (length (T .pages)) ≡ true = Prim.search (and-left, and-right) in
+        let h : leb settingsLength (length (T .settings)) ≡ true = search and-left in
+        let n : leb (nodesLength s) (length (T .nodes)) ≡ true = search (and-left, and-right) in
+        let p : leb (pagesLength s) (length (T .pages)) ≡ true = search (and-left, and-right) in
         record {
-          settings = onto-length (freshSettings s) (T .settings) (omega (arith, settings-length, leb-true 391 (length (T .settings)) h));
+          settings = onto-length (freshSettings s) (T .settings) (omega (arith, settings-length, leb-true settingsLength (length (T .settings)) h));
           nodes = onto-length (freshNodes s) (T .nodes) (omega (arith, nodes-length, leb-true (nodesLength s) (length (T .nodes)) n));
           pages = onto-length (freshPages s) (T .pages) (omega (arith, pages-length, leb-true (pagesLength s) (length (T .pages)) p));
           sketches = refl;
           working = refl;
         }
 
-    no-flag : (base n : ℕ) → base + n / 32 < 320 → flag (opened s T .settings) (70 + base) n ≡ false
+    no-flag : (base n : ℕ) → base + n / 32 < 320 → flag (opened s T .settings) (membersAt + base) n ≡ false
     unfolding opened flag
     no-flag base n h =
-        let e : 70 + base + n / 32 ≡ 70 + (base + n / 32) = omega arith in
-        rw (e, onto-word (freshSettings s) (T .settings) (70 + (base + n / 32)) (omega (arith, settings-length)), settings-word (base + n / 32) h)
+        let e : membersAt + base + n / 32 ≡ membersAt + (base + n / 32) = omega arith in
+        rw (e, onto-word (freshSettings s) (T .settings) (membersAt + (base + n / 32)) (omega (arith, settings-length)), settings-word (base + n / 32) h)
         (bit-zero (n % 32))
 
     no-page : (i : ℕ) → i < s .pages → isLive (opened s T .pages) i ≡ false
     unfolding opened isLive freshPages onto pagesLength
     no-page i h = let l : 1 ≤ 2 + s .blocks = omega arith in rw (zero-word (pagesLength s) _ i (omega (arith, mul-le-mul-right (s .pages) l)))
 
-    beginning : take 70 (opened s T .settings) ≡ header s
+    beginning : take membersAt (opened s T .settings) ≡ header s
     unfolding opened freshSettings onto
     beginning =
-        take-append-le 70 (freshSettings s) _ (omega (arith, settings-length))
-        ∙ take-at (header s) _ 70 header-length
+        take-append-le membersAt (freshSettings s) _ (omega (arith, settings-length))
+        ∙ take-at (header s) _ membersAt header-length
 
     started : (L : Ledger) → Represents (opened s T) (accept (opening s) L)
     unfolding accept stands any rowsOf
@@ -144,9 +141,9 @@ module _ (s : Settings) (T : Tables) (L : Ledger) where
         let z : number T [] (opening s) ≡ 0 = sym (p .answers) ∙ e in
         rw (left-eq, z) (accepted z)
 
-    pub opens-anew : Represents T L → Represents (leftBy T settings nodes pages) (step (event (opening s) n) L)
+    pub reopens : Represents T L → Represents (leftBy T settings nodes pages) (step (event (opening s) n) L)
     unfolding step
-    opens-anew R = rw (left-eq, p .answers) (go (eqb (number T [] (opening s)) 0) refl)
+    reopens R = rw (left-eq, p .answers) (go (eqb (number T [] (opening s)) 0) refl)
       where
         go : (t : Bool) → eqb (number T [] (opening s)) 0 ≡ t → Represents (cond t (opened s T) T) (cond (not t) L (accept (opening s) L))
         go true e = accepted (eqb-true (number T [] (opening s)) 0 e)

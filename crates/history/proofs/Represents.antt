@@ -1,15 +1,14 @@
 -- The tables show the ledger: the invariant of a history, and what the questions read under it.
 use mathlib.Core.Path.{_≡_, refl, sym, ap, _∙_}
 use mathlib.Core.Bool.{Bool, true, _&&_, and-assoc}
-use mathlib.Core.List.{List}
+use mathlib.Core.List.{List, _++_}
 use Prim.Native.Nat.{ℕ, _+_, _*_, _≤_, _<_}
 use native.Mathlib.Nat.{mul-le-mul-right}
 use native.Mathlib.Omega.{arith}
 use lib.Dec.{ltb, leb, eqb}
-use lib.ListN.{length, getD, take, length-map}
+use lib.ListN.{length, take, take-append-drop, length-map}
 use lib.ListN.{drop as skip}
-use lib.Seq.{take-all, take-take, getD-take}
-use borrow.Author.Tests.{eqb-true, ltb-true, leb-true}
+use borrow.Author.Tests.{ltb-true, leb-true}
 use Rattle.meaning.specs.Lists.{any, upto}
 use Rattle.meaning.specs.Refusal.{firstNo}
 use Rattle.meaning.specs.Sketch.{distance}
@@ -17,16 +16,19 @@ use Rattle.meaning.specs.Rights.{openTo}
 use Rattle.meaning.specs.Trie.{Tree}
 use Rattle.meaning.specs.Ledger.{Settings, Row, Ledger, Call, opening, add, drop, join, leave, grant, revoke, search, show, check, calledFor, listed}
 use Rattle.meaning.specs.Questions.{inLimits, asked, byLedger}
-use Rattle.layout.specs.Settings.{mark, membersAt, grantsAt, header, settingsOf, showsOpening}
-use Rattle.layout.specs.Pages.{isLive, classOf, rowOf}
+use Rattle.layout.specs.Settings.{membersAt, grantsAt, header, settingsOf, showsOpening}
+use Rattle.layout.specs.Pages.{isLive, classOf}
 use Rattle.layout.specs.Lengths.{pagesLength, sketchesLength}
+use Rattle.layout.proofs.Tests.{and-left, and-right, and-both}
+use Rattle.layout.proofs.Limits.{bounds}
+use Rattle.layout.proofs.Openings.{settings-header, shows-header}
 use Rattle.rights.specs.Register.{opens}
-use Rattle.promises.specs.Tables.{Tables, given, pageClass, pageRow, isShown, scan, rowsFrom, rowsOf, byTables}
+use Rattle.promises.specs.Tables.{Tables, given, pageClass, pageRow, isShown, scan, rowsOf, byTables}
 use Rattle.promises.specs.Answers.{longFor, longSettings, longNodes, longPages, longWorking, shown56, entered, number}
 use Rattle.history.specs.History.{admitted, judged}
-use Rattle.history.proofs.Lists.{and-left, and-right, and-both, and-then, asks, keep-from, rows-live, rows-any, rows-keep}
+use Rattle.history.proofs.Lists.{and-then, asks, keep-from, rows-live, rows-any, rows-keep}
 use Rattle.history.proofs.Rights.{Flags, opens-eq}
-use Rattle.history.proofs.Pages.{take-drop, rowAt, rowsIn}
+use Rattle.history.proofs.Pages.{rowAt, rowsIn}
 
 pub record Represents (T : Tables) (L : Ledger) : Type 0 where
   pub head : take membersAt (T .settings) ≡ header (L .settings)
@@ -52,31 +54,13 @@ pub long-kept : (s : Settings) (T T′ : Tables) → AsLong T T′ → longSetti
 unfolding longSettings longFor longNodes longPages longWorking
 long-kept s T T′ l h = rw (l .settings, l .nodes, l .pages, l .sketches, l .working) h
 
--- ---- the settings
+-- ---- a table that begins with a header
 
-pub thresholds-64 : (s : Settings) → inLimits s ≡ true → length (s .thresholds) ≡ 64
-unfolding inLimits
-thresholds-64 s h = let e : eqb (length (s .thresholds)) 64 ≡ true = Prim.search (and-left, and-right) in eqb-true (length (s .thresholds)) 64 e
+parted : (s : Settings) (ws : List ℕ) → take membersAt ws ≡ header s → ws ≡ header s ++ skip membersAt ws
+parted s ws e = sym (take-append-drop membersAt ws) ∙ ap (λ h. h ++ skip membersAt ws) e
 
--- they are read off the header
 pub settings-read : (s : Settings) → inLimits s ≡ true → (ws : List ℕ) → take membersAt ws ≡ header s → settingsOf ws ≡ s
-settings-read s limits ws e = first ∙ rw e read
-  where
-    first : settingsOf ws ≡ settingsOf (take 70 ws)
-    first = unfold settingsOf in
-        rw (
-          getD-take 70 ws 1 0 (omega arith),
-          getD-take 70 ws 2 0 (omega arith),
-          getD-take 70 ws 3 0 (omega arith),
-          getD-take 70 ws 4 0 (omega arith),
-          getD-take 70 ws 5 0 (omega arith),
-          take-drop 6 64 ws,
-          take-drop 6 64 (take 70 ws),
-          take-take 70 70 ws (omega arith),
-        )
-
-    read : settingsOf (header s) ≡ s
-    read = unfold settingsOf header in rw (take-all 64 (s .thresholds) (omega (arith, thresholds-64 s limits)))
+settings-read s limits ws e = ap settingsOf (parted s ws e) ∙ settings-header s (skip membersAt ws) (bounds s limits .count)
 
 -- ---- under the invariant
 
@@ -118,13 +102,13 @@ module _ (T : Tables) (L : Ledger) (R : Represents T L) where
       leb-true (sketchesLength (L .settings)) (length (T .sketches)) (and-right (leb (pagesLength (L .settings)) (length (T .pages))) _ (long-for (show 0 0)))
 
   pub shows-opening : showsOpening (T .settings) ≡ true
-  unfolding showsOpening header
   shows-opening =
-      let m : getD (T .settings) 0 0 ≡ mark = sym (getD-take 70 (T .settings) 0 0 (omega arith)) ∙ rw (R .head) in
-      rw (m, given-eq, R .limits)
+      ap showsOpening (parted (L .settings) (T .settings) (R .head))
+      ∙ shows-header (L .settings) (skip membersAt (T .settings)) (bounds (L .settings) (R .limits) .count)
+      ∙ R .limits
 
   pub shown-6 : (c : Call) → showsOpening (T .settings) && longFor (given T) T c ≡ true
-  shown-6 c = rw (given-eq) (and-both shows-opening (long-for c))
+  shown-6 c = rw (given-eq) (and-both (showsOpening (T .settings)) (longFor (L .settings) T c) shows-opening (long-for c))
 
   -- ---- what 9, 12 and 13 read
   pub rows-eq : L .rows ≡ rowsIn (L .settings .pages) (L .settings .symbols) (T .pages) (T .sketches)

@@ -4,7 +4,6 @@ use mathlib.Core.Bool.{Bool, true, false, cond, _&&_, _||_, not}
 use mathlib.Core.Logic.{_≢_}
 use mathlib.Core.List.{List, [], _∷_}
 use Prim.Native.Nat.{ℕ, _+_, _*_, _/_, _%_, _<_}
-use native.Mathlib.Omega.{arith}
 use lib.Dec.{eqb}
 use lib.Arith.{digits-div, digits-mod}
 use lib.ListN.{length, take}
@@ -12,10 +11,11 @@ use borrow.Author.Tests.{eqb-true, eqb-false, eq-eqb, ne-eqb, lt-ltb}
 use Rattle.meaning.specs.Lists.{any, keep}
 use Rattle.meaning.specs.Rights.{Pair, pair, samePair, stands, write, strike, openTo}
 use Rattle.words.specs.Bits.{flag, withFlag}
-use Rattle.words.proofs.Flags.{flag-take, flag-with-same, flag-with-other, flag-with-apart}
+use Rattle.words.proofs.Flags.{flag-take, flag-with, flag-with-apart}
 use Rattle.layout.specs.Settings.{membersAt, grantsAt}
+use Rattle.layout.proofs.Tests.{and-left, and-right}
 use Rattle.rights.specs.Register.{isMember, isGranted, opens}
-use Rattle.history.proofs.Lists.{and-left, and-right, any-upto}
+use Rattle.history.proofs.Lists.{any-upto}
 
 -- ---- pairs
 
@@ -67,13 +67,6 @@ number-pair w a b a′ b′ h h′ = go (eqb a a′) refl (eqb b b′) refl
     go true e true d = eq-eqb (a * w + b) (a′ * w + b′) (rw (eqb-true a a′ e, eqb-true b b′ d))
     go true e false d = ne-eqb (a * w + b) (a′ * w + b′) (λ q. eqb-false b b′ d (sym (digits-mod a h) ∙ ap (λ (n : ℕ). n % w) q ∙ digits-mod a′ h′))
     go false e t d = ne-eqb (a * w + b) (a′ * w + b′) (λ q. eqb-false a a′ e (sym (digits-div a h) ∙ ap (λ (n : ℕ). n / w) q ∙ digits-div a′ h′))
-
-flag-with : (ws : List ℕ) (base n : ℕ) (v : Bool) → base + n / 32 < length ws → (k : ℕ) → flag (withFlag ws base n v) base k ≡ cond (eqb k n) v (flag ws base k)
-flag-with ws base n v h k = go (eqb k n) refl
-  where
-    go : (t : Bool) → eqb k n ≡ t → flag (withFlag ws base n v) base k ≡ cond t v (flag ws base k)
-    go true e = rw (eqb-true k n e) (flag-with-same ws base n v h)
-    go false e = flag-with-other ws base n v k (eqb-false k n e)
 
 -- after a write to one of these flags, and after a write to another word
 module _ (ws : List ℕ) (base rows w : ℕ) (ps : List Pair) (f : Flags ws base rows w ps) where

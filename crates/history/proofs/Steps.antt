@@ -1,48 +1,46 @@
 -- Each call keeps the invariant: what it leaves shows the ledger after its step.
-use mathlib.Core.Path.{_≡_, refl, sym, ap, _∙_}
+use mathlib.Core.Path.{_≡_, refl, sym, _∙_}
 use mathlib.Core.Bool.{Bool, true, false, cond, _&&_, not, true≢false}
 use mathlib.Core.List.{List, []}
-use Prim.Native.Nat.{ℕ, _+_, _*_, _/_, _≤_, _<_}
-use native.Mathlib.Nat.{mul-le-mul-right}
+use Prim.Native.Nat.{ℕ, _+_, _*_, _≤_, _<_}
 use native.Mathlib.Omega.{arith}
-use lib.Dec.{ltb, leb, eqb}
-use lib.ListN.{length, take, set}
+use lib.Dec.{ltb, eqb}
+use lib.ListN.{length, take}
 use lib.Seq.{take-take}
 use borrow.Author.Tests.{eqb-true, ltb-true, leb-true, not-true}
 use Rattle.meaning.specs.Lists.{any, keep}
 use Rattle.meaning.specs.Refusal.{firstNo}
-use Rattle.meaning.specs.Rights.{Pair, pair, samePair, stands, write, strike}
-use Rattle.meaning.specs.Sketch.{inRange}
+use Rattle.meaning.specs.Rights.{Pair, pair, samePair, stands}
 use Rattle.meaning.specs.Trie.{Tree}
-use Rattle.meaning.specs.Ledger.{Settings, Row, Ledger, Call, opening, add, drop, join, leave, grant, revoke, search, show, check, accept, step, withRows, withMembers, withGrants, putRow}
+use Rattle.meaning.specs.Ledger.{Row, Ledger, Call, add, drop, join, leave, grant, revoke, accept, step, withRows, withMembers, withGrants, putRow}
 use Rattle.meaning.specs.Questions.{asked, byLedger}
 use Rattle.words.specs.Bits.{withFlag}
-use Rattle.words.proofs.Flags.{with-length, take-with}
-use Rattle.layout.specs.Settings.{membersAt, grantsAt, freeAt}
-use Rattle.layout.specs.Pages.{isLive, classOf}
-use Rattle.layout.specs.Lengths.{pagesLength, sketchesLength}
+use Rattle.words.proofs.Flags.{length-with, take-with}
+use Rattle.layout.specs.Settings.{settingsLength, membersAt, grantsAt, freeAt}
+use Rattle.layout.specs.Pages.{isLive, classOf, withRow, withPage, withoutPage}
+use Rattle.layout.proofs.Tests.{and-left, and-right}
+use Rattle.layout.proofs.Rows.{row-inside, row-same, row-other}
 use Rattle.rights.specs.Register.{withMember, withGrant}
 use Rattle.promises.specs.Tables.{Tables, settingsAlone, withSettings, given, pageClass, pageRow, rowsOf}
-use Rattle.promises.specs.Answers.{longFor, longSettings, longPages, entered, shown56, number, registered}
+use Rattle.promises.specs.Answers.{longFor, longSettings, entered, shown56, number, registered}
 use Rattle.promises.specs.Calls.{RightsPromise}
 use Rattle.history.specs.History.{event, admitted, judged}
-use Rattle.history.proofs.Lists.{and-left, and-right, passed}
+use Rattle.history.proofs.Lists.{passed}
 use Rattle.history.proofs.Rights.{Flags, stands-write, stands-strike, flags-put, flags-keep, flags-same}
-use Rattle.history.proofs.Pages.{withRow, row-same, row-other, rowsIn, rows-add, rows-drop, live-add, live-drop, class-add, class-drop}
+use Rattle.history.proofs.Pages.{rowsIn, rows-add, rows-drop, live-add, live-drop, class-add, class-drop}
 use Rattle.history.proofs.Represents.{Represents, AsLong, long-kept, settings-read, given-eq, long-settings, long-pages, long-sketches, rows-eq, live-eq, number-eq}
 
--- ---- what an accepted add and drop leave, their tries apart: the tables as long, and all but the free link of the settings
-
+-- what an accepted add or drop leaves, its tries apart: the tables as long, and of the settings all but the free link
 pub record Added (T T′ : Tables) (p c : ℕ) (x : List ℕ) : Type 0 where
   pub lengths : AsLong T T′
   pub settings : take freeAt (T′ .settings) ≡ take freeAt (T .settings)
-  pub pages : take (2 * given T .pages) (T′ .pages) ≡ set (set (take (2 * given T .pages) (T .pages)) p 1) (given T .pages + p) c
+  pub pages : take (2 * given T .pages) (T′ .pages) ≡ take (2 * given T .pages) (withPage (given T .pages) (T .pages) p c)
   pub sketches : T′ .sketches ≡ withRow (given T .symbols) (T .sketches) p x
 
 pub record Dropped (T T′ : Tables) (p : ℕ) : Type 0 where
   pub lengths : AsLong T T′
   pub settings : take freeAt (T′ .settings) ≡ take freeAt (T .settings)
-  pub pages : take (2 * given T .pages) (T′ .pages) ≡ set (take (2 * given T .pages) (T .pages)) p 0
+  pub pages : take (2 * given T .pages) (T′ .pages) ≡ take (2 * given T .pages) (withoutPage (T .pages) p)
   pub sketches : T′ .sketches ≡ T .sketches
 
 unless : (t : Bool) {b : Bool} → cond t false b ≡ true → b ≡ true
@@ -53,7 +51,7 @@ below : (t : Bool) {b : Bool} {c d : ℕ} → c < 64 → (b ≡ true → d < 64)
 below true h k e = h
 below false h k e = k e
 
-abbrev withWorking : Tables → List ℕ → Tables
+abbrev pub withWorking : Tables → List ℕ → Tables
 withWorking T ws = record { settings = T .settings; nodes = T .nodes; pages = T .pages; sketches = T .sketches; working = ws }
 
 module _ (T : Tables) (L : Ledger) (R : Represents T L) where
@@ -80,31 +78,34 @@ module _ (T : Tables) (L : Ledger) (R : Represents T L) where
       → Represents (withSettings T (withFlag (T .settings) base n v)) (record { settings = L .settings; rows = L .rows; members = M; grants = G })
   flagged base n v M G h m g =
       kept (withSettings T (withFlag (T .settings) base n v)) (L .rows) M G
-      (record { settings = with-length (T .settings) base n v; nodes = refl; pages = refl; sketches = refl; working = refl })
-      (take-with (T .settings) base n v 70 (omega arith)) m g (rows-eq T L R) (R .classes)
+      (record { settings = length-with (T .settings) base n v; nodes = refl; pages = refl; sketches = refl; working = refl })
+      (take-with (T .settings) base n v membersAt (omega arith)) m g (rows-eq T L R) (R .classes)
 
-  inside : 391 ≤ length (T .settings)
+  inside : settingsLength ≤ length (T .settings)
   unfolding longSettings
-  inside = leb-true 391 (length (T .settings)) (long-settings T L R)
+  inside = leb-true settingsLength (length (T .settings)) (long-settings T L R)
 
-  memberships : (r g : ℕ) (v : Bool) (M : List Pair) → ltb r 256 && ltb g 32 ≡ true
+  -- a pair written or struck, past 7
+  member-set : (r g : ℕ) (v : Bool) (M : List Pair) → cond {A = ℕ} (ltb r 256 && ltb g 32) 0 7 ≡ 0
       → ((p : Pair) → stands p M ≡ cond (samePair p (pair r g)) v (stands p (L .members)))
       → Represents (withSettings T (withMember (T .settings) r g v)) (withMembers L M)
   unfolding withMember withMembers
-  memberships r g v M h e =
-      let hr : r < 256 = ltb-true r 256 (and-left (ltb r 256) (ltb g 32) h) in
-      let hg : g < 32 = ltb-true g 32 (and-right (ltb r 256) (ltb g 32) h) in
+  member-set r g v M h e =
+      let h7 = passed 7 (ltb r 256 && ltb g 32) 0 (omega arith) h .0 in
+      let hr : r < 256 = ltb-true r 256 (and-left (ltb r 256) (ltb g 32) h7) in
+      let hg : g < 32 = ltb-true g 32 (and-right (ltb r 256) (ltb g 32) h7) in
       flagged membersAt (r * 32 + g) v M (L .grants) (omega arith)
       (flags-put (T .settings) membersAt 256 32 (L .members) (R .members) M r g v hg (omega (arith, inside)) e)
       (flags-keep (T .settings) grantsAt 32 64 (L .grants) (R .grants) membersAt (r * 32 + g) v (λ c d hc hd. omega arith))
 
-  licences : (g c : ℕ) (v : Bool) (G : List Pair) → ltb g 32 && ltb c 64 ≡ true
+  grant-set : (g c : ℕ) (v : Bool) (G : List Pair) → cond {A = ℕ} (ltb g 32 && ltb c 64) 0 7 ≡ 0
       → ((p : Pair) → stands p G ≡ cond (samePair p (pair g c)) v (stands p (L .grants)))
       → Represents (withSettings T (withGrant (T .settings) g c v)) (withGrants L G)
   unfolding withGrant withGrants
-  licences g c v G h e =
-      let hg : g < 32 = ltb-true g 32 (and-left (ltb g 32) (ltb c 64) h) in
-      let hc : c < 64 = ltb-true c 64 (and-right (ltb g 32) (ltb c 64) h) in
+  grant-set g c v G h e =
+      let h7 = passed 7 (ltb g 32 && ltb c 64) 0 (omega arith) h .0 in
+      let hg : g < 32 = ltb-true g 32 (and-left (ltb g 32) (ltb c 64) h7) in
+      let hc : c < 64 = ltb-true c 64 (and-right (ltb g 32) (ltb c 64) h7) in
       flagged grantsAt (g * 64 + c) v (L .members) G (omega arith)
       (flags-keep (T .settings) membersAt 256 32 (L .members) (R .members) grantsAt (g * 64 + c) v (λ a b ha hb. omega arith))
       (flags-put (T .settings) grantsAt 32 64 (L .grants) (R .grants) G g c v hc (omega (arith, inside)) e)
@@ -123,19 +124,19 @@ module _ (T : Tables) (L : Ledger) (R : Represents T L) where
   module _ (n : ℕ) (ws : List ℕ) where
     pub joins : (r g : ℕ) → RightsPromise (join r g) (T .settings) n ws → Represents (withSettings T ws) (step (event (join r g) n) L)
     unfolding number entered shown56 longSettings longFor asked judged admitted firstNo registered accept
-    joins r g = registers (join r g) refl (λ e. memberships r g true _ (passed 7 (ltb r 256 && ltb g 32) 0 (omega arith) e .0) (stands-write (pair r g) (L .members))) n ws
+    joins r g = registers (join r g) refl (λ e. member-set r g true _ e (stands-write (pair r g) (L .members))) n ws
 
     pub leaves : (r g : ℕ) → RightsPromise (leave r g) (T .settings) n ws → Represents (withSettings T ws) (step (event (leave r g) n) L)
     unfolding number entered shown56 longSettings longFor asked judged admitted firstNo registered accept
-    leaves r g = registers (leave r g) refl (λ e. memberships r g false _ (passed 7 (ltb r 256 && ltb g 32) 0 (omega arith) e .0) (stands-strike (pair r g) (L .members))) n ws
+    leaves r g = registers (leave r g) refl (λ e. member-set r g false _ e (stands-strike (pair r g) (L .members))) n ws
 
     pub grants : (g c : ℕ) → RightsPromise (grant g c) (T .settings) n ws → Represents (withSettings T ws) (step (event (grant g c) n) L)
     unfolding number entered shown56 longSettings longFor asked judged admitted firstNo registered accept
-    grants g c = registers (grant g c) refl (λ e. licences g c true _ (passed 7 (ltb g 32 && ltb c 64) 0 (omega arith) e .0) (stands-write (pair g c) (L .grants))) n ws
+    grants g c = registers (grant g c) refl (λ e. grant-set g c true _ e (stands-write (pair g c) (L .grants))) n ws
 
     pub revokes : (g c : ℕ) → RightsPromise (revoke g c) (T .settings) n ws → Represents (withSettings T ws) (step (event (revoke g c) n) L)
     unfolding number entered shown56 longSettings longFor asked judged admitted firstNo registered accept
-    revokes g c = registers (revoke g c) refl (λ e. licences g c false _ (passed 7 (ltb g 32 && ltb c 64) 0 (omega arith) e .0) (stands-strike (pair g c) (L .grants))) n ws
+    revokes g c = registers (revoke g c) refl (λ e. grant-set g c false _ e (stands-strike (pair g c) (L .grants))) n ws
 
   -- ---- show, search, check: the ledger stays, and of the tables only the working table may change
   pub works : (ws : List ℕ) → length ws ≡ length (T .working) → Represents (withWorking T ws) L
@@ -165,16 +166,16 @@ module _ (T : Tables) (L : Ledger) (R : Represents T L) where
   unfolding withRows
   grown T′ l h rows =
       kept T′ rows (L .members) (L .grants) l
-      (sym (take-take 70 390 (T′ .settings) (omega arith)) ∙ rw h (take-take 70 390 (T .settings) (omega arith)))
-      (flags-same (T .settings) membersAt 256 32 (L .members) (R .members) 390 (T′ .settings) h (λ a b ha hb. omega arith))
-      (flags-same (T .settings) grantsAt 32 64 (L .grants) (R .grants) 390 (T′ .settings) h (λ a b ha hb. omega arith))
+      (sym (take-take membersAt freeAt (T′ .settings) (omega arith)) ∙ rw h (take-take membersAt freeAt (T .settings) (omega arith)))
+      (flags-same (T .settings) membersAt 256 32 (L .members) (R .members) freeAt (T′ .settings) h (λ a b ha hb. omega arith))
+      (flags-same (T .settings) grantsAt 32 64 (L .grants) (R .grants) freeAt (T′ .settings) h (λ a b ha hb. omega arith))
 
   pub drops : (T′ : Tables) (F : List Tree) (p : ℕ) → Dropped T T′ p → number T F (drop p) ≡ 0 → Represents T′ (accept (drop p) L)
   unfolding judged admitted asked byLedger firstNo accept
   drops T′ F p d e =
       let h8 = passed 8 (ltb p P) _ (omega arith) (sym (number-eq T L R F (drop p)) ∙ e) in
       let hp : p < P = ltb-true p P (h8 .0) in
-      let struck : take (2 * P) (T′ .pages) ≡ set (take (2 * P) (T .pages)) p 0 = rw (given-eq T L R) at (d .pages) in
+      let struck : take (2 * P) (T′ .pages) ≡ take (2 * P) (withoutPage (T .pages) p) = rw (given-eq T L R) at (d .pages) in
       grown T′ (d .lengths) (d .settings) (keep (λ r. not (eqb (r .page) p)) (L .rows))
       (rw (rows-eq T L R, d .sketches) (rows-drop P (T .pages) (T′ .pages) p hp (long-pages T L R) m (T .sketches) (T .sketches) struck (λ i hi. refl)))
       (λ i hi v.
@@ -191,13 +192,13 @@ module _ (T : Tables) (L : Ledger) (R : Represents T L) where
       let hp : p < P = ltb-true p P (h8 .0) in
       let free : isLive (T .pages) p ≡ false = live-eq T L R p hp ∙ not-true _ (h9 .0) in
       let whole : length x ≡ m = eqb-true (length x) m (h10 .0) in
-      let fits : p * m + m ≤ length (T .sketches) = omega (arith, long-sketches T L R, mul-le-mul-right m hp) in
-      let written : take (2 * P) (T′ .pages) ≡ set (set (take (2 * P) (T .pages)) p 1) (P + p) c = rw (given-eq T L R) at (d .pages) in
+      let fits : p * m + m ≤ length (T .sketches) = row-inside m P (length (T .sketches)) hp (long-sketches T L R) in
+      let written : take (2 * P) (T′ .pages) ≡ take (2 * P) (withPage P (T .pages) p c) = rw (given-eq T L R) at (d .pages) in
       let over : T′ .sketches ≡ withRow m (T .sketches) p x = rw (given-eq T L R) at (d .sketches) in
       grown T′ (d .lengths) (d .settings) (putRow (record { page = p; class = c; sketch = x }) (L .rows))
       (rw (rows-eq T L R, over)
       (rows-add P (T .pages) (T′ .pages) p hp (long-pages T L R) m (T .sketches) (withRow m (T .sketches) p x) c x free written
-      (row-same m (T .sketches) p x whole fits) (λ i hi. row-other m (T .sketches) p x whole fits i)))
+      (row-same m (T .sketches) p fits x whole) (λ i hi. row-other m (T .sketches) p fits x whole i)))
       (λ i hi v.
       rw (class-add P (T .pages) (T′ .pages) p hp (long-pages T L R) c written i hi)
       (below (eqb i p) (ltb-true c 64 (h7 .0)) (R .classes i hi) (sym (live-add P (T .pages) (T′ .pages) p hp (long-pages T L R) c written i hi) ∙ v)))
