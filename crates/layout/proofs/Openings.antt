@@ -7,7 +7,7 @@ use mathlib.Core.List.{List, [], _∷_, _++_}
 use borrow.Author.Tests.{le-leb, leb-true}
 use lib.Dec.{leb, eqb}
 use lib.ListN.{length, getD, set, take, drop, length-set, length-take, length-drop}
-use lib.Seq.{take-at, take-set-le, take-take, getD-take}
+use lib.Seq.{take-at, take-set-le, take-take, getD-take, sets, sets-eq, paste, take-all, drop-drop}
 use Rattle.meaning.specs.Lists.{all}
 use Rattle.meaning.specs.Refusal.{Question, ask, firstNo}
 use Rattle.meaning.specs.Ledger.{Settings}
@@ -15,8 +15,8 @@ use Rattle.meaning.specs.Questions.{inLimits}
 use Rattle.layout.specs.declared.Header.{Header}
 use Rattle.layout.specs.declared.Opening.{Opening}
 use Rattle.layout.specs.declared.Opening.the-variants.{Shown, Refused}
-use Rattle.layout.specs.Settings.{mark, settingsLength, header, settingsOf, showsOpening}
-use Rattle.layout.specs.Header.{headerOf, openingOf, pick, tablesFirst}
+use Rattle.layout.specs.Settings.{mark, settingsLength, header, settingsOf, showsOpening, withHeader}
+use Rattle.layout.specs.Header.{headerOf, withThresholds, openingOf, pick, tablesFirst}
 use Rattle.layout.specs.Limits.{HeaderLimits, Bounds}
 use Rattle.layout.proofs.Parts.{drop-take}
 use Rattle.layout.proofs.Tests.{and-left, and-right}
@@ -39,6 +39,17 @@ module _ (s : Settings) (rest : List ℕ) (count : length (s .thresholds) ≡ 64
   pub shows-header : showsOpening (header s ++ rest) ≡ inLimits s
   unfolding showsOpening header
   shows-header = rw settings-header
+
+-- ---- a written header
+module _ (ws : List ℕ) (h : Header) (ts : List ℕ) (long : 70 ≤ length ws) (count : length ts ≡ 64) where
+  abbrev six : List ℕ
+  six = mark ∷ h .b ∷ h .m ∷ h .q ∷ h .pages ∷ h .nodes ∷ []
+
+  pub header-written : paste (sets ws 0 six) 6 ts 64 ≡ withHeader ws (withThresholds h ts)
+  unfolding withHeader header
+  header-written =
+      ap (λ l. paste l 6 ts 64) (sets-eq six ws 0 (omega arith))
+      ∙ rw (take-all 64 ts (omega arith), drop-drop 64 6 ws)
 
 -- ---- the test of a table, as the code makes it
 module _ (ws : List ℕ) (long : 70 ≤ length ws) where

@@ -1,0 +1,60 @@
+-- What the ledger is told of a call, how it judges the questions, and what a search gives after a history (document 01, "The ledger").
+use mathlib.Core.Path.{_≡_}
+use Prim.Native.Nat.{ℕ, _≤_, _<_}
+use mathlib.Core.Bool.{Bool, true, cond, _&&_, not}
+use mathlib.Core.List.{List, [], _∷_, _++_}
+use lib.Dec.{ltb, leb, eqb}
+use lib.ListN.{length}
+use Rattle.meaning.specs.Lists.{all, any, onto}
+use Rattle.meaning.specs.Refusal.{Question, firstNo}
+use Rattle.meaning.specs.Sketch.{inRange}
+use Rattle.meaning.specs.Trie.{Tree}
+use Rattle.meaning.specs.Ledger.{Ledger, Event, Call, opening, add, drop, join, leave, grant, revoke, search, show, check, calledFor, listed}
+use Rattle.meaning.specs.Questions.{asked, byLedger}
+use Rattle.promises.specs.Tables.{Tables}
+use Rattle.promises.specs.Answers.{entered}
+
+-- a call that gave this number
+abbrev pub event : Call → ℕ → Event
+event c n = record { call = c; refused = not (eqb n 0) }
+
+-- 4 and 5 of an opening go by its arguments and the tables' lengths; every other call passes 5 and 6
+unfoldable pub admitted : Tables → Call → List Question
+admitted T (opening s) = entered T (opening s)
+admitted T (add p c x) = []
+admitted T (drop p) = []
+admitted T (join r g) = []
+admitted T (leave r g) = []
+admitted T (grant g c) = []
+admitted T (revoke g c) = []
+admitted T (search r d x o) = []
+admitted T (show r p) = []
+admitted T check = []
+
+-- the number of the first "no", as the ledger and the tries of demand 2 have it; 0 where there is none
+unfoldable pub judged : Tables → Ledger → List Tree → Call → ℕ
+judged T L F c = firstNo (admitted T c ++ asked (byLedger L F) c)
+
+-- a search passes 7, 10 and 11
+pub record RightlyPut (L : Ledger) (reader radius : ℕ) (x : List ℕ) : Type 0 where
+  pub reads : reader < 256
+  pub near : radius ≤ 64
+  pub whole : length x ≡ L .settings .symbols
+  pub symbols : inRange (L .settings .bits) x ≡ true
+
+-- what a search rightly put gives: number, count and output
+pub record Found (L : Ledger) (reader radius : ℕ) (x before : List ℕ) (number count : ℕ) (after : List ℕ) : Type 0 where
+  -- refused exactly when the output has fewer places than there are rows called for
+  pub refusal : number ≡ cond (leb (length (calledFor L reader radius x)) (length before)) 0 13
+  pub rows : count ≡ length (calledFor L reader radius x)
+  pub output : after ≡ cond (leb (length (calledFor L reader radius x)) (length before)) (onto (listed L reader radius x) before) before
+
+-- each number is below all that follow it
+unfoldable pub rising : List ℕ → Bool
+rising [] = true
+rising (x ∷ xs) = all (λ y. ltb x y) xs && rising xs
+
+-- the rows called for have the same page numbers
+abbrev pub Agree : Ledger → Ledger → ℕ → ℕ → List ℕ → Type 0
+Agree L M reader radius x =
+    (p : ℕ) → any (λ r. eqb (r .page) p) (calledFor L reader radius x) ≡ any (λ r. eqb (r .page) p) (calledFor M reader radius x)
