@@ -10,6 +10,7 @@ ghost use Rattle.rights.specs.Open.{openClasses, isOpen};
 
 // Where the memberships and the grants begin.
 const MEMBERS: usize = 70;
+
 const GRANTS: usize = 326;
 
 // Makes the reader a member of the group.
