@@ -7,18 +7,19 @@ use Prim.Native.Nat.{ℕ, _+_, _*_, _/_, _%_, _≤_, _<_}
 use native.Mathlib.Omega.{arith}
 use lib.Dec.{ltb, eqb}
 use lib.Arith.{digits-div, digits-mod}
-use lib.ListN.{length, take, drop}
+use lib.ListN.{length, getD, take, drop}
 use borrow.Author.Tests.{ltb-true, le-ltb, eqb-true, eqb-false, eq-eqb, ne-eqb}
 use Rattle.meaning.specs.Lists.{any, upto}
 use Rattle.meaning.specs.Rights.{pair, samePair}
 use Rattle.words.specs.Bits.{flag, withFlag}
-use Rattle.words.proofs.Flags.{with-length, flag-take, flag-with-same, flag-with-other, flag-with-apart, take-with, drop-with}
+use Rattle.words.proofs.Flags.{with-length, with-word-other, flag-take, flag-with-same, flag-with-other, flag-with-apart, take-with, drop-with}
 use Rattle.layout.specs.Settings.{settingsLength, membersAt, grantsAt, freeAt}
 use Rattle.rights.specs.Register.{isMember, isGranted, withMember, withGrant, opens}
 use Rattle.rights.proofs.Any.{any-upto}
 
 -- ---- a flag by its row and its place in the row, w places a row
 
+-- two flags are the same where their pairs are
 number-pair : (w a b a′ b′ : ℕ) → b < w → b′ < w → eqb (a * w + b) (a′ * w + b′) ≡ samePair (pair a b) (pair a′ b′)
 unfolding samePair
 number-pair w a b a′ b′ h h′ = go (eqb a a′) refl (eqb b b′) refl
@@ -28,6 +29,7 @@ number-pair w a b a′ b′ h h′ = go (eqb a a′) refl (eqb b b′) refl
     go true e false d = ne-eqb (a * w + b) (a′ * w + b′) (λ q. eqb-false b b′ d (sym (digits-mod a h) ∙ ap (λ (n : ℕ). n % w) q ∙ digits-mod a′ h′))
     go false e t d = ne-eqb (a * w + b) (a′ * w + b′) (λ q. eqb-false a a′ e (sym (digits-div a h) ∙ ap (λ (n : ℕ). n / w) q ∙ digits-div a′ h′))
 
+-- after a write
 pub flag-put : (ws : List ℕ) (base w a b : ℕ) (v : Bool) (c d : ℕ) → b < w → d < w → base + (a * w + b) / 32 < length ws
     → flag (withFlag ws base (a * w + b) v) base (c * w + d) ≡ cond (samePair (pair c d) (pair a b)) v (flag ws base (c * w + d))
 flag-put ws base w a b v c d h h′ l = rw (← number-pair w c d a b h′ h) (go (eqb (c * w + d) (a * w + b)) refl)
@@ -47,9 +49,14 @@ module _ (ws : List ℕ) (r g : ℕ) (v : Bool) where
   member-header = take-with ws membersAt (r * 32 + g) v membersAt (omega arith)
 
   module _ (hr : r < 256) (hg : g < 32) where
-    pub member-free : drop freeAt (withMember ws r g v) ≡ drop freeAt ws
-    member-free = drop-with ws membersAt (r * 32 + g) v freeAt (omega arith)
+    -- the free link, and all words from it on
+    pub member-free : getD (withMember ws r g v) freeAt 0 ≡ getD ws freeAt 0
+    member-free = with-word-other ws membersAt (r * 32 + g) v freeAt (λ e. omega arith)
 
+    pub member-rest : drop freeAt (withMember ws r g v) ≡ drop freeAt ws
+    member-rest = drop-with ws membersAt (r * 32 + g) v freeAt (omega arith)
+
+    -- the memberships and the grants
     pub member-member : settingsLength ≤ length ws → (r′ g′ : ℕ) → g′ < 32
         → isMember (withMember ws r g v) r′ g′ ≡ cond (samePair (pair r′ g′) (pair r g)) v (isMember ws r′ g′)
     unfolding isMember
@@ -69,8 +76,11 @@ module _ (ws : List ℕ) (g c : ℕ) (v : Bool) where
   grant-header = take-with ws grantsAt (g * 64 + c) v membersAt (omega arith)
 
   module _ (hg : g < 32) (hc : c < 64) where
-    pub grant-free : drop freeAt (withGrant ws g c v) ≡ drop freeAt ws
-    grant-free = drop-with ws grantsAt (g * 64 + c) v freeAt (omega arith)
+    pub grant-free : getD (withGrant ws g c v) freeAt 0 ≡ getD ws freeAt 0
+    grant-free = with-word-other ws grantsAt (g * 64 + c) v freeAt (λ e. omega arith)
+
+    pub grant-rest : drop freeAt (withGrant ws g c v) ≡ drop freeAt ws
+    grant-rest = drop-with ws grantsAt (g * 64 + c) v freeAt (omega arith)
 
     pub grant-grant : settingsLength ≤ length ws → (g′ c′ : ℕ) → c′ < 64
         → isGranted (withGrant ws g c v) g′ c′ ≡ cond (samePair (pair g′ c′) (pair g c)) v (isGranted ws g′ c′)
