@@ -12,7 +12,7 @@ use borrow.Author.Tests.{ltb-true, le-ltb, eqb-true, eqb-false, eq-eqb, ne-eqb}
 use Rattle.meaning.specs.Lists.{any, upto}
 use Rattle.meaning.specs.Rights.{pair, samePair}
 use Rattle.words.specs.Bits.{flag, withFlag}
-use Rattle.words.proofs.Flags.{with-length, with-word-other, flag-take, flag-with-same, flag-with-other, flag-with-apart, take-with, drop-with}
+use Rattle.words.proofs.Flags.{length-with, word-with-other, flag-take, flag-with, flag-with-apart, take-with, drop-with, with-flag-again}
 use Rattle.layout.specs.Settings.{settingsLength, membersAt, grantsAt, freeAt}
 use Rattle.rights.specs.Register.{isMember, isGranted, withMember, withGrant, opens}
 use Rattle.rights.proofs.Any.{any-upto}
@@ -32,26 +32,25 @@ number-pair w a b a′ b′ h h′ = go (eqb a a′) refl (eqb b b′) refl
 -- after a write
 pub flag-put : (ws : List ℕ) (base w a b : ℕ) (v : Bool) (c d : ℕ) → b < w → d < w → base + (a * w + b) / 32 < length ws
     → flag (withFlag ws base (a * w + b) v) base (c * w + d) ≡ cond (samePair (pair c d) (pair a b)) v (flag ws base (c * w + d))
-flag-put ws base w a b v c d h h′ l = rw (← number-pair w c d a b h′ h) (go (eqb (c * w + d) (a * w + b)) refl)
-  where
-    go : (t : Bool) → eqb (c * w + d) (a * w + b) ≡ t
-        → flag (withFlag ws base (a * w + b) v) base (c * w + d) ≡ cond t v (flag ws base (c * w + d))
-    go true e = rw (eqb-true (c * w + d) (a * w + b) e) (flag-with-same ws base (a * w + b) v l)
-    go false e = flag-with-other ws base (a * w + b) v (c * w + d) (eqb-false (c * w + d) (a * w + b) e)
+flag-put ws base w a b v c d h h′ l = flag-with ws base (a * w + b) v l (c * w + d) ∙ rw (number-pair w c d a b h′ h)
 
 -- ---- a membership written or struck
 
 module _ (ws : List ℕ) (r g : ℕ) (v : Bool) where
   pub member-length : length (withMember ws r g v) ≡ length ws
-  member-length = with-length ws membersAt (r * 32 + g) v
+  member-length = length-with ws membersAt (r * 32 + g) v
 
   pub member-header : take membersAt (withMember ws r g v) ≡ take membersAt ws
   member-header = take-with ws membersAt (r * 32 + g) v membersAt (omega arith)
 
+  -- the second time changes nothing
+  pub member-again : withMember (withMember ws r g v) r g v ≡ withMember ws r g v
+  member-again = with-flag-again ws membersAt (r * 32 + g) v v
+
   module _ (hr : r < 256) (hg : g < 32) where
     -- the free link, and all words from it on
     pub member-free : getD (withMember ws r g v) freeAt 0 ≡ getD ws freeAt 0
-    member-free = with-word-other ws membersAt (r * 32 + g) v freeAt (λ e. omega arith)
+    member-free = word-with-other ws membersAt (r * 32 + g) v freeAt (λ e. omega arith)
 
     pub member-rest : drop freeAt (withMember ws r g v) ≡ drop freeAt ws
     member-rest = drop-with ws membersAt (r * 32 + g) v freeAt (omega arith)
@@ -70,14 +69,17 @@ module _ (ws : List ℕ) (r g : ℕ) (v : Bool) where
 
 module _ (ws : List ℕ) (g c : ℕ) (v : Bool) where
   pub grant-length : length (withGrant ws g c v) ≡ length ws
-  grant-length = with-length ws grantsAt (g * 64 + c) v
+  grant-length = length-with ws grantsAt (g * 64 + c) v
 
   pub grant-header : take membersAt (withGrant ws g c v) ≡ take membersAt ws
   grant-header = take-with ws grantsAt (g * 64 + c) v membersAt (omega arith)
 
+  pub grant-again : withGrant (withGrant ws g c v) g c v ≡ withGrant ws g c v
+  grant-again = with-flag-again ws grantsAt (g * 64 + c) v v
+
   module _ (hg : g < 32) (hc : c < 64) where
     pub grant-free : getD (withGrant ws g c v) freeAt 0 ≡ getD ws freeAt 0
-    grant-free = with-word-other ws grantsAt (g * 64 + c) v freeAt (λ e. omega arith)
+    grant-free = word-with-other ws grantsAt (g * 64 + c) v freeAt (λ e. omega arith)
 
     pub grant-rest : drop freeAt (withGrant ws g c v) ≡ drop freeAt ws
     grant-rest = drop-with ws grantsAt (g * 64 + c) v freeAt (omega arith)
