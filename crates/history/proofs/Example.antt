@@ -6,7 +6,7 @@ use Prim.Native.Nat.{ℕ}
 use lib.ListN.{getD, set, replicate}
 use Rattle.meaning.specs.Lists.{all, any, keep, onto, from, upto, sum}
 use Rattle.meaning.specs.Refusal.{firstNo}
-use Rattle.meaning.specs.Ledger.{Settings, Event, opening, add, join, grant, accept, step, ledger, withRows, withMembers, withGrants, putRow, calledFor, listed}
+use Rattle.meaning.specs.Ledger.{Settings, Event, opening, add, join, grant, accept, step, ledger, withRows, s, s, putRow, calledFor, listed}
 use Rattle.meaning.specs.Forest.{blockBytes, forest, forestAfter, eachFrom, totalNodes}
 use Rattle.meaning.specs.Sketch.{distance, inRange, perByte, packedLength, blockLength}
 use Rattle.meaning.specs.Trie.{fresh, addLeaf, insert, nodes}
@@ -18,7 +18,7 @@ use Rattle.layout.specs.Settings.{header, settingsOf, showsOpening}
 use Rattle.layout.specs.Pages.{withPage, withRow}
 use Rattle.layout.specs.Lengths.{nodesLength, pagesLength, sketchesLength, workingLength}
 use Rattle.layout.specs.Working.{mapWords, summaryWords}
-use Rattle.rights.specs.Register.{withMember, withGrant}
+use Rattle.rights.specs.Register.{withMember}
 use Rattle.promises.specs.Tables.{Tables, withSettings}
 use Rattle.promises.specs.Answers.{longFor, longSettings, longNodes, longPages, longWorking, entered, shown56, number, freeLink, freshSettings, freshChain, freshState, freshNodes, freshPages, opened, registered}
 use Rattle.promises.specs.Calls.{OpenPromise, RightsPromise}
@@ -42,17 +42,17 @@ unfolding s held first number entered longSettings longFor longNodes longPages l
 opening-promise = record { answers = refl; settings-left = refl; nodes-left = refl; pages-left = refl }
 
 second : List ℕ
-second = withMember (first .settings) 5 1 true
+second = (first .settings) 5 1 true
 
 third : List ℕ
-third = withGrant second 1 3 true
+third = second 1 3 true
 
 join-promise : RightsPromise (join 5 1) (first .settings) 0 second
 unfolding s held first second opened freshSettings freeLink header onto number entered shown56 longSettings longFor showsOpening settingsOf inLimits sketchLimits asked firstNo all registered
 join-promise = record { answers = refl; settings-left = refl }
 
 grant-promise : RightsPromise (grant 1 3) second 0 third
-unfolding s held first second third opened freshSettings freeLink header onto number entered shown56 longSettings longFor showsOpening settingsOf inLimits sketchLimits asked firstNo all registered withMember withGrant withFlag withBit bit
+unfolding s held first second third opened freshSettings freeLink header onto number entered shown56 longSettings longFor showsOpening settingsOf inLimits sketchLimits asked firstNo all registered withFlag withBit bit
 grant-promise = record { answers = refl; settings-left = refl }
 
 events : List Event
@@ -68,7 +68,7 @@ shown =
 
 -- the words of reader 5 and of group 1
 words : (getD third 75 0 ≡ 2) × (getD third 328 0 ≡ 8)
-unfolding s held first second third opened freshSettings freeLink header onto withMember withGrant withFlag withBit bit
+unfolding s held first second third opened freshSettings freeLink header onto withFlag withBit bit
 words = (refl, refl)
 
 -- a page added, whatever the words of its tries
@@ -85,7 +85,7 @@ added-tables = record {
 }
 
 added : Added opened-tables added-tables 1 3 x
-unfolding s x held first second third opened-tables added-tables opened freshSettings freshNodes freshChain freshState freshPages nodesLength pagesLength freeLink header onto upto from settingsOf withPage withRow withMember withGrant withFlag withBit bit
+unfolding s x held first second third opened-tables added-tables opened freshSettings freshNodes freshChain freshState freshPages nodesLength pagesLength freeLink header onto upto from settingsOf withPage withRow withFlag withBit bit
 added = record {
   lengths = record { settings = refl; nodes = refl; pages = refl; sketches = refl; working = refl };
   settings = refl;
@@ -94,7 +94,7 @@ added = record {
 }
 
 accepts : number opened-tables (forest events) (add 1 3 x) ≡ 0
-unfolding s x events judged admitted asked byLedger firstNo inRange all any forest forestAfter ledger step accept withMembers withGrants putRow eachFrom blockBytes packedLength perByte blockLength totalNodes sum insert addLeaf nodes fresh
+unfolding s x events judged admitted asked byLedger firstNo inRange all any forest forestAfter ledger step acceptss putRow eachFrom blockBytes packedLength perByte blockLength totalNodes sum insert addLeaf nodes fresh
 accepts = number-eq opened-tables (ledger events) shown (forest events) (add 1 3 x)
 
 shown-page : Represents added-tables (ledger (event (add 1 3 x) 0 ∷ events))
@@ -102,5 +102,5 @@ unfolding ledger step
 shown-page = adds opened-tables (ledger events) shown added-tables (forest events) 1 3 x added accepts
 
 lists : listed (ledger (event (add 1 3 x) 0 ∷ events)) 5 0 x ≡ 1 ∷ []
-unfolding x events ledger step accept withRows withMembers withGrants putRow write listed calledFor keep openTo stands any samePair upto from distance
+unfolding x events ledger step accept withRowsss putRow write listed calledFor keep openTo stands any samePair upto from distance
 lists = refl

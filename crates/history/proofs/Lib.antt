@@ -1,5 +1,4 @@
 pub mod Lists
-pub mod Rights
 pub mod Pages
 pub mod Represents
 pub mod Opening

@@ -2,7 +2,7 @@
 use mathlib.Core.Path.{_≡_, refl, sym, ap, _∙_}
 use mathlib.Core.Bool.{Bool, true, false, cond, _&&_, not, true≢false}
 use mathlib.Core.List.{List, [], _∷_, _++_}
-use Prim.Native.Nat.{ℕ, zero, suc, _+_, _*_, _/_, _%_, _≤_, _<_}
+use Prim.Native.Nat.{ℕ, zero, suc, _+_, _*_, _-_, _≤_, _<_}
 use native.Mathlib.Nat.{mul-le-mul-right}
 use native.Mathlib.Omega.{arith}
 use lib.Dec.{leb, eqb}
@@ -14,13 +14,12 @@ use Rattle.meaning.specs.Refusal.{firstNo}
 use Rattle.meaning.specs.Rights.{stands}
 use Rattle.meaning.specs.Ledger.{Settings, Ledger, opening, accept, step}
 use Rattle.meaning.specs.Questions.{inLimits, asked}
-use Rattle.words.specs.Bits.{flag}
-use Rattle.words.proofs.Bits.{bit-zero}
-use Rattle.layout.specs.Settings.{settingsLength, membersAt, header}
+use Rattle.layout.specs.Settings.{settingsLength, membersAt, freeAt, header}
 use Rattle.layout.specs.Pages.{isLive}
 use Rattle.layout.specs.Lengths.{nodesLength, pagesLength}
 use Rattle.layout.proofs.Tests.{and-left, and-right}
 use Rattle.layout.proofs.Limits.{bounds}
+use Rattle.rights.proofs.Pairs.{holds-none}
 use Rattle.promises.specs.Tables.{Tables, given, rowsOf}
 use Rattle.promises.specs.Answers.{longFor, longSettings, longNodes, longPages, entered, number, freeLink, freshSettings, freshNodes, freshPages, opened}
 use Rattle.promises.specs.Calls.{OpenPromise}
@@ -81,12 +80,11 @@ module _ (s : Settings) (limits : inLimits s ≡ true) where
           working = refl;
         }
 
-    no-flag : (base n : ℕ) → base + n / 32 < 320 → flag (opened s T .settings) (membersAt + base) n ≡ false
-    unfolding opened flag
-    no-flag base n h =
-        let e : membersAt + base + n / 32 ≡ membersAt + (base + n / 32) = omega arith in
-        rw (e, onto-word (freshSettings s) (T .settings) (membersAt + (base + n / 32)) (omega (arith, settings-length)), settings-word (base + n / 32) h)
-        (bit-zero (n % 32))
+    no-right : (i : ℕ) → membersAt ≤ i → i < freeAt → getD (opened s T .settings) i 0 ≡ 0
+    unfolding opened
+    no-right i a b =
+        let e : i ≡ membersAt + (i - membersAt) = omega arith in
+        rw (e, onto-word (freshSettings s) (T .settings) (membersAt + (i - membersAt)) (omega (arith, settings-length)), settings-word (i - membersAt) (omega arith))
 
     no-page : (i : ℕ) → i < s .pages → isLive (opened s T .pages) i ≡ false
     unfolding opened isLive freshPages onto pagesLength
@@ -99,13 +97,12 @@ module _ (s : Settings) (limits : inLimits s ≡ true) where
         ∙ take-at (header s) _ membersAt header-length
 
     started : (L : Ledger) → Represents (opened s T) (accept (opening s) L)
-    unfolding accept stands any rowsOf
+    unfolding accept rowsOf
     started L = record {
       head = beginning;
       limits = limits;
       long = long-kept s T (opened s T) as-long long;
-      members = λ a b ha hb. no-flag 0 (a * 32 + b) (omega arith);
-      grants = λ a b ha hb. no-flag 256 (a * 64 + b) (omega arith);
+      register = holds-none (opened s T .settings) no-right;
       rows =
           sym (rows-none (isLive (opened s T .pages)) _ (given (opened s T) .pages)
           (λ i h. no-page i (rw (settings-read s limits (opened s T .settings) beginning) at h)));

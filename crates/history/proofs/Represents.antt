@@ -16,18 +16,18 @@ use Rattle.meaning.specs.Rights.{openTo}
 use Rattle.meaning.specs.Trie.{Tree}
 use Rattle.meaning.specs.Ledger.{Settings, Row, Ledger, Call, opening, add, drop, join, leave, grant, revoke, search, show, check, calledFor, listed}
 use Rattle.meaning.specs.Questions.{inLimits, asked, byLedger}
-use Rattle.layout.specs.Settings.{membersAt, grantsAt, header, settingsOf, showsOpening}
+use Rattle.layout.specs.Settings.{membersAt, header, settingsOf, showsOpening}
 use Rattle.layout.specs.Pages.{isLive, classOf}
 use Rattle.layout.specs.Lengths.{pagesLength, sketchesLength}
 use Rattle.layout.proofs.Tests.{and-left, and-right, and-both}
 use Rattle.layout.proofs.Limits.{bounds}
 use Rattle.layout.proofs.Openings.{settings-header, shows-header}
 use Rattle.rights.specs.Register.{opens}
+use Rattle.rights.proofs.Pairs.{Holds, holds-opens}
 use Rattle.promises.specs.Tables.{Tables, given, pageClass, pageRow, isShown, scan, rowsOf, byTables}
 use Rattle.promises.specs.Answers.{longFor, longSettings, longNodes, longPages, longWorking, shown56, entered, number}
 use Rattle.history.specs.History.{admitted, judged}
 use Rattle.history.proofs.Lists.{and-then, asks, keep-from, rows-live, rows-any, rows-keep}
-use Rattle.history.proofs.Rights.{Flags, opens-eq}
 use Rattle.history.proofs.Pages.{rowAt, rowsIn}
 
 pub record Represents (T : Tables) (L : Ledger) : Type 0 where
@@ -35,8 +35,7 @@ pub record Represents (T : Tables) (L : Ledger) : Type 0 where
   pub limits : inLimits (L .settings) ≡ true
   -- all five tables
   pub long : longSettings T && longFor (L .settings) T (opening (L .settings)) ≡ true
-  pub members : Flags (T .settings) membersAt 256 32 (L .members)
-  pub grants : Flags (T .settings) grantsAt 32 64 (L .grants)
+  pub register : Holds (T .settings) (L .members) (L .grants)
   pub rows : L .rows ≡ rowsOf T
   pub classes : (p : ℕ) → p < L .settings .pages → isLive (T .pages) p ≡ true → classOf (T .pages) (L .settings .pages) p < 64
 
@@ -126,7 +125,7 @@ module _ (T : Tables) (L : Ledger) (R : Represents T L) where
 
   opens-live : (reader p : ℕ) → reader < 256 → p < L .settings .pages → live p ≡ true
       → opens (T .settings) reader (row p .class) ≡ openTo (L .members) (L .grants) reader (row p .class)
-  opens-live reader p hr h e = opens-eq (T .settings) (L .members) (L .grants) (R .members) (R .grants) reader (row p .class) hr (R .classes p h e)
+  opens-live reader p hr h e = holds-opens (T .settings) (L .members) (L .grants) (R .register) reader (row p .class) hr (R .classes p h e)
 
   shown-row : (reader p : ℕ) → reader < 256 → p < L .settings .pages → isShown T reader p ≡ live p && openTo (L .members) (L .grants) reader (row p .class)
   unfolding isShown pageClass

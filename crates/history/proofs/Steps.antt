@@ -21,12 +21,13 @@ use Rattle.layout.specs.Pages.{isLive, classOf, withRow, withPage, withoutPage}
 use Rattle.layout.proofs.Tests.{and-left, and-right}
 use Rattle.layout.proofs.Rows.{row-inside, row-same, row-other}
 use Rattle.rights.specs.Register.{withMember, withGrant}
+use Rattle.rights.proofs.Register.{member-length, member-header, grant-length, grant-header}
+use Rattle.rights.proofs.Pairs.{Holds, holds-same, holds-join, holds-leave, holds-grant, holds-revoke}
 use Rattle.promises.specs.Tables.{Tables, settingsAlone, withSettings, given, pageClass, pageRow, rowsOf}
 use Rattle.promises.specs.Answers.{longFor, longSettings, entered, shown56, number, registered}
 use Rattle.promises.specs.Calls.{RightsPromise}
 use Rattle.history.specs.History.{event, admitted, judged}
 use Rattle.history.proofs.Lists.{passed}
-use Rattle.history.proofs.Rights.{Flags, stands-write, stands-strike, flags-put, flags-keep, flags-same}
 use Rattle.history.proofs.Pages.{rowsIn, rows-add, rows-drop, live-add, live-drop, class-add, class-drop}
 use Rattle.history.proofs.Represents.{Represents, AsLong, long-kept, settings-read, given-eq, long-settings, long-pages, long-sketches, rows-eq, live-eq, number-eq}
 
@@ -57,29 +58,26 @@ withWorking T ws = record { settings = T .settings; nodes = T .nodes; pages = T 
 module _ (T : Tables) (L : Ledger) (R : Represents T L) where
   -- the tables afterwards, as long and with the same header
   kept : (T′ : Tables) (rows : List Row) (M G : List Pair) → AsLong T T′ → take membersAt (T′ .settings) ≡ take membersAt (T .settings)
-      → Flags (T′ .settings) membersAt 256 32 M → Flags (T′ .settings) grantsAt 32 64 G
+      → Holds (T′ .settings) M G
       → rows ≡ rowsIn (L .settings .pages) (L .settings .symbols) (T′ .pages) (T′ .sketches)
       → ((p : ℕ) → p < L .settings .pages → isLive (T′ .pages) p ≡ true → classOf (T′ .pages) (L .settings .pages) p < 64)
       → Represents T′ (record { settings = L .settings; rows = rows; members = M; grants = G })
   unfolding rowsOf pageClass pageRow
-  kept T′ rows M G l h m g r c = record {
+  kept T′ rows M G l h g r c = record {
     head = h ∙ R .head;
     limits = R .limits;
     long = long-kept (L .settings) T T′ l (R .long);
-    members = m;
-    grants = g;
+    register = g;
     rows = rw (settings-read (L .settings) (R .limits) (T′ .settings) (h ∙ R .head)) r;
     classes = c;
   }
 
   -- ---- join, leave, grant, revoke
-  flagged : (base n : ℕ) (v : Bool) (M G : List Pair) → membersAt ≤ base
-      → Flags (withFlag (T .settings) base n v) membersAt 256 32 M → Flags (withFlag (T .settings) base n v) grantsAt 32 64 G
-      → Represents (withSettings T (withFlag (T .settings) base n v)) (record { settings = L .settings; rows = L .rows; members = M; grants = G })
-  flagged base n v M G h m g =
-      kept (withSettings T (withFlag (T .settings) base n v)) (L .rows) M G
-      (record { settings = length-with (T .settings) base n v; nodes = refl; pages = refl; sketches = refl; working = refl })
-      (take-with (T .settings) base n v membersAt (omega arith)) m g (rows-eq T L R) (R .classes)
+  registered-as : (ws : List ℕ) (M G : List Pair) → length ws ≡ length (T .settings) → take membersAt ws ≡ take membersAt (T .settings) → Holds ws M G
+      → Represents (withSettings T ws) (record { settings = L .settings; rows = L .rows; members = M; grants = G })
+  registered-as ws M G l h g =
+      kept (withSettings T ws) (L .rows) M G (record { settings = l; nodes = refl; pages = refl; sketches = refl; working = refl }) h g (rows-eq T L R)
+      (R .classes)
 
   inside : settingsLength ≤ length (T .settings)
   unfolding longSettings
@@ -87,28 +85,22 @@ module _ (T : Tables) (L : Ledger) (R : Represents T L) where
 
   -- a pair written or struck, past 7
   member-set : (r g : ℕ) (v : Bool) (M : List Pair) → cond {A = ℕ} (ltb r 256 && ltb g 32) 0 7 ≡ 0
-      → ((p : Pair) → stands p M ≡ cond (samePair p (pair r g)) v (stands p (L .members)))
+      → (r < 256 → g < 32 → Holds (withMember (T .settings) r g v) M (L .grants))
       → Represents (withSettings T (withMember (T .settings) r g v)) (withMembers L M)
-  unfolding withMember withMembers
+  unfolding withMembers
   member-set r g v M h e =
       let h7 = passed 7 (ltb r 256 && ltb g 32) 0 (omega arith) h .0 in
-      let hr : r < 256 = ltb-true r 256 (and-left (ltb r 256) (ltb g 32) h7) in
-      let hg : g < 32 = ltb-true g 32 (and-right (ltb r 256) (ltb g 32) h7) in
-      flagged membersAt (r * 32 + g) v M (L .grants) (omega arith)
-      (flags-put (T .settings) membersAt 256 32 (L .members) (R .members) M r g v hg (omega (arith, inside)) e)
-      (flags-keep (T .settings) grantsAt 32 64 (L .grants) (R .grants) membersAt (r * 32 + g) v (λ c d hc hd. omega arith))
+      registered-as (withMember (T .settings) r g v) M (L .grants) (member-length (T .settings) r g v) (member-header (T .settings) r g v)
+      (e (ltb-true r 256 (and-left (ltb r 256) (ltb g 32) h7)) (ltb-true g 32 (and-right (ltb r 256) (ltb g 32) h7)))
 
   grant-set : (g c : ℕ) (v : Bool) (G : List Pair) → cond {A = ℕ} (ltb g 32 && ltb c 64) 0 7 ≡ 0
-      → ((p : Pair) → stands p G ≡ cond (samePair p (pair g c)) v (stands p (L .grants)))
+      → (g < 32 → c < 64 → Holds (withGrant (T .settings) g c v) (L .members) G)
       → Represents (withSettings T (withGrant (T .settings) g c v)) (withGrants L G)
-  unfolding withGrant withGrants
+  unfolding withGrants
   grant-set g c v G h e =
       let h7 = passed 7 (ltb g 32 && ltb c 64) 0 (omega arith) h .0 in
-      let hg : g < 32 = ltb-true g 32 (and-left (ltb g 32) (ltb c 64) h7) in
-      let hc : c < 64 = ltb-true c 64 (and-right (ltb g 32) (ltb c 64) h7) in
-      flagged grantsAt (g * 64 + c) v (L .members) G (omega arith)
-      (flags-keep (T .settings) membersAt 256 32 (L .members) (R .members) grantsAt (g * 64 + c) v (λ a b ha hb. omega arith))
-      (flags-put (T .settings) grantsAt 32 64 (L .grants) (R .grants) G g c v hc (omega (arith, inside)) e)
+      registered-as (withGrant (T .settings) g c v) (L .members) G (grant-length (T .settings) g c v) (grant-header (T .settings) g c v)
+      (e (ltb-true g 32 (and-left (ltb g 32) (ltb c 64) h7)) (ltb-true c 64 (and-right (ltb g 32) (ltb c 64) h7)))
 
   -- a call that is lent the settings table alone and asks nothing of the others
   module _ (c : Call) (alone : number (settingsAlone (T .settings)) [] c ≡ number T [] c)
@@ -124,25 +116,25 @@ module _ (T : Tables) (L : Ledger) (R : Represents T L) where
   module _ (n : ℕ) (ws : List ℕ) where
     pub joins : (r g : ℕ) → RightsPromise (join r g) (T .settings) n ws → Represents (withSettings T ws) (step (event (join r g) n) L)
     unfolding number entered shown56 longSettings longFor asked judged admitted firstNo registered accept
-    joins r g = registers (join r g) refl (λ e. member-set r g true _ e (stands-write (pair r g) (L .members))) n ws
+    joins r g = registers (join r g) refl (λ e. member-set r g true _ e (holds-join (T .settings) (L .members) (L .grants) (R .register) inside r g)) n ws
 
     pub leaves : (r g : ℕ) → RightsPromise (leave r g) (T .settings) n ws → Represents (withSettings T ws) (step (event (leave r g) n) L)
     unfolding number entered shown56 longSettings longFor asked judged admitted firstNo registered accept
-    leaves r g = registers (leave r g) refl (λ e. member-set r g false _ e (stands-strike (pair r g) (L .members))) n ws
+    leaves r g = registers (leave r g) refl (λ e. member-set r g false _ e (holds-leave (T .settings) (L .members) (L .grants) (R .register) inside r g)) n ws
 
     pub grants : (g c : ℕ) → RightsPromise (grant g c) (T .settings) n ws → Represents (withSettings T ws) (step (event (grant g c) n) L)
     unfolding number entered shown56 longSettings longFor asked judged admitted firstNo registered accept
-    grants g c = registers (grant g c) refl (λ e. grant-set g c true _ e (stands-write (pair g c) (L .grants))) n ws
+    grants g c = registers (grant g c) refl (λ e. grant-set g c true _ e (holds-grant (T .settings) (L .members) (L .grants) (R .register) inside g c)) n ws
 
     pub revokes : (g c : ℕ) → RightsPromise (revoke g c) (T .settings) n ws → Represents (withSettings T ws) (step (event (revoke g c) n) L)
     unfolding number entered shown56 longSettings longFor asked judged admitted firstNo registered accept
-    revokes g c = registers (revoke g c) refl (λ e. grant-set g c false _ e (stands-strike (pair g c) (L .grants))) n ws
+    revokes g c = registers (revoke g c) refl (λ e. grant-set g c false _ e (holds-revoke (T .settings) (L .members) (L .grants) (R .register) inside g c)) n ws
 
   -- ---- show, search, check: the ledger stays, and of the tables only the working table may change
   pub works : (ws : List ℕ) → length ws ≡ length (T .working) → Represents (withWorking T ws) L
   works ws e =
       kept (withWorking T ws) (L .rows) (L .members) (L .grants)
-      (record { settings = refl; nodes = refl; pages = refl; sketches = refl; working = e }) refl (R .members) (R .grants) (rows-eq T L R) (R .classes)
+      (record { settings = refl; nodes = refl; pages = refl; sketches = refl; working = e }) refl (R .register) (rows-eq T L R) (R .classes)
 
   pub stays : (c : Call) (n : ℕ) → accept c L ≡ L → Represents T (step (event c n) L)
   unfolding step
@@ -167,8 +159,7 @@ module _ (T : Tables) (L : Ledger) (R : Represents T L) where
   grown T′ l h rows =
       kept T′ rows (L .members) (L .grants) l
       (sym (take-take membersAt freeAt (T′ .settings) (omega arith)) ∙ rw h (take-take membersAt freeAt (T .settings) (omega arith)))
-      (flags-same (T .settings) membersAt 256 32 (L .members) (R .members) freeAt (T′ .settings) h (λ a b ha hb. omega arith))
-      (flags-same (T .settings) grantsAt 32 64 (L .grants) (R .grants) freeAt (T′ .settings) h (λ a b ha hb. omega arith))
+      (holds-same (T .settings) (L .members) (L .grants) (R .register) (T′ .settings) h)
 
   pub drops : (T′ : Tables) (F : List Tree) (p : ℕ) → Dropped T T′ p → number T F (drop p) ≡ 0 → Represents T′ (accept (drop p) L)
   unfolding judged admitted asked byLedger firstNo accept
