@@ -6,7 +6,7 @@ use Prim.Native.Nat.{ℕ}
 use lib.ListN.{getD, set, replicate}
 use Rattle.meaning.specs.Lists.{all, any, keep, onto, from, upto, sum}
 use Rattle.meaning.specs.Refusal.{firstNo}
-use Rattle.meaning.specs.Ledger.{Settings, Event, opening, add, join, grant, accept, step, ledger, withRows, s, s, putRow, calledFor, listed}
+use Rattle.meaning.specs.Ledger.{Settings, Event, opening, add, join, grant, accept, step, ledger, withRows, withMembers, withGrants, putRow, calledFor, listed}
 use Rattle.meaning.specs.Forest.{blockBytes, forest, forestAfter, eachFrom, totalNodes}
 use Rattle.meaning.specs.Sketch.{distance, inRange, perByte, packedLength, blockLength}
 use Rattle.meaning.specs.Trie.{fresh, addLeaf, insert, nodes}
@@ -18,7 +18,6 @@ use Rattle.layout.specs.Settings.{header, settingsOf, showsOpening}
 use Rattle.layout.specs.Pages.{withPage, withRow}
 use Rattle.layout.specs.Lengths.{nodesLength, pagesLength, sketchesLength, workingLength}
 use Rattle.layout.specs.Working.{mapWords, summaryWords}
-use Rattle.rights.specs.Register.{withMember}
 use Rattle.promises.specs.Tables.{Tables, withSettings}
 use Rattle.promises.specs.Answers.{longFor, longSettings, longNodes, longPages, longWorking, entered, shown56, number, freeLink, freshSettings, freshChain, freshState, freshNodes, freshPages, opened, registered}
 use Rattle.promises.specs.Calls.{OpenPromise, RightsPromise}
@@ -94,7 +93,7 @@ added = record {
 }
 
 accepts : number opened-tables (forest events) (add 1 3 x) ≡ 0
-unfolding s x events judged admitted asked byLedger firstNo inRange all any forest forestAfter ledger step acceptss putRow eachFrom blockBytes packedLength perByte blockLength totalNodes sum insert addLeaf nodes fresh
+unfolding s x events judged admitted asked byLedger firstNo inRange all any forest forestAfter ledger step accept withMembers withGrants putRow eachFrom blockBytes packedLength perByte blockLength totalNodes sum insert addLeaf nodes fresh
 accepts = number-eq opened-tables (ledger events) shown (forest events) (add 1 3 x)
 
 shown-page : Represents added-tables (ledger (event (add 1 3 x) 0 ∷ events))
@@ -102,5 +101,5 @@ unfolding ledger step
 shown-page = adds opened-tables (ledger events) shown added-tables (forest events) 1 3 x added accepts
 
 lists : listed (ledger (event (add 1 3 x) 0 ∷ events)) 5 0 x ≡ 1 ∷ []
-unfolding x events ledger step accept withRowsss putRow write listed calledFor keep openTo stands any samePair upto from distance
+unfolding x events ledger step accept withRows withMembers withGrants putRow write listed calledFor keep openTo stands any samePair upto from distance
 lists = refl
