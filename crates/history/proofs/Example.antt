@@ -18,6 +18,7 @@ use Rattle.layout.specs.Settings.{header, settingsOf, showsOpening}
 use Rattle.layout.specs.Pages.{withPage, withRow}
 use Rattle.layout.specs.Lengths.{nodesLength, pagesLength, sketchesLength, workingLength}
 use Rattle.layout.specs.Working.{mapWords, summaryWords}
+use Rattle.rights.specs.Register.{withMember, withGrant}
 use Rattle.promises.specs.Tables.{Tables, withSettings}
 use Rattle.promises.specs.Answers.{longFor, longSettings, longNodes, longPages, longWorking, entered, shown56, number, freeLink, freshSettings, freshChain, freshState, freshNodes, freshPages, opened, registered}
 use Rattle.promises.specs.Calls.{OpenPromise, RightsPromise}
@@ -41,10 +42,10 @@ unfolding s held first number entered longSettings longFor longNodes longPages l
 opening-promise = record { answers = refl; settings-left = refl; nodes-left = refl; pages-left = refl }
 
 second : List ℕ
-second = (first .settings) 5 1 true
+second = withMember (first .settings) 5 1 true
 
 third : List ℕ
-third = second 1 3 true
+third = withGrant second 1 3 true
 
 join-promise : RightsPromise (join 5 1) (first .settings) 0 second
 unfolding s held first second opened freshSettings freeLink header onto number entered shown56 longSettings longFor showsOpening settingsOf inLimits sketchLimits asked firstNo all registered
