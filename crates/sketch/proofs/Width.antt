@@ -1,15 +1,21 @@
 -- z symbols of b bits fit a byte.
+use mathlib.Core.Path.{_≡_, _∙_}
 use mathlib.Core.Bool.{Bool, true, false, cond, not}
 use mathlib.Core.List.{List, [], _∷_}
-use Prim.Native.Nat.{ℕ, suc, _+_, _*_, _<_, _≤_}
-use native.Mathlib.Nat.{div-le-self, le-div-iff-mul-le, mul-div-le}
+use Prim.Native.Nat.{ℕ, suc, _+_, _*_, _%_, _^_, _<_, _≤_}
+use native.Mathlib.Nat.{div-le-self, le-div-iff-mul-le, mul-div-le, one-mul}
 use native.Mathlib.Omega.{arith}
 use lib.Dec.{eqb}
 use lib.ListN.{length}
+use lib.Pow.{shl-exact}
 use Rattle.meaning.specs.Lists.{count, upto, from}
 use Rattle.meaning.specs.Sketch.{perByte, byteDistance, group}
 use Rattle.sketch.specs.Settings.{Bits}
 use Rattle.sketch.proofs.Runs.{length-from}
+
+-- 2^b as the code makes it
+pub shifted : (b : ℕ) → Bits b → 1 * 2 ^ b % 2 ^ 32 ≡ 2 ^ b
+shifted b h = shl-exact 1 b 32 (omega arith) (omega arith) ∙ one-mul (2 ^ b)
 
 pub z-pos : (b : ℕ) → Bits b → 0 < perByte b
 unfolding perByte

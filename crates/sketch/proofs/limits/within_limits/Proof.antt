@@ -1,7 +1,6 @@
 -- `within_limits` is `sketchLimits`: each return is what the definition comes to under the tests before it.
-use mathlib.Core.Path.{refl}
 use native.Mathlib.Omega.{arith}
-use borrow.Author.Tests.{lt-ltb, le-ltb, le-leb, lt-leb}
+use borrow.Author.Tests.{lt-ltb, le-leb, lt-leb}
 use Rattle.meaning.specs.SketchCalls.{sketchLimits}
 use Rattle.sketch.proofs.limits.within_limits.Statement.{statement}
 use Rattle.sketch.proofs.limits.within_limits.Tie as tie

@@ -1,6 +1,5 @@
 -- `distance_table` is `distanceTable`: one computed test over the whole table.
 use mathlib.Core.Path.{refl}
-use mathlib.Core.List.{map}
 use Rattle.meaning.specs.Lists.{count, upto, from}
 use Rattle.meaning.specs.Sketch.{byteDistance, group, perByte}
 use Rattle.sketch.specs.Table.{distanceTable}
