@@ -1,3 +1,5 @@
+pub mod Bytes
+pub mod Lists
 pub mod Places
 pub mod Runs
 pub mod Width

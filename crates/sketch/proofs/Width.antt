@@ -2,14 +2,14 @@
 use mathlib.Core.Path.{_≡_, _∙_}
 use mathlib.Core.Bool.{Bool, true, false, cond, not}
 use mathlib.Core.List.{List, [], _∷_}
-use Prim.Native.Nat.{ℕ, suc, _+_, _*_, _%_, _^_, _<_, _≤_}
+use Prim.Native.Nat.{ℕ, suc, _+_, _-_, _*_, _%_, _^_, _<_, _≤_}
 use native.Mathlib.Nat.{div-le-self, le-div-iff-mul-le, mul-div-le, one-mul}
 use native.Mathlib.Omega.{arith}
 use lib.Dec.{eqb}
 use lib.ListN.{length}
 use lib.Pow.{shl-exact}
 use Rattle.meaning.specs.Lists.{count, upto, from}
-use Rattle.meaning.specs.Sketch.{perByte, byteDistance, group}
+use Rattle.meaning.specs.Sketch.{perByte, packedLength, byteDistance, group}
 use Rattle.sketch.specs.Settings.{Bits}
 use Rattle.sketch.proofs.Runs.{length-from}
 
@@ -28,6 +28,13 @@ z-most b = div-le-self 8 b
 pub z-fits : (b : ℕ) → b * perByte b ≤ 8
 unfolding perByte
 z-fits b = mul-div-le 8 b
+
+-- where byte j begins
+pub byte-begins : (b n j : ℕ) → Bits b → j < packedLength b n → j * perByte b < n
+unfolding packedLength
+byte-begins b n j h w =
+    let p : 0 < perByte b = z-pos b h in
+    omega (arith, le-div-iff-mul-le {k = perByte b} {x = suc j} {y = n + perByte b - 1} p .0 w)
 
 count-most : {A : Type 0} (p : A → Bool) (xs : List A) → count p xs ≤ length xs
 unfolding count
