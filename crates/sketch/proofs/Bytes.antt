@@ -43,5 +43,5 @@ module _ (b : ℕ) where
         let small : v < 256 = omega (arith, byte-fits i) in
         let exact : v * 2 ^ b % 2 ^ 32 ≡ v * 2 ^ b = shl-exact 8 b 32 small (omega arith) in
         let below : packByte b (drop (i - 1) xs) ≡ getD xs (i - 1) 0 + 2 ^ b * packByte b (drop i xs) =
-            ap (packByte b) (drop-cons xs (i - 1) 0 within) ∙ ap (λ (k : ℕ). getD xs (i - 1) 0 + 2 ^ b * packByte b (drop k xs)) next in
+        ap (packByte b) (drop-cons xs (i - 1) 0 within) ∙ ap (λ (k : ℕ). getD xs (i - 1) 0 + 2 ^ b * packByte b (drop k xs)) next in
         omega (arith, exact, below, ap (λ (k : ℕ). 2 ^ b * k) e)

@@ -1,13 +1,14 @@
 -- Lists made from the numbers 0, 1, .., n - 1, and tables filled with them.
 use mathlib.Core.Path.{_≡_, refl, sym, ap, _∙_}
+use mathlib.Core.Bool.{Bool, true, false, _&&_}
 use mathlib.Core.List.{List, [], _∷_, _++_, map, map-append}
-use Prim.Native.Nat.{ℕ, zero, suc, _+_, _<_, _≤_}
+use Prim.Native.Nat.{ℕ, zero, suc, _+_, _-_, _<_, _≤_}
 use native.Mathlib.Nat.{add-zero, zero-add, add-suc, suc-add, le-of-suc-le-suc, not-suc-le-zero}
 use native.Mathlib.Numerals.{add-one}
 use native.Mathlib.Omega.{arith}
 use lib.ListN.{length, getD, set, drop, length-map, length-append, length-drop}
 use lib.Seq.{drop-cons, set-at, append-snoc}
-use Rattle.meaning.specs.Lists.{upto, from, onto}
+use Rattle.meaning.specs.Lists.{upto, from, onto, all}
 
 pub length-from : (k n : ℕ) → length (from k n) ≡ n
 unfolding from
@@ -63,3 +64,23 @@ module _ {A : Type 0} (f : ℕ → A) where
   pub length-fill : (n : ℕ) (table : List A) → n ≤ length table → length (onto (map f (upto n)) table) ≡ length table
   length-fill n table h =
       rw (filled n table) (omega (arith, length-append (map f (upto n)) (drop n table), length-map-upto n, length-drop n table))
+
+-- a test of every number below n, taken on from k
+module _ (p : ℕ → Bool) (k n : ℕ) where
+  all-step : k < n → all p (from k (n - k)) ≡ p k && all p (from (k + 1) (n - (k + 1)))
+  unfolding from all
+  all-step h =
+      let more : n - k ≡ suc (n - (k + 1)) = omega arith in
+      ap (λ (i : ℕ). all p (from k i)) more ∙ ap (λ (i : ℕ). p k && all p (from i (n - (k + 1)))) (sym (add-one k))
+
+  pub all-fails : k < n → p k ≡ false → all p (from k (n - k)) ≡ false
+  all-fails h e = all-step h ∙ ap (λ (t : Bool). t && all p (from (k + 1) (n - (k + 1)))) e
+
+  pub all-passes : k < n → p k ≡ true → all p (from k (n - k)) ≡ all p (from (k + 1) (n - (k + 1)))
+  all-passes h e = all-step h ∙ ap (λ (t : Bool). t && all p (from (k + 1) (n - (k + 1)))) e
+
+  pub all-done : n ≤ k → all p (from k (n - k)) ≡ true
+  unfolding from all
+  all-done h =
+      let none : n - k ≡ 0 = omega arith in
+      ap (λ (i : ℕ). all p (from k i)) none

@@ -40,7 +40,7 @@ fits c = byte-fits (c .before .args .b) (c .before .args .xs .now) (c .before .p
 turned : (c : tie.In-loop Inv-loop μ-loop) →
     let args = c .before .before .args in
     c .before .loop .v * 2 ^ args .b % 2 ^ 32 + getD (args .xs .now) (c .before .loop .i - 1) 0
-      ≡ packByte (args .b) (drop (c .before .loop .i - 1) (args .xs .now))
+    ≡ packByte (args .b) (drop (c .before .loop .i - 1) (args .xs .now))
 turned c =
     let start = c .before .before in
     let inv = c .before .loop .inv in

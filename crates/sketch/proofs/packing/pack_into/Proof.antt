@@ -93,7 +93,7 @@ loop-again c =
     let args = at-loop .before .before .before .before .before .args in
     let inv = at-loop .loop .inv in
     let byte : c .pack-byte .result ≡ byteOf (args .b) (take (args .n) (args .xs .now)) (at-loop .loop .j) =
-        c .pack-byte .ensures ∙ ap (packByte (args .b)) (passed (c .before .before)) in (
+    c .pack-byte .ensures ∙ ap (packByte (args .b)) (passed (c .before .before)) in (
       inv .0,
       inv .1,
       omega arith,
