@@ -1,3 +1,4 @@
+pub mod BlockEnds
 pub mod Bytes
 pub mod Lists
 pub mod Packed

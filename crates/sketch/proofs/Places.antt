@@ -8,11 +8,12 @@ use native.Mathlib.Numerals.{add-one}
 use native.Mathlib.Omega.{arith}
 use lib.Bits.{bitOr, or-lt, or-add-and, and-le-l, and-le-r}
 use lib.Dec.{ltb, eqb}
-use lib.ListN.{length, getD, drop, drop-of-length-le}
+use lib.ListN.{length, getD, take, drop, drop-of-length-le}
 use lib.Seq.{drop-cons}
 use borrow.Author.Tests.{lt-ltb, le-ltb, ltb-true, ltb-false}
 use Rattle.meaning.specs.Lists.{all}
 use Rattle.meaning.specs.Sketch.{distance, inRange}
+use Rattle.sketch.proofs.Lists.{all-take, all-drop}
 
 pub distance-step : (xs ys : List ℕ) (i : ℕ) → i < length xs → i < length ys
     → distance (drop i xs) (drop i ys)
@@ -51,3 +52,10 @@ or-below b x y = go (ltb x (2 ^ b)) (ltb y (2 ^ b)) refl refl
 pub range-more : (b bits : ℕ) (xs : List ℕ) (i : ℕ) → i < length xs
     → ltb (bitOr bits (getD xs i 0)) (2 ^ b) && inRange b (drop (i + 1) xs) ≡ ltb bits (2 ^ b) && inRange b (drop i xs)
 range-more b bits xs i h = rw (or-below b bits (getD xs i 0), range-step b xs i h, and-assoc)
+
+-- a part of symbols in range is in range
+pub part-range : (b a n : ℕ) (xs : List ℕ) → inRange b xs ≡ true → inRange b (take n (drop a xs)) ≡ true
+unfolding inRange
+part-range b a n xs h =
+    let p : ℕ → Bool = λ (x : ℕ). ltb x (2 ^ b) in
+    all-take p n (drop a xs) (all-drop p a xs h)
