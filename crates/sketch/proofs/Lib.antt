@@ -5,3 +5,4 @@ pub mod Packed
 pub mod Places
 pub mod Runs
 pub mod Width
+pub mod Verdict

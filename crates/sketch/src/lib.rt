@@ -3,5 +3,6 @@
 pub mod blocks;
 pub mod limits;
 pub mod packing;
+pub mod radius;
 pub mod symbols;
 pub mod table;
