@@ -47,6 +47,10 @@ bytes-cover b n h =
     let p : 0 < perByte b = z-pos b h in
     omega (arith, lt-div-mul-add {a = n + perByte b - 1} {b = perByte b} p)
 
+pub bytes-most : (b n : ℕ) → packedLength b n ≤ n + 8
+unfolding packedLength
+bytes-most b n = omega (arith, div-le-self (n + perByte b - 1) (perByte b), z-most b)
+
 pub byte-of : (b n j : ℕ) → Bits b → j * perByte b < n → j < packedLength b n
 unfolding packedLength
 byte-of b n j h w =
