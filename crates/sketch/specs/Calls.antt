@@ -2,7 +2,12 @@
 use Prim.Native.Nat.{ℕ}
 use mathlib.Core.Path.{_≡_}
 use mathlib.Core.List.{List}
+use Rattle.sketch.specs.declared.calls.Answer.{Answer}
 use Rattle.meaning.specs.SketchCalls.{measureNumber, measureValue, packNumber, packLength, packLeft, unpackNumber, unpackLength, unpackLeft}
+
+-- a refusal that gives no length
+abbrev pub refusal : ℕ → Answer
+refusal n = record { number = n; value = 0 }
 
 pub record Measured (b m : ℕ) (x y : List ℕ) (n v : ℕ) : Type 0 where
   pub number : n ≡ measureNumber b m x y

@@ -6,7 +6,8 @@ use crate::packing::pack_into;
 use crate::packing::unpack_into;
 use crate::symbols::distance;
 use crate::symbols::in_range;
-ghost use Rattle.sketch.specs.Calls.{Measured, Packed, Unpacked};
+ghost use mathlib.Core.Path.{_≡_};
+ghost use Rattle.sketch.specs.Calls.{refusal, Measured, Packed, Unpacked};
 
 // The number of the first "no", 0 where there is none; and what was measured, written or is needed.
 pub struct Answer {
@@ -14,40 +15,32 @@ pub struct Answer {
     pub value: u32,
 }
 
+// A refusal that gives no length.
+fn refused(number: u32) -> Answer
+    ensures { λ r. ⌜ r ≡ refusal number ⌝ }
+{
+    Answer { number, value: 0 }
+}
+
 // The distance of two sketches.
 pub fn measure(b: u32, m: u32, x: &[u8], y: &[u8]) -> Answer
     ensures { λ r. ⌜ Measured b m (now (x .entry)) (now (y .entry)) (r .number) (r .value) ⌝ }
 {
     if !within_limits(b, m) {
-        return Answer {
-            number: 4,
-            value: 0,
-        };
+        return refused(4);
     }
     let n = m as usize;
     if x.len() != n {
-        return Answer {
-            number: 10,
-            value: 0,
-        };
+        return refused(10);
     }
     if y.len() != n {
-        return Answer {
-            number: 10,
-            value: 0,
-        };
+        return refused(10);
     }
     if !in_range(b, x) {
-        return Answer {
-            number: 11,
-            value: 0,
-        };
+        return refused(11);
     }
     if !in_range(b, y) {
-        return Answer {
-            number: 11,
-            value: 0,
-        };
+        return refused(11);
     }
     Answer {
         number: 0,
@@ -60,23 +53,14 @@ pub fn pack(b: u32, m: u32, x: &[u8], out: &mut [u8]) -> Answer
     ensures { λ r. ⌜ Packed b m (now (x .entry)) (now (out .entry)) (r .number) (r .value) (now (out .exit)) ⌝ }
 {
     if !within_limits(b, m) {
-        return Answer {
-            number: 4,
-            value: 0,
-        };
+        return refused(4);
     }
     let n = m as usize;
     if x.len() != n {
-        return Answer {
-            number: 10,
-            value: 0,
-        };
+        return refused(10);
     }
     if !in_range(b, x) {
-        return Answer {
-            number: 11,
-            value: 0,
-        };
+        return refused(11);
     }
     let needed = packed_length(b, n);
     let value = needed as u32;
@@ -92,23 +76,14 @@ pub fn unpack(b: u32, m: u32, bytes: &[u8], out: &mut [u8]) -> Answer
     ensures { λ r. ⌜ Unpacked b m (now (bytes .entry)) (now (out .entry)) (r .number) (r .value) (now (out .exit)) ⌝ }
 {
     if !within_limits(b, m) {
-        return Answer {
-            number: 4,
-            value: 0,
-        };
+        return refused(4);
     }
     let n = m as usize;
     if bytes.len() != packed_length(b, n) {
-        return Answer {
-            number: 10,
-            value: 0,
-        };
+        return refused(10);
     }
     if !all_packable(b, n, bytes) {
-        return Answer {
-            number: 11,
-            value: 0,
-        };
+        return refused(11);
     }
     if out.len() < n {
         return Answer {

@@ -2,6 +2,7 @@
 // and the calls on sketches alone, with their C forms.
 pub mod blocks;
 pub mod calls;
+pub mod exports;
 pub mod limits;
 pub mod packing;
 pub mod radius;

@@ -1,17 +1,14 @@
 -- `pack` asks its questions in order, and writes its output where no answer is "no".
-use mathlib.Core.Path.{_≡_, refl, sym, ap, _∙_}
+use mathlib.Core.Path.{_≡_, refl, sym, _∙_}
 use mathlib.Core.Bool.{true, cond}
-use mathlib.Core.List.{List}
-use Prim.Native.Nat.{ℕ}
 use native.Mathlib.Nat.{le-of-eq}
 use native.Mathlib.Omega.{arith}
 use lib.Dec.{leb}
 use lib.ListN.{length, take}
 use lib.Seq.{take-all}
 use borrow.Author.Tests.{eq-eqb, ne-eqb, le-leb, lt-leb, not-true, not-false}
-use Rattle.meaning.specs.Lists.{onto}
 use Rattle.meaning.specs.Refusal.{firstNo}
-use Rattle.meaning.specs.Sketch.{inRange, packedLength, pack}
+use Rattle.meaning.specs.Sketch.{inRange, packedLength}
 use Rattle.meaning.specs.SketchCalls.{sketchLimits, packNumber, lengthGiven, outputLeft}
 use Rattle.sketch.proofs.Answers.{within, packed}
 use Rattle.sketch.proofs.Width.{bytes-most}
@@ -26,24 +23,33 @@ within-limits-requires c κs = search needs
 limits : (c : tie.Else1) → sketchLimits (c .before .before .before .before .args .b) (c .before .before .before .before .args .m) ≡ true
 limits c = sym (c .before .within-limits .ensures) ∙ not-false _ (c .if1 .left)
 
+refused-requires : tie.Need-refused-requires
+refused-requires c = search needs
+
 returns : tie.Need-returns
 unfolding packNumber firstNo lengthGiven outputLeft
 returns c =
-    let four = sym (c .before .within-limits .ensures) ∙ not-true _ (c .if1 .taken) in
-    packed _ _ _ _ 0 _ (rw four) refl refl
+    let four = sym (c .before .before .within-limits .ensures) ∙ not-true _ (c .before .if1 .taken) in
+    rw (c .refused .ensures) (packed _ _ _ _ 0 _ (rw four) refl refl)
+
+refused-requires-2 : tie.Need-refused-requires-2
+refused-requires-2 c = search needs
 
 returns-2 : tie.Need-returns-2
 unfolding packNumber firstNo lengthGiven outputLeft
-returns-2 c = packed _ _ _ _ 0 _ (rw (limits (c .before), ne-eqb _ _ (c .if2 .taken))) refl refl
+returns-2 c = rw (c .refused2 .ensures) (packed _ _ _ _ 0 _ (rw (limits (c .before .before), ne-eqb _ _ (c .before .if2 .taken))) refl refl)
 
 in-range-requires : tie.Need-in-range-requires
 in-range-requires c κs = within _ _ (limits (c .before)) .0
 
+refused-requires-3 : tie.Need-refused-requires-3
+refused-requires-3 c = search needs
+
 returns-3 : tie.Need-returns-3
 unfolding packNumber firstNo lengthGiven outputLeft
 returns-3 c =
-    let eleven = sym (c .before .in-range .ensures) ∙ not-true _ (c .if3 .taken) in
-    packed _ _ _ _ 0 _ (rw (limits (c .before .before .before), eq-eqb _ _ (c .before .before .if2 .left), eleven)) refl refl
+    let eleven = sym (c .before .before .in-range .ensures) ∙ not-true _ (c .before .if3 .taken) in
+    rw (c .refused3 .ensures) (packed _ _ _ _ 0 _ (rw (limits (c .before .before .before .before), eq-eqb _ _ (c .before .before .before .if2 .left), eleven)) refl refl)
 
 -- the symbols are in range
 ranged : (c : tie.Else3) → inRange (c .before .before .before .before .before .before .before .args .b) (c .before .before .before .before .before .before .before .args .x .now) ≡ true
@@ -91,19 +97,21 @@ returns-5 : tie.Need-returns-5
 unfolding lengthGiven outputLeft
 returns-5 c =
     let at-length = c .before .before .before .before .before in
-    let args = at-length .before .before .before .before .before .before .before .before .args in
     let room = rw (at-length .packed-length .ensures) at (c .before .before .before .before .if4 .left) in
     packed _ _ _ _ _ _ (past (at-length .before) ∙ rw (le-leb _ _ room)) (at-length .packed-length .ensures)
-    (c .before .before .pack-into .ensures ∙ ap (λ (l : List ℕ). onto (pack (args .b) l) (args .out .now)) (whole (at-length .before)))
+    (rw (whole (at-length .before)) at (c .before .before .pack-into .ensures))
 
 pub pack-spec : {M : Type 1} → statement M
 pack-spec =
     tie.close
     (tie.spec
     within-limits-requires
+    refused-requires
     returns
+    refused-requires-2
     returns-2
     in-range-requires
+    refused-requires-3
     returns-3
     packed-length-requires
     cast-value

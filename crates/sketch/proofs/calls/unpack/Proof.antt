@@ -20,19 +20,25 @@ within-limits-requires c κs = search needs
 limits : (c : tie.Else1) → sketchLimits (c .before .before .before .before .args .b) (c .before .before .before .before .args .m) ≡ true
 limits c = sym (c .before .within-limits .ensures) ∙ not-false _ (c .if1 .left)
 
+refused-requires : tie.Need-refused-requires
+refused-requires c = search needs
+
 returns : tie.Need-returns
 unfolding unpackNumber firstNo lengthGiven outputLeft
 returns c =
-    let four = sym (c .before .within-limits .ensures) ∙ not-true _ (c .if1 .taken) in
-    unpacked _ _ _ _ 0 _ (rw four) refl refl
+    let four = sym (c .before .before .within-limits .ensures) ∙ not-true _ (c .before .if1 .taken) in
+    rw (c .refused .ensures) (unpacked _ _ _ _ 0 _ (rw four) refl refl)
 
 packed-length-requires : tie.Need-packed-length-requires
 packed-length-requires c κs = within _ _ (limits c)
 
+refused-requires-2 : tie.Need-refused-requires-2
+refused-requires-2 c = search needs
+
 returns-2 : tie.Need-returns-2
 unfolding unpackNumber firstNo lengthGiven outputLeft
 returns-2 c =
-    unpacked _ _ _ _ 0 _ (rw (limits (c .before .before), ← c .before .packed-length .ensures, ne-eqb _ _ (c .if2 .taken))) refl refl
+    rw (c .refused2 .ensures) (unpacked _ _ _ _ 0 _ (rw (limits (c .before .before .before), ← c .before .before .packed-length .ensures, ne-eqb _ _ (c .before .if2 .taken))) refl refl)
 
 -- the bytes are as many as the symbols need
 counted : (c : tie.Else2) →
@@ -45,11 +51,14 @@ all-packable-requires c κs =
     let limited = within _ _ (limits (c .before .before)) in
     (limited .0, (limited .1, counted c))
 
+refused-requires-3 : tie.Need-refused-requires-3
+refused-requires-3 c = search needs
+
 returns-3 : tie.Need-returns-3
 unfolding unpackNumber firstNo lengthGiven outputLeft
 returns-3 c =
-    let eleven = sym (c .before .all-packable .ensures) ∙ not-true _ (c .if3 .taken) in
-    unpacked _ _ _ _ 0 _ (rw (limits (c .before .before .before .before), eq-eqb _ _ (counted (c .before .before)), eleven)) refl refl
+    let eleven = sym (c .before .before .all-packable .ensures) ∙ not-true _ (c .before .if3 .taken) in
+    rw (c .refused3 .ensures) (unpacked _ _ _ _ 0 _ (rw (limits (c .before .before .before .before .before), eq-eqb _ _ (counted (c .before .before .before)), eleven)) refl refl)
 
 -- questions 4, 10 and 11 are answered yes: 13 is left
 past : (c : tie.Else3) →
@@ -84,10 +93,13 @@ unpack-spec =
     tie.close
     (tie.spec
     within-limits-requires
+    refused-requires
     returns
     packed-length-requires
+    refused-requires-2
     returns-2
     all-packable-requires
+    refused-requires-3
     returns-3
     returns-4
     unpack-into-requires
