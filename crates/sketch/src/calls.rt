@@ -1,0 +1,99 @@
+// The calls on sketches alone: each asks its questions in order and gives the number of the first "no", or 0.
+use crate::limits::packed_length;
+use crate::limits::within_limits;
+use crate::packing::all_packable;
+use crate::packing::pack_into;
+use crate::packing::unpack_into;
+use crate::symbols::distance;
+use crate::symbols::in_range;
+ghost use mathlib.Core.Path.{_≡_};
+ghost use Rattle.sketch.specs.Calls.{refusal, Measured, Packed, Unpacked};
+
+// The number of the first "no", 0 where there is none; and what was measured, written or is needed.
+pub struct Answer {
+    pub number: u32,
+    pub value: u32,
+}
+
+// A refusal that gives no length.
+fn refused(number: u32) -> Answer
+    ensures { λ r. ⌜ r ≡ refusal number ⌝ }
+{
+    Answer { number, value: 0 }
+}
+
+// The distance of two sketches.
+pub fn measure(b: u32, m: u32, x: &[u8], y: &[u8]) -> Answer
+    ensures { λ r. ⌜ Measured b m (now (x .entry)) (now (y .entry)) (r .number) (r .value) ⌝ }
+{
+    if !within_limits(b, m) {
+        return refused(4);
+    }
+    let n = m as usize;
+    if x.len() != n {
+        return refused(10);
+    }
+    if y.len() != n {
+        return refused(10);
+    }
+    if !in_range(b, x) {
+        return refused(11);
+    }
+    if !in_range(b, y) {
+        return refused(11);
+    }
+    Answer {
+        number: 0,
+        value: distance(x, y),
+    }
+}
+
+// A sketch packed into the beginning of out.
+pub fn pack(b: u32, m: u32, x: &[u8], out: &mut [u8]) -> Answer
+    ensures { λ r. ⌜ Packed b m (now (x .entry)) (now (out .entry)) (r .number) (r .value) (now (out .exit)) ⌝ }
+{
+    if !within_limits(b, m) {
+        return refused(4);
+    }
+    let n = m as usize;
+    if x.len() != n {
+        return refused(10);
+    }
+    if !in_range(b, x) {
+        return refused(11);
+    }
+    let needed = packed_length(b, n);
+    let value = needed as u32;
+    if out.len() < needed {
+        return Answer { number: 13, value };
+    }
+    pack_into(b, n, x, out);
+    Answer { number: 0, value }
+}
+
+// A sketch out of its packed bytes, written to the beginning of out.
+pub fn unpack(b: u32, m: u32, bytes: &[u8], out: &mut [u8]) -> Answer
+    ensures { λ r. ⌜ Unpacked b m (now (bytes .entry)) (now (out .entry)) (r .number) (r .value) (now (out .exit)) ⌝ }
+{
+    if !within_limits(b, m) {
+        return refused(4);
+    }
+    let n = m as usize;
+    if bytes.len() != packed_length(b, n) {
+        return refused(10);
+    }
+    if !all_packable(b, n, bytes) {
+        return refused(11);
+    }
+    if out.len() < n {
+        return Answer {
+            number: 13,
+            value: m,
+        };
+    }
+    unpack_into(b, n, bytes, out);
+    Answer {
+        number: 0,
+        value: m,
+    }
+}
