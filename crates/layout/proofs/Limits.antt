@@ -1,9 +1,9 @@
 -- Question 4: the test of an opening's numbers and its thresholds, and the bounds that it stands for.
 use Prim.Native.Nat.{ℕ, _<_}
 use native.Mathlib.Omega.{arith}
-use mathlib.Core.Path.{_≡_, refl, ap}
+use mathlib.Core.Path.{_≡_, refl}
 use mathlib.Core.Bool.{Bool, true, _&&_, and-true}
-use borrow.Author.Tests.{lt-ltb, le-leb, eq-eqb, ltb-true, leb-true, eqb-true}
+use borrow.Author.Tests.{lt-ltb, le-leb, ltb-true, leb-true, eqb-true}
 use lib.Dec.{ltb}
 use lib.ListN.{length, getD}
 use Rattle.meaning.specs.Lists.{all}
@@ -13,7 +13,7 @@ use Rattle.meaning.specs.Questions.{inLimits}
 use Rattle.layout.specs.declared.Header.{Header}
 use Rattle.layout.specs.Header.{headerOf}
 use Rattle.layout.specs.Limits.{limitsOf, HeaderLimits, Bounds}
-use Rattle.layout.proofs.Tests.{and-left, and-right, and-both, all-at, at-all}
+use Rattle.layout.proofs.Tests.{and-left, and-right, all-at, at-all}
 
 -- a number of 16 bits
 abbrev pub short : ℕ → Bool

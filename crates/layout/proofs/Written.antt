@@ -3,7 +3,7 @@ use Prim.Native.Nat.{ℕ, _≤_}
 use native.Mathlib.Omega.{arith}
 use mathlib.Core.Path.{_≡_, sym, ap, _∙_}
 use mathlib.Core.List.{List, [], _∷_, _++_}
-use lib.ListN.{length, getD, set, take, drop, length-append, length-drop, length-set}
+use lib.ListN.{length, set, take, drop, length-append, length-drop, length-set}
 use lib.Seq.{take-at, drop-at, take-all, take-take, drop-drop, getD-take, take-set-le, sets, sets-eq, paste}
 use Rattle.meaning.specs.Ledger.{Settings}
 use Rattle.meaning.specs.Questions.{inLimits}
