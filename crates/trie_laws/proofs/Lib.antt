@@ -1,0 +1,4 @@
+pub mod Lists
+pub mod Distinct
+pub mod Nodes
+pub mod Forest

@@ -1,0 +1,3 @@
+pub mod Sound
+pub mod Needed
+pub mod Path
