@@ -10,7 +10,7 @@ use borrow.Author.Tests.{ltb-true, eq-eqb, ne-eqb}
 use Rattle.meaning.specs.Lists.{all, any, count, from, upto}
 use Rattle.meaning.specs.Trie.{byteAt}
 use Rattle.trie_laws.specs.Needed.{distinctFrom, distinct}
-use Rattle.trie_laws.proofs.Lists.{less, same, more, compared, and-first, and-second, or-first, or-second}
+use Rattle.trie_laws.proofs.Lists.{less, same, more, compared, and-first, and-second, or-first, or-second, count-none}
 
 -- only what was seen of the list's own bytes counts
 pub distinct-agree : (s r : ℕ → Bool) (xs : List ℕ) → ((y : ℕ) → any (eqb y) xs ≡ true → s y ≡ r y) → distinctFrom s xs ≡ distinctFrom r xs
@@ -46,11 +46,6 @@ count-split : (f g h : ℕ → Bool) (xs : List ℕ) → ((y : ℕ) → cond (f 
 unfolding count
 count-split f g h [] e = refl
 count-split f g h (x ∷ xs) e = omega (arith, e x, count-split f g h xs e)
-
-count-none : (f : ℕ → Bool) (xs : List ℕ) → ((y : ℕ) → f y ≡ false) → count f xs ≡ 0
-unfolding count
-count-none f [] e = refl
-count-none f (x ∷ xs) e = rw (e x) (omega (arith, count-none f xs e))
 
 module _ (s : ℕ → Bool) (x : ℕ) where
   past : (j m : ℕ) → x < j → count (λ y. not (s y) && eqb y x) (from j m) ≡ 0

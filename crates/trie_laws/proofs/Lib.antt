@@ -1,4 +1,6 @@
 pub mod Lists
 pub mod Distinct
 pub mod Nodes
+pub mod Sound
+pub mod Pages
 pub mod Forest

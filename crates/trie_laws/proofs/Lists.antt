@@ -1,7 +1,7 @@
 -- Tests of two parts, the three orders of two bytes, and laws of `all`, `any` and `count` (crate meaning, Lists.antt).
 use Prim.Native.Nat.{ℕ, zero, suc, _+_, _≤_, _<_}
 use native.Mathlib.Omega.{arith}
-use native.Mathlib.Nat.{le-of-suc-le-suc}
+use native.Mathlib.Nat.{zero-add}
 use mathlib.Core.Path.{_≡_, refl, sym, ap, _∙_}
 use mathlib.Core.Bool.{Bool, true, false, cond, not, _&&_, _||_, and-assoc, or-assoc, true≢false, false≢true}
 use mathlib.Core.List.{List, [], _∷_, _++_}
@@ -34,6 +34,25 @@ or-second false t h = h
 pub or-none : (s t : Bool) → s || t ≡ false → (s ≡ false) × (t ≡ false)
 or-none true t h = absurd (true≢false h)
 or-none false t h = (refl, h)
+
+-- ---- a test and what it gives
+pub data Truth (q : Bool) : Type 0 where
+  holds : q ≡ true → Truth q
+  fails : q ≡ false → Truth q
+
+pub truth : (q : Bool) → Truth q
+truth true = holds refl
+truth false = fails refl
+
+pub not-so : (q : Bool) → (q ≡ true → ⊥) → q ≡ false
+not-so true h = absurd (h refl)
+not-so false h = refl
+
+pub eqb-comm : (a b : ℕ) → eqb a b ≡ eqb b a
+eqb-comm a b = elim (truth (eqb a b)) [
+  | holds e ↦ e ∙ sym (eq-eqb b a (sym (eqb-true a b e)))
+  | fails e ↦ e ∙ sym (ne-eqb b a (λ q. eqb-false a b e (sym q)))
+]
 
 -- ---- two bytes: in which of three orders they stand, with what the tests then give
 pub record Tests (b c : ℕ) (below above equal : Bool) : Type 0 where
@@ -78,3 +97,50 @@ module _ {A : Type 0} (p : A → Bool) where
   unfolding count
   count-append [] ys = omega arith
   count-append (x ∷ xs) ys = omega (arith, count-append xs ys)
+
+  -- one test by counting
+  pub any-count : (xs : List A) → any p xs ≡ ltb 0 (count p xs)
+  unfolding any count
+  any-count [] = refl
+  any-count (x ∷ xs) = go (p x) (any-count xs)
+    where
+      go : (q : Bool) → any p xs ≡ ltb 0 (count p xs) → q || any p xs ≡ ltb 0 (cond q 1 0 + count p xs)
+      go true h = sym (lt-ltb 0 (1 + count p xs) (omega arith))
+      go false h = rw (zero-add (count p xs)) h
+
+  pub all-count : (xs : List A) → all p xs ≡ eqb (count (λ x. not (p x)) xs) 0
+  unfolding all count
+  all-count [] = refl
+  all-count (x ∷ xs) = go (p x) (all-count xs)
+    where
+      go : (q : Bool) → all p xs ≡ eqb (count (λ x. not (p x)) xs) 0 → q && all p xs ≡ eqb (cond (not q) 1 0 + count (λ x. not (p x)) xs) 0
+      go true h = rw (zero-add (count (λ x. not (p x)) xs)) h
+      go false h = sym (ne-eqb (1 + count (λ x. not (p x)) xs) 0 (omega arith))
+
+  pub count-none : (xs : List A) → ((x : A) → p x ≡ false) → count p xs ≡ 0
+  unfolding count
+  count-none [] e = refl
+  count-none (x ∷ xs) e = rw (e x) (omega (arith, count-none xs e))
+
+  -- where all pass one test, none passes a test that excludes it
+  pub all-any : (r : A → Bool) (xs : List A) → all p xs ≡ true → ((x : A) → p x ≡ true → r x ≡ false) → any r xs ≡ false
+  unfolding all any
+  all-any r [] h e = refl
+  all-any r (x ∷ xs) h e = rw (e x (and-first (p x) (all p xs) h)) (all-any r xs (and-second (p x) (all p xs) h) e)
+
+-- what holds of each member holds of all
+pub each-all : (q : ℕ → Bool) (xs : List ℕ) → ((x : ℕ) → any (eqb x) xs ≡ true → q x ≡ true) → all q xs ≡ true
+unfolding all any
+each-all q [] h = refl
+each-all q (x ∷ xs) h =
+    and-intro (q x) (all q xs) (h x (or-first (eqb x x) (any (eqb x) xs) (eq-eqb x x refl)))
+    (each-all q xs (λ y m. h y (or-second (eqb y x) (any (eqb y) xs) m)))
+
+-- and the other way round
+pub all-each : (q : ℕ → Bool) (xs : List ℕ) → all q xs ≡ true → (x : ℕ) → any (eqb x) xs ≡ true → q x ≡ true
+unfolding all any
+all-each q [] h x m = absurd (false≢true m)
+all-each q (y ∷ ys) h x m = elim (truth (eqb x y)) [
+  | holds e ↦ rw (eqb-true x y e) (and-first (q y) (all q ys) h)
+  | fails e ↦ all-each q ys (and-second (q y) (all q ys) h) x (rw e at m)
+]

@@ -48,6 +48,15 @@ unfoldable pub setBelow : ℕ → Tree → Tree → Tree
 setBelow b u (leaf ps) = leaf ps
 setBelow b u (inner cs) = inner (setKid b u cs)
 
+-- every child is a leaf
+unfoldable pub isLeaf : Tree → Bool
+isLeaf (leaf ps) = true
+isLeaf (inner cs) = false
+
+unfoldable pub leaves : Children → Bool
+leaves none = true
+leaves (child c t cs) = isLeaf t && leaves cs
+
 -- a path of bytes is there
 unfoldable pub hasPath : List ℕ → Tree → Bool
 hasPath [] t = true

@@ -1,0 +1,62 @@
+-- The parts of a sound trie, taken apart and put together; weaker bounds.
+use Prim.Native.Nat.{ℕ, suc, _≤_, _<_}
+use native.Mathlib.Omega.{arith}
+use mathlib.Core.Path.{_≡_, refl}
+use mathlib.Core.Bool.{Bool, true, false, _&&_}
+use mathlib.Core.List.{List, [], _∷_}
+use lib.Dec.{ltb, leb, eqb}
+use borrow.Author.Tests.{ltb-true, lt-ltb, leb-true, le-leb}
+use Rattle.meaning.specs.Lists.{all}
+use Rattle.meaning.specs.Sketch.{packable}
+use Rattle.meaning.specs.Trie.{Tree, inner, Children, none, child, fresh, byteAt}
+use Rattle.trie_laws.specs.Sound.{pagesIn, filled, soundTrie, soundFrom}
+use Rattle.trie_laws.proofs.Lists.{and-intro, and-first, and-second}
+
+module _ (bytesOf : ℕ → List ℕ) (b n len k : ℕ) where
+  -- an inner node
+  pub record SoundInner (cs : Children) : Type 0 where
+    pub level : k < len
+    pub kids : soundFrom bytesOf b n len k 0 cs ≡ true
+
+  pub inner-parts : (cs : Children) → soundTrie bytesOf b n len k (inner cs) ≡ true → SoundInner cs
+  unfolding soundTrie
+  inner-parts cs h = record { level = ltb-true k len (search and-first); kids = search (and-first, and-second) }
+
+  pub inner-whole : (cs : Children) → SoundInner cs → soundTrie bytesOf b n len k (inner cs) ≡ true
+  unfolding soundTrie
+  inner-whole cs s = and-intro (ltb k len) (soundFrom bytesOf b n len k 0 cs) (lt-ltb k len (s .level)) (s .kids)
+
+  -- a child and those after it
+  pub record SoundChild (lo c : ℕ) (t : Tree) (cs : Children) : Type 0 where
+    pub rising : lo ≤ c
+    pub packing : packable b n k c ≡ true
+    pub full : filled t ≡ true
+    pub path : all (λ p. eqb (byteAt bytesOf k p) c) (pagesIn t) ≡ true
+    pub sub : soundTrie bytesOf b n len (suc k) t ≡ true
+    pub rest : soundFrom bytesOf b n len k (suc c) cs ≡ true
+
+  module _ (lo c : ℕ) (t : Tree) (cs : Children) where
+    pub child-parts : soundFrom bytesOf b n len k lo (child c t cs) ≡ true → SoundChild lo c t cs
+    unfolding soundTrie
+    child-parts h =
+        record {
+          rising = leb-true lo c (search and-first);
+          packing = search (and-first, and-second);
+          full = search (and-first, and-second);
+          path = search (and-first, and-second);
+          sub = search (and-first, and-second);
+          rest = search (and-first, and-second);
+        }
+
+    pub child-whole : SoundChild lo c t cs → soundFrom bytesOf b n len k lo (child c t cs) ≡ true
+    unfolding soundTrie
+    child-whole s = rw (le-leb lo c (s .rising), s .packing, s .full, s .path, s .sub, s .rest) refl
+
+  -- from a lower byte on
+  pub lower : (lo hi : ℕ) (cs : Children) → lo ≤ hi → soundFrom bytesOf b n len k hi cs ≡ true → soundFrom bytesOf b n len k lo cs ≡ true
+  unfolding soundTrie
+  lower lo hi none l h = refl
+  lower lo hi (child c t cs) l h =
+      let s = child-parts hi c t cs h in
+      child-whole lo c t cs
+      (record { rising = omega (arith, s .rising); packing = s .packing; full = s .full; path = s .path; sub = s .sub; rest = s .rest })
