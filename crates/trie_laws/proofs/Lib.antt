@@ -3,4 +3,5 @@ pub mod Distinct
 pub mod Nodes
 pub mod Sound
 pub mod Pages
+pub mod Keeps
 pub mod Forest

@@ -122,6 +122,13 @@ module _ {A : Type 0} (p : A → Bool) where
   count-none [] e = refl
   count-none (x ∷ xs) e = rw (e x) (omega (arith, count-none xs e))
 
+  -- what all pass, all pass that asks less
+  pub all-more : (r : A → Bool) (xs : List A) → ((x : A) → p x ≡ true → r x ≡ true) → all p xs ≡ true → all r xs ≡ true
+  unfolding all
+  all-more r [] e h = refl
+  all-more r (x ∷ xs) e h =
+      and-intro (r x) (all r xs) (e x (and-first (p x) (all p xs) h)) (all-more r xs e (and-second (p x) (all p xs) h))
+
   -- where all pass one test, none passes a test that excludes it
   pub all-any : (r : A → Bool) (xs : List A) → all p xs ≡ true → ((x : A) → p x ≡ true → r x ≡ false) → any r xs ≡ false
   unfolding all any
@@ -144,3 +151,17 @@ all-each q (y ∷ ys) h x m = elim (truth (eqb x y)) [
   | holds e ↦ rw (eqb-true x y e) (and-first (q y) (all q ys) h)
   | fails e ↦ all-each q ys (and-second (q y) (all q ys) h) x (rw e at m)
 ]
+
+-- every number below n passes
+all-from : (q : ℕ → Bool) (j n : ℕ) → all q (from j n) ≡ true → (i : ℕ) → j ≤ i → i < j + n → q i ≡ true
+unfolding all from
+all-from q j zero h i l u = absurd (omega arith)
+all-from q j (suc n) h i l u = elim (compared j i) [
+  | less m s ↦ all-from q (suc j) n (and-second (q j) (all q (from (suc j) n)) h) i m (omega arith)
+  | same m s ↦ rw (← m) (and-first (q j) (all q (from (suc j) n)) h)
+  | more m s ↦ absurd (omega arith)
+]
+
+pub upto-all : (q : ℕ → Bool) (n : ℕ) → all q (upto n) ≡ true → (i : ℕ) → i < n → q i ≡ true
+unfolding upto
+upto-all q n h i l = all-from q 0 n h i (omega arith) (omega arith)

@@ -119,7 +119,7 @@ module _ (bytesOf : ℕ → List ℕ) (b n len : ℕ) where
   off-bytes k p lo none h l = refl
   off-bytes k p lo (child c t cs) h l =
       let s = child-parts bytesOf b n len k lo c t cs h in
-      rw (any-append (eqb p) (pagesIn t) (pagesAmong cs), off-byte k p c (pagesIn t) (s .path) (ne-eqb (byteAt bytesOf k p) c (omega (arith, s .rising))))
+      rw (any-append (eqb p) (pagesIn t) (pagesAmong cs), off-byte k p c (pagesIn t) (s .here .path) (ne-eqb (byteAt bytesOf k p) c (omega (arith, s .rising))))
       (off-bytes k p (suc c) cs (s .rest) (omega (arith, s .rising)))
 
   module _ (q : ℕ → Bool) where
@@ -138,10 +138,10 @@ module _ (bytesOf : ℕ → List ℕ) (b n len : ℕ) where
           elim (truth (eqb (byteAt bytesOf k p) c)) [
             | holds e ↦
                 let away : any (eqb p) (pagesAmong cs) ≡ false = off-bytes k p (suc c) cs (s .rest) (omega (arith, eqb-true (byteAt bytesOf k p) c e)) in
-                simp (e, count-append) (omega (arith, prune-count q p c (remove bytesOf (suc k) p t) cs, remove-count (suc k) p t (s .sub), absent-count q p (pagesAmong cs) away))
+                simp (e, count-append) (omega (arith, prune-count q p c (remove bytesOf (suc k) p t) cs, remove-count (suc k) p t (s .here .sub), absent-count q p (pagesAmong cs) away))
             | fails e ↦
                 simp (e, count-append)
-                (omega (arith, removeIn-count k p (suc c) cs (s .rest), absent-count q p (pagesIn t) (off-byte k p c (pagesIn t) (s .path) e)))
+                (omega (arith, removeIn-count k p (suc c) cs (s .rest), absent-count q p (pagesIn t) (off-byte k p c (pagesIn t) (s .here .path) e)))
           ]
 
 -- ---- some page passes a test, or all
