@@ -4,4 +4,5 @@ pub mod Nodes
 pub mod Sound
 pub mod Pages
 pub mod Keeps
+pub mod Agree
 pub mod Forest

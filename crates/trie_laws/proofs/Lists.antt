@@ -152,6 +152,13 @@ all-each q (y ∷ ys) h x m = elim (truth (eqb x y)) [
   | fails e ↦ all-each q ys (and-second (q y) (all q ys) h) x (rw e at m)
 ]
 
+-- two tests that are the same on each member
+pub all-agree : (q r : ℕ → Bool) (xs : List ℕ) → ((x : ℕ) → any (eqb x) xs ≡ true → q x ≡ r x) → all q xs ≡ all r xs
+unfolding all any
+all-agree q r [] h = refl
+all-agree q r (x ∷ xs) h =
+    rw (h x (or-first (eqb x x) (any (eqb x) xs) (eq-eqb x x refl)), all-agree q r xs (λ y m. h y (or-second (eqb y x) (any (eqb y) xs) m))) refl
+
 -- every number below n passes
 all-from : (q : ℕ → Bool) (j n : ℕ) → all q (from j n) ≡ true → (i : ℕ) → j ≤ i → i < j + n → q i ≡ true
 unfolding all from

@@ -4,7 +4,7 @@ use mathlib.Core.Path.{_≡_}
 use mathlib.Core.Bool.{Bool, true, false, cond, _&&_}
 use mathlib.Core.List.{List, [], _∷_, _++_}
 use lib.Dec.{ltb, leb, eqb}
-use Rattle.meaning.specs.Lists.{all, count, upto}
+use Rattle.meaning.specs.Lists.{all, any, count, upto}
 use Rattle.meaning.specs.Sketch.{packable}
 use Rattle.meaning.specs.Trie.{Tree, leaf, inner, Children, none, child, byteAt}
 
@@ -34,6 +34,10 @@ withPage p live x = cond (eqb x p) true (live x)
 
 abbrev pub withoutPage : ℕ → (ℕ → Bool) → ℕ → Bool
 withoutPage p live x = cond (eqb x p) false (live x)
+
+-- two readings of the pages' bytes are the same on some pages
+abbrev pub Agree : (ℕ → List ℕ) → (ℕ → List ℕ) → List ℕ → Type 0
+Agree f g ps = (x : ℕ) → any (eqb x) ps ≡ true → f x ≡ g x
 
 -- Over the packed bytes of each page, of n symbols of b bits; `len` is their packed length.
 module _ (bytesOf : ℕ → List ℕ) (b n len : ℕ) where
