@@ -5,4 +5,5 @@ pub mod Sound
 pub mod Pages
 pub mod Keeps
 pub mod Agree
+pub mod Kids
 pub mod Forest
