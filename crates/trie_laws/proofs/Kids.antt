@@ -9,6 +9,7 @@ use borrow.Author.Tests.{eqb-true, le-ltb, eq-eqb}
 use Rattle.meaning.specs.Lists.{all, any, count}
 use Rattle.meaning.specs.Trie.{Tree, leaf, inner, Children, none, child, push, putLeaf, prune, byteAt, remove, removeIn, addLeaf, insert, insertIn, nodes, nodesIn}
 use Rattle.trie_laws.specs.Sound.{pagesIn, pagesAmong, filled, soundTrie, soundFrom}
+use Rattle.trie_laws.specs.Needed.{splitNodes, needed, neededIn, frees, freesIn}
 use Rattle.trie_laws.specs.Path.{has, kid, setKid, dropKid, putKid, pruneKid}
 use Rattle.trie_laws.proofs.Lists.{less, same, more, compared, holds, fails, truth, count-append}
 use Rattle.trie_laws.proofs.Sound.{SoundBelow, child-parts}
@@ -208,6 +209,26 @@ module _ (bytesOf : ℕ → List ℕ) (len : ℕ) (thresholds : List ℕ) (k p :
       insertIn bytesOf len thresholds k p cs ≡ putKid (byteAt bytesOf k p) (addLeaf bytesOf len thresholds (suc k) p []) cs
   insert-gap cs h = insert-alter cs ∙ alter-gap (byteAt bytesOf k p) (addLeaf bytesOf len thresholds (suc k) p []) (insert bytesOf len thresholds (suc k) p) cs h
 
+  pub needed-there : (cs : Children) → has (byteAt bytesOf k p) cs ≡ true →
+      neededIn bytesOf len thresholds k p cs ≡ needed bytesOf len thresholds (suc k) p (kid (byteAt bytesOf k p) cs)
+  unfolding needed has kid
+  needed-there none h = absurd (false≢true h)
+  needed-there (child c t cs) h = elim (compared (byteAt bytesOf k p) c) [
+    | less l s ↦ absurd (true≢false (sym h ∙ rw (s .gt, s .qe) refl))
+    | same l s ↦ rw (s .lt, s .eq, s .gt) refl
+    | more l s ↦ rw (s .lt, s .eq, s .gt) (needed-there cs (rw (s .gt) at h))
+  ]
+
+  pub needed-gap : (cs : Children) → has (byteAt bytesOf k p) cs ≡ false →
+      neededIn bytesOf len thresholds k p cs ≡ suc (splitNodes bytesOf len thresholds (suc k) (p ∷ []))
+  unfolding needed has
+  needed-gap none h = refl
+  needed-gap (child c t cs) h = elim (compared (byteAt bytesOf k p) c) [
+    | less l s ↦ rw (s .lt) refl
+    | same l s ↦ absurd (true≢false (sym (rw (s .gt, s .qe) refl) ∙ h))
+    | more l s ↦ rw (s .lt, s .eq) (needed-gap cs (rw (s .gt) at h))
+  ]
+
 -- a child changed, or gone: the first, or a later one
 prune-here : (y c : ℕ) (t u : Tree) (cs : Children) → ltb c y ≡ false → prune c u cs ≡ pruneKid y u (child c t cs)
 unfolding prune filled pruneKid setKid dropKid
@@ -236,3 +257,14 @@ remove-there bytesOf k p (child c t cs) h =
           rw (s .eq, s .gt)
           (ap (child c t) (remove-there bytesOf k p cs (rw (s .gt) at h)) ∙ prune-behind y c t (remove bytesOf (suc k) p (kid y cs)) cs (s .gt))
     ]
+
+pub frees-there : (bytesOf : ℕ → List ℕ) (k p : ℕ) (cs : Children) → has (byteAt bytesOf k p) cs ≡ true →
+    freesIn bytesOf k p cs ≡
+    cond (filled (remove bytesOf (suc k) p (kid (byteAt bytesOf k p) cs))) (frees bytesOf (suc k) p (kid (byteAt bytesOf k p) cs)) true
+unfolding frees has kid
+frees-there bytesOf k p none h = absurd (false≢true h)
+frees-there bytesOf k p (child c t cs) h = elim (compared (byteAt bytesOf k p) c) [
+  | less l s ↦ absurd (true≢false (sym h ∙ rw (s .gt, s .qe) refl))
+  | same l s ↦ rw (s .eq, s .gt) refl
+  | more l s ↦ rw (s .eq, s .gt) (frees-there bytesOf k p cs (rw (s .gt) at h))
+]

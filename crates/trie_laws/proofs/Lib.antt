@@ -6,4 +6,5 @@ pub mod Pages
 pub mod Keeps
 pub mod Agree
 pub mod Kids
+pub mod Path
 pub mod Forest

@@ -122,6 +122,13 @@ module _ {A : Type 0} (p : A → Bool) where
   count-none [] e = refl
   count-none (x ∷ xs) e = rw (e x) (omega (arith, count-none xs e))
 
+  pub any-none : (xs : List A) → any p xs ≡ false → count p xs ≡ 0
+  unfolding any count
+  any-none [] h = refl
+  any-none (x ∷ xs) h =
+      let o = or-none (p x) (any p xs) h in
+      rw (o .0) (omega (arith, any-none xs (o .1)))
+
   -- what all pass, all pass that asks less
   pub all-more : (r : A → Bool) (xs : List A) → ((x : A) → p x ≡ true → r x ≡ true) → all p xs ≡ true → all r xs ≡ true
   unfolding all

@@ -78,6 +78,11 @@ module _ (bytesOf : ℕ → List ℕ) where
   pathOf k p zero = []
   pathOf k p (suc d) = byteAt bytesOf k p ∷ pathOf (suc k) p d
 
+  -- the bytes of a page from level k on begin so
+  unfoldable pub follows : ℕ → List ℕ → ℕ → Bool
+  follows k [] p = true
+  follows k (y ∷ ys) p = eqb (byteAt bytesOf k p) y && follows (suc k) ys p
+
   unfoldable mutual
     -- how far down from a node at level k the page's bytes lead
     pub depth : ℕ → ℕ → Tree → ℕ
