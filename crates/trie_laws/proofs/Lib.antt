@@ -7,4 +7,5 @@ pub mod Keeps
 pub mod Agree
 pub mod Kids
 pub mod Path
+pub mod Reach
 pub mod Forest

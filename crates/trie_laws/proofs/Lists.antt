@@ -136,6 +136,17 @@ module _ {A : Type 0} (p : A → Bool) where
   all-more r (x ∷ xs) e h =
       and-intro (r x) (all r xs) (e x (and-first (p x) (all p xs) h)) (all-more r xs e (and-second (p x) (all p xs) h))
 
+  pub all-both : (r : A → Bool) (xs : List A) → all p xs ≡ true → all r xs ≡ true → all (λ x. p x && r x) xs ≡ true
+  unfolding all
+  all-both r [] h g = refl
+  all-both r (x ∷ xs) h g =
+      rw (and-first (p x) (all p xs) h, and-first (r x) (all r xs) g) (all-both r xs (and-second (p x) (all p xs) h) (and-second (r x) (all r xs) g))
+
+  pub all-true : (xs : List A) → ((x : A) → p x ≡ true) → all p xs ≡ true
+  unfolding all
+  all-true [] e = refl
+  all-true (x ∷ xs) e = rw (e x) (all-true xs e)
+
   -- where all pass one test, none passes a test that excludes it
   pub all-any : (r : A → Bool) (xs : List A) → all p xs ≡ true → ((x : A) → p x ≡ true → r x ≡ false) → any r xs ≡ false
   unfolding all any

@@ -112,7 +112,7 @@ replace-same [] t = refl
 replace-same (y ∷ ys) t = ap (λ (x : Tree). setBelow y x t) (replace-same ys (below y t)) ∙ below-same y t
 
 -- ---- along the bytes of a page
-shift : (k d : ℕ) → k + suc d ≡ suc k + d
+pub shift : (k d : ℕ) → k + suc d ≡ suc k + d
 shift k d = omega arith
 
 module _ (bytesOf : ℕ → List ℕ) (len : ℕ) (thresholds : List ℕ) (p : ℕ) where
