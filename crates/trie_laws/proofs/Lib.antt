@@ -5,6 +5,7 @@ pub mod Sound
 pub mod Pages
 pub mod Keeps
 pub mod Agree
+pub mod Back
 pub mod Kids
 pub mod Path
 pub mod Reach

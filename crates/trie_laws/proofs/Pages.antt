@@ -94,7 +94,7 @@ module _ (q : ℕ → Bool) (p : ℕ) where
   ]
 
   -- where the page is not, nothing changes
-  absent-count : (xs : List ℕ) → any (eqb p) xs ≡ false → count q xs ≡ count (λ x. not (eqb x p) && q x) xs
+  pub absent-count : (xs : List ℕ) → any (eqb p) xs ≡ false → count q xs ≡ count (λ x. not (eqb x p) && q x) xs
   unfolding count any
   absent-count [] h = refl
   absent-count (x ∷ xs) h =
