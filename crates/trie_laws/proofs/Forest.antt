@@ -2,14 +2,17 @@
 use Prim.Native.Nat.{ℕ, zero, suc, _+_, _<_}
 use native.Mathlib.Omega.{arith}
 use mathlib.Core.Path.{_≡_, refl, sym, ap, _∙_}
-use mathlib.Core.Bool.{Bool, true, false, cond}
+use mathlib.Core.Bool.{Bool, true, false, cond, not}
 use mathlib.Core.List.{List, [], _∷_, map}
+use lib.Dec.{ltb, eqb}
 use lib.ListN.{length, getD, replicate}
-use Rattle.meaning.specs.Lists.{sum}
+use borrow.Author.Tests.{ltb-true, eqb-true, ne-eqb}
+use Rattle.meaning.specs.Lists.{keep, sum}
 use Rattle.meaning.specs.Trie.{Tree, leaf, fresh, insert, remove, nodes}
 use Rattle.meaning.specs.Ledger.{Settings, Row, add, drop, putRow}
-use Rattle.meaning.specs.Forest.{blockBytes, bytesIn, eachFrom, forestAfter, totalNodes}
+use Rattle.meaning.specs.Forest.{blockBytes, bytesOfSketch, bytesIn, eachFrom, forestAfter, totalNodes}
 use Rattle.trie_laws.specs.Needed.{needed, frees, sumFrom}
+use Rattle.trie_laws.proofs.Lists.{holds, fails, truth, eqb-comm}
 use Rattle.trie_laws.proofs.Nodes.{insert-nodes, remove-nodes}
 
 module _ (f : ℕ → Tree → Tree) where
@@ -64,3 +67,26 @@ pub total-drop : (s : Settings) (rows : List Row) (p : ℕ) (F : List Tree) →
     totalNodes (forestAfter s rows (drop p) F) + sumFrom (λ j t. cond (frees (bytesIn s rows j) 0 p t) 1 0) 0 F ≡ totalNodes F
 unfolding forestAfter
 total-drop s rows p F = total-remove (bytesIn s rows) p 0 F
+
+-- ---- the packed bytes of a page, by the rows after an add and after a drop
+module _ (s : Settings) (j x : ℕ) where
+  pub bytes-put : (r : Row) (rows : List Row) → bytesIn s (putRow r rows) j x ≡ cond (eqb (r .page) x) (bytesOfSketch s j (r .sketch)) (bytesIn s rows j x)
+  unfolding bytesIn putRow
+  bytes-put r [] = refl
+  bytes-put r (y ∷ rows) = elim (truth (ltb (y .page) (r .page))) [
+    | holds e ↦
+        let l : y .page < r .page = ltb-true (y .page) (r .page) e in
+        rw (e, bytes-put r rows) (elim (truth (eqb (r .page) x)) [
+          | holds z ↦ rw (z, ne-eqb (y .page) x (omega (arith, eqb-true (r .page) x z))) refl
+          | fails z ↦ rw z refl
+        ])
+    | fails e ↦ rw e refl
+  ]
+
+  pub bytes-strike : (p : ℕ) (rows : List Row) → eqb x p ≡ false → bytesIn s (keep (λ r. not (eqb (r .page) p)) rows) j x ≡ bytesIn s rows j x
+  unfolding bytesIn keep
+  bytes-strike p [] h = refl
+  bytes-strike p (y ∷ rows) h = elim (truth (eqb (y .page) p)) [
+    | holds e ↦ rw (e, eqb-true (y .page) p e, eqb-comm p x ∙ h) (bytes-strike p rows h)
+    | fails e ↦ rw (e, bytes-strike p rows h) refl
+  ]

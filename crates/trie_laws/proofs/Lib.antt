@@ -10,3 +10,4 @@ pub mod Kids
 pub mod Path
 pub mod Reach
 pub mod Forest
+pub mod Block
