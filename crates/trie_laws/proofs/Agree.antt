@@ -1,15 +1,15 @@
 -- Only the bytes of the page and of the pages in the trie matter: what is written to another page's row changes nothing.
 use Prim.Native.Nat.{ℕ, suc}
-use mathlib.Core.Path.{_≡_, refl, sym, ap, _∙_}
-use mathlib.Core.Bool.{Bool, true, false, cond, _&&_, _||_, false≢true}
+use mathlib.Core.Path.{_≡_, refl, ap, _∙_}
+use mathlib.Core.Bool.{false≢true}
 use mathlib.Core.List.{List, [], _∷_, _++_, map}
-use lib.Dec.{ltb, eqb}
-use lib.ListN.{length, getD}
+use lib.Dec.{eqb}
+use lib.ListN.{getD}
 use borrow.Author.Tests.{eqb-true, eq-eqb}
 use Rattle.meaning.specs.Lists.{all, any}
-use Rattle.meaning.specs.Trie.{Tree, leaf, inner, Children, none, child, putLeaf, prune, byteAt, split, remove, removeIn, addLeaf, insert, insertIn}
-use Rattle.trie_laws.specs.Sound.{pagesIn, pagesAmong, Agree, filled, packs, soundTrie, soundFrom}
-use Rattle.trie_laws.specs.Needed.{distinctFrom, distinct, splitNodes, needed, neededIn, frees, freesIn}
+use Rattle.meaning.specs.Trie.{Tree, leaf, inner, Children, none, child, putLeaf, byteAt, split, remove, removeIn, addLeaf, insert, insertIn}
+use Rattle.trie_laws.specs.Sound.{pagesIn, pagesAmong, Agree, packs, soundTrie, soundFrom}
+use Rattle.trie_laws.specs.Needed.{distinct, splitNodes, needed, neededIn, frees, freesIn}
 use Rattle.trie_laws.proofs.Lists.{holds, fails, truth, or-first, or-second, any-append, all-agree}
 
 module _ (f g : ℕ → List ℕ) where

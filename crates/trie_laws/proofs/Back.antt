@@ -1,19 +1,20 @@
 -- A page put in and taken out again: the other pages are as before, and where no node was made so is the trie.
-use Prim.Native.Nat.{ℕ, zero, suc, _+_, _<_}
+use Prim.Native.Nat.{ℕ, suc}
 use native.Mathlib.Omega.{arith}
 use native.Mathlib.Nat.{zero-add}
 use mathlib.Core.Path.{_≡_, refl, sym, ap, _∙_}
-use mathlib.Core.Bool.{Bool, true, false, cond, not, _&&_, _||_, true≢false, false≢true}
-use mathlib.Core.List.{List, [], _∷_, _++_}
-use lib.Dec.{ltb, eqb}
-use lib.ListN.{length, getD}
+use mathlib.Core.Bool.{Bool, true, false, not, _&&_, false≢true}
+use mathlib.Core.List.{List, [], _∷_}
+use lib.Dec.{eqb}
+use lib.ListN.{length}
 use borrow.Author.Tests.{eq-eqb}
 use Rattle.meaning.specs.Lists.{all, any, count}
-use Rattle.meaning.specs.Trie.{Tree, leaf, inner, Children, none, child, without, prune, byteAt, split, remove, removeIn, addLeaf, insert, insertIn}
+use Rattle.meaning.specs.Trie.{Tree, leaf, inner, Children, none, child, without, prune, byteAt, remove, removeIn, addLeaf, insert, insertIn}
 use Rattle.trie_laws.specs.Sound.{pagesIn, pagesAmong, filled, packs, soundTrie, soundFrom}
 use Rattle.trie_laws.specs.Needed.{splits, splitNodes, needed, neededIn}
 use Rattle.trie_laws.proofs.Lists.{less, same, more, compared, holds, fails, truth, or-none, eqb-comm, any-append}
 use Rattle.trie_laws.proofs.Distinct.{distinct-some}
+use Rattle.trie_laws.proofs.Leaf.{add-stays}
 use Rattle.trie_laws.proofs.Sound.{inner-parts, child-parts}
 use Rattle.trie_laws.proofs.Pages.{insert-count, remove-count, absent-count}
 use Rattle.trie_laws.proofs.Keeps.{insert-sound}
@@ -42,10 +43,10 @@ module _ (bytesOf : ℕ → List ℕ) (b n len : ℕ) (thresholds : List ℕ) (p
 
   back-leaf : (k : ℕ) (ps : List ℕ) → any (eqb p) ps ≡ false → splitNodes bytesOf len thresholds k (p ∷ ps) ≡ 0 →
       remove bytesOf k p (addLeaf bytesOf len thresholds k p ps) ≡ leaf ps
-  unfolding remove addLeaf without splitNodes splits
-  back-leaf k ps a z = elim (truth (ltb k len && ltb (getD thresholds k 0) (length (p ∷ ps)))) [
+  unfolding remove without splitNodes
+  back-leaf k ps a z = elim (truth (splits len thresholds k (length (p ∷ ps)))) [
     | holds e ↦ absurd (omega (arith, distinct-some bytesOf k p ps, rw e at z))
-    | fails e ↦ rw (e, eq-eqb p p refl) (ap leaf (without-absent p ps a))
+    | fails e ↦ rw (add-stays bytesOf len thresholds k p ps e, eq-eqb p p refl) (ap leaf (without-absent p ps a))
   ]
 
   mutual

@@ -2,18 +2,18 @@
 use Prim.Native.Nat.{ℕ, zero, suc, _+_, _<_}
 use native.Mathlib.Omega.{arith}
 use native.Mathlib.Nat.{add-zero}
-use mathlib.Core.Path.{_≡_, refl, sym, ap, _∙_}
+use mathlib.Core.Path.{_≡_, refl, sym, _∙_}
 use mathlib.Core.Bool.{Bool, true, false, cond}
 use mathlib.Core.List.{List, [], _∷_}
-use lib.Dec.{ltb, eqb}
+use lib.Dec.{eqb}
 use lib.ListN.{length, getD, replicate}
 use borrow.Author.Tests.{eq-eqb}
-use Rattle.meaning.specs.Lists.{any, count}
+use Rattle.meaning.specs.Lists.{count}
 use Rattle.meaning.specs.Sketch.{blockLength}
 use Rattle.meaning.specs.Trie.{Tree, fresh, insert, remove}
 use Rattle.meaning.specs.Ledger.{Settings}
 use Rattle.meaning.specs.Forest.{blockBytes, eachFrom}
-use Rattle.trie_laws.specs.Sound.{pagesIn, packs, soundTrie, Stands, Agree, withPage, withoutPage}
+use Rattle.trie_laws.specs.Sound.{pagesIn, Stands, withPage, withoutPage}
 use Rattle.trie_laws.specs.Block.{packsIn, SoundBlock, EachFrom}
 use Rattle.trie_laws.proofs.Path.{shift}
 use Rattle.trie_laws.proofs.Pages.{stands-any, stands-all, insert-stands, remove-stands}

@@ -1,14 +1,13 @@
 -- Laws of the number of different bytes.
 use Prim.Native.Nat.{ℕ, zero, suc, _+_, _≤_, _<_}
 use native.Mathlib.Omega.{arith}
-use mathlib.Core.Path.{_≡_, refl, sym, ap, _∙_}
+use mathlib.Core.Path.{_≡_, refl, sym, ap}
 use mathlib.Core.Bool.{Bool, true, false, cond, not, _&&_, _||_, and-true, and-false}
-use mathlib.Core.List.{List, [], _∷_, map}
+use mathlib.Core.List.{List, [], _∷_}
 use lib.Dec.{ltb, eqb}
 use lib.ListN.{length}
 use borrow.Author.Tests.{ltb-true, eq-eqb, ne-eqb}
 use Rattle.meaning.specs.Lists.{all, any, count, from, upto}
-use Rattle.meaning.specs.Trie.{byteAt}
 use Rattle.trie_laws.specs.Needed.{distinctFrom, distinct}
 use Rattle.trie_laws.proofs.Lists.{less, same, more, compared, and-first, and-second, or-first, or-second, count-none}
 

@@ -1,14 +1,14 @@
 -- The tries of all blocks, each changed: their number, and their nodes together.
 use Prim.Native.Nat.{ℕ, zero, suc, _+_, _<_}
 use native.Mathlib.Omega.{arith}
-use mathlib.Core.Path.{_≡_, refl, sym, ap, _∙_}
-use mathlib.Core.Bool.{Bool, true, false, cond, not}
-use mathlib.Core.List.{List, [], _∷_, map}
+use mathlib.Core.Path.{_≡_, refl, ap, _∙_}
+use mathlib.Core.Bool.{false, cond, not}
+use mathlib.Core.List.{List, [], _∷_}
 use lib.Dec.{ltb, eqb}
 use lib.ListN.{length, getD, replicate}
 use borrow.Author.Tests.{ltb-true, eqb-true, ne-eqb}
 use Rattle.meaning.specs.Lists.{keep, sum}
-use Rattle.meaning.specs.Trie.{Tree, leaf, fresh, insert, remove, nodes}
+use Rattle.meaning.specs.Trie.{Tree, fresh, insert, remove, nodes}
 use Rattle.meaning.specs.Ledger.{Settings, Row, add, drop, putRow}
 use Rattle.meaning.specs.Forest.{blockBytes, bytesOfSketch, bytesIn, eachFrom, forestAfter, totalNodes}
 use Rattle.trie_laws.specs.Needed.{needed, frees, sumFrom}

@@ -1,17 +1,19 @@
 -- An insertion and a removal keep a trie sound.
-use Prim.Native.Nat.{ℕ, zero, suc, _+_, _≤_, _<_}
+use Prim.Native.Nat.{ℕ, suc, _≤_, _<_}
 use native.Mathlib.Omega.{arith}
-use mathlib.Core.Path.{_≡_, refl, sym, ap, _∙_}
-use mathlib.Core.Bool.{Bool, true, false, cond, not, _&&_, _||_}
-use mathlib.Core.List.{List, [], _∷_, _++_}
-use lib.Dec.{ltb, eqb}
-use lib.ListN.{length, getD}
-use borrow.Author.Tests.{ltb-true, eq-eqb}
-use Rattle.meaning.specs.Lists.{all, any, upto}
+use mathlib.Core.Path.{_≡_, refl, sym, _∙_}
+use mathlib.Core.Bool.{Bool, true, _&&_, _||_}
+use mathlib.Core.List.{List, [], _∷_}
+use lib.Dec.{eqb}
+use lib.ListN.{length}
+use borrow.Author.Tests.{eq-eqb}
+use Rattle.meaning.specs.Lists.{all}
 use Rattle.meaning.specs.Sketch.{packable}
-use Rattle.meaning.specs.Trie.{Tree, leaf, inner, Children, none, child, fresh, without, push, putLeaf, prune, byteAt, split, remove, removeIn, addLeaf, insert, insertIn}
+use Rattle.meaning.specs.Trie.{Tree, leaf, inner, Children, none, child, fresh, push, putLeaf, prune, byteAt, split, remove, removeIn, addLeaf, insert, insertIn}
 use Rattle.trie_laws.specs.Sound.{pagesIn, pagesAmong, filled, packs, soundTrie, soundFrom}
+use Rattle.trie_laws.specs.Needed.{splits}
 use Rattle.trie_laws.proofs.Lists.{less, same, more, compared, holds, fails, truth, and-intro, and-first, and-second, or-second, all-append, all-more, upto-all}
+use Rattle.trie_laws.proofs.Leaf.{splits-level, add-splits, add-stays}
 use Rattle.trie_laws.proofs.Sound.{SoundBelow, inner-parts, inner-whole, child-parts, lower, sound-last, sound-before, sound-instead, sound-behind}
 use Rattle.trie_laws.proofs.Pages.{insert-all, remove-all}
 
@@ -80,22 +82,22 @@ module _ (bytesOf : ℕ → List ℕ) (b n len : ℕ) where
   module _ (thresholds : List ℕ) where
     add-sound : (k p : ℕ) (ps : List ℕ) → packs bytesOf b n len p ≡ true → all (packs bytesOf b n len) ps ≡ true →
         soundTrie bytesOf b n len k (addLeaf bytesOf len thresholds k p ps) ≡ true
-    unfolding addLeaf soundTrie all
-    add-sound k p ps e f = elim (truth (ltb k len && ltb (getD thresholds k 0) (length (p ∷ ps)))) [
+    unfolding soundTrie all
+    add-sound k p ps e f = elim (truth (splits len thresholds k (length (p ∷ ps)))) [
       | holds s ↦
-          let l : k < len = ltb-true k len (search and-first) in
-          rw s (inner-whole bytesOf b n len k (split bytesOf k (p ∷ ps) none)
+          let l : k < len = splits-level len thresholds k (length (p ∷ ps)) s in
+          rw (add-splits bytesOf len thresholds k p ps s)
+          (inner-whole bytesOf b n len k (split bytesOf k (p ∷ ps) none)
           (record { level = l; kids = split-sound k (p ∷ ps) none l (and-intro (packs bytesOf b n len p) (all (packs bytesOf b n len) ps) e f) refl }))
-      | fails s ↦ rw s refl
+      | fails s ↦ rw (add-stays bytesOf len thresholds k p ps s) refl
     ]
 
     pub insert-filled : (k p : ℕ) (t : Tree) → filled (insert bytesOf len thresholds k p t) ≡ true
-    unfolding insert addLeaf filled
-    insert-filled k p (leaf ps) = go (ltb k len && ltb (getD thresholds k 0) (length (p ∷ ps)))
-      where
-        go : (s : Bool) → filled (cond s (inner (split bytesOf k (p ∷ ps) none)) (leaf (p ∷ ps))) ≡ true
-        go true = refl
-        go false = refl
+    unfolding insert filled
+    insert-filled k p (leaf ps) = elim (truth (splits len thresholds k (length (p ∷ ps)))) [
+      | holds s ↦ rw (add-splits bytesOf len thresholds k p ps s) refl
+      | fails s ↦ rw (add-stays bytesOf len thresholds k p ps s) refl
+    ]
     insert-filled k p (inner cs) = refl
 
     insert-below : (k p c : ℕ) (t : Tree) → byteAt bytesOf k p ≡ c → packable b n k c ≡ true → all (λ x. eqb (byteAt bytesOf k x) c) (pagesIn t) ≡ true →

@@ -1,14 +1,14 @@
 -- Children by their bytes: what is written is read back; and how insertion and removal change one child.
-use Prim.Native.Nat.{ℕ, zero, suc, _+_, _≤_, _<_}
+use Prim.Native.Nat.{ℕ, suc, _+_}
 use native.Mathlib.Omega.{arith}
 use mathlib.Core.Path.{_≡_, refl, sym, ap, _∙_}
-use mathlib.Core.Bool.{Bool, true, false, cond, not, _&&_, _||_, true≢false, false≢true}
-use mathlib.Core.List.{List, [], _∷_, _++_}
+use mathlib.Core.Bool.{Bool, true, false, cond, true≢false, false≢true}
+use mathlib.Core.List.{List, [], _∷_}
 use lib.Dec.{ltb, eqb}
 use borrow.Author.Tests.{eqb-true, le-ltb, eq-eqb}
-use Rattle.meaning.specs.Lists.{all, any, count}
+use Rattle.meaning.specs.Lists.{count}
 use Rattle.meaning.specs.Trie.{Tree, leaf, inner, Children, none, child, push, putLeaf, prune, byteAt, remove, removeIn, addLeaf, insert, insertIn, nodes, nodesIn}
-use Rattle.trie_laws.specs.Sound.{pagesIn, pagesAmong, filled, soundTrie, soundFrom}
+use Rattle.trie_laws.specs.Sound.{pagesIn, pagesAmong, filled, soundFrom}
 use Rattle.trie_laws.specs.Needed.{splitNodes, needed, neededIn, frees, freesIn}
 use Rattle.trie_laws.specs.Path.{has, kid, setKid, dropKid, putKid, pruneKid}
 use Rattle.trie_laws.proofs.Lists.{less, same, more, compared, holds, fails, truth, count-append}

@@ -1,4 +1,5 @@
 pub mod Lists
+pub mod Leaf
 pub mod Distinct
 pub mod Nodes
 pub mod Sound

@@ -1,7 +1,7 @@
 -- How many nodes a trie has after an insertion, and after a removal.
-use Prim.Native.Nat.{ℕ, zero, suc, _+_, _≤_, _<_}
+use Prim.Native.Nat.{ℕ, zero, suc, _+_}
 use native.Mathlib.Omega.{arith}
-use mathlib.Core.Path.{_≡_, refl, sym, ap, _∙_, fun-ext}
+use mathlib.Core.Path.{_≡_, refl, sym, _∙_, fun-ext}
 use mathlib.Core.Bool.{Bool, true, false, cond, _&&_, _||_}
 use mathlib.Core.List.{List, [], _∷_, map}
 use lib.Dec.{ltb, eqb}
@@ -12,7 +12,8 @@ use Rattle.trie_laws.specs.Sound.{filled}
 use Rattle.trie_laws.specs.Needed.{distinctFrom, distinct, splits, splitNodes, needed, neededIn, frees, freesIn}
 use Rattle.trie_laws.specs.Path.{has}
 use Rattle.trie_laws.proofs.Distinct.{distinct-one}
-use Rattle.trie_laws.proofs.Lists.{less, same, more, compared}
+use Rattle.trie_laws.proofs.Leaf.{add-splits, add-stays}
+use Rattle.trie_laws.proofs.Lists.{less, same, more, compared, holds, fails, truth}
 
 -- a page put into the child leaf of its byte makes a node where the byte is new
 push-nodes : (p : ℕ) (t : Tree) → nodes (push p t) ≡ nodes t
@@ -66,13 +67,11 @@ split-nodes bytesOf k (p ∷ ps) cs =
 -- ---- an insertion
 module _ (bytesOf : ℕ → List ℕ) (len : ℕ) (thresholds : List ℕ) where
   add-nodes : (k p : ℕ) (ps : List ℕ) → nodes (addLeaf bytesOf len thresholds k p ps) ≡ 1 + splitNodes bytesOf len thresholds k (p ∷ ps)
-  unfolding addLeaf nodes splitNodes splits distinct has
-  add-nodes k p ps = go (ltb k len && ltb (getD thresholds k 0) (length (p ∷ ps)))
-    where
-      go : (q : Bool) → nodes (cond q (inner (split bytesOf k (p ∷ ps) none)) (leaf (p ∷ ps))) ≡
-          1 + cond q (distinctFrom (λ y. false) (map (byteAt bytesOf k) (p ∷ ps))) 0
-      go true = omega (arith, split-nodes bytesOf k (p ∷ ps) none)
-      go false = refl
+  unfolding nodes splitNodes distinct has
+  add-nodes k p ps = elim (truth (splits len thresholds k (length (p ∷ ps)))) [
+    | holds e ↦ rw (add-splits bytesOf len thresholds k p ps e, e) (omega (arith, split-nodes bytesOf k (p ∷ ps) none))
+    | fails e ↦ rw (add-stays bytesOf len thresholds k p ps e, e) refl
+  ]
 
   mutual
     unfolding insert nodes needed

@@ -1,18 +1,20 @@
 -- The pages of a trie after an insertion, and after a removal: no page is lost or doubled.
-use Prim.Native.Nat.{ℕ, zero, suc, _+_, _≤_, _<_}
+use Prim.Native.Nat.{ℕ, suc, _+_, _<_}
 use native.Mathlib.Omega.{arith}
 use native.Mathlib.Nat.{zero-add}
 use mathlib.Core.Path.{_≡_, refl, sym, ap, _∙_, fun-ext}
 use mathlib.Core.Bool.{Bool, true, false, cond, not, _&&_, _||_, and-false, true≢false, false≢true}
-use mathlib.Core.List.{List, [], _∷_, _++_}
+use mathlib.Core.List.{List, [], _∷_}
 use lib.Dec.{ltb, eqb}
-use lib.ListN.{length, getD}
+use lib.ListN.{length}
 use borrow.Author.Tests.{eqb-true, lt-ltb, ne-eqb}
 use Rattle.meaning.specs.Lists.{all, any, count}
 use Rattle.meaning.specs.Trie.{Tree, leaf, inner, Children, none, child, without, push, putLeaf, prune, byteAt, split, remove, removeIn, addLeaf, insert, insertIn}
 use Rattle.trie_laws.specs.Sound.{pagesIn, pagesAmong, soundTrie, soundFrom, Stands, withPage, withoutPage}
+use Rattle.trie_laws.specs.Needed.{splits}
 use Rattle.trie_laws.specs.Path.{isLeaf, leaves}
 use Rattle.trie_laws.proofs.Lists.{less, same, more, compared, holds, fails, truth, and-first, and-second, or-none, not-so, eqb-comm, any-append, count-append, any-count, all-count, count-none, all-any, each-all}
+use Rattle.trie_laws.proofs.Leaf.{add-splits, add-stays}
 use Rattle.trie_laws.proofs.Sound.{inner-parts, child-parts}
 
 -- ---- a split: the children are leaves
@@ -61,12 +63,11 @@ module _ (q : ℕ → Bool) where
 
   module _ (bytesOf : ℕ → List ℕ) (len : ℕ) (thresholds : List ℕ) where
     add-count : (k p : ℕ) (ps : List ℕ) → count q (pagesIn (addLeaf bytesOf len thresholds k p ps)) ≡ cond (q p) 1 0 + count q ps
-    unfolding addLeaf pagesIn count leaves
-    add-count k p ps = go (ltb k len && ltb (getD thresholds k 0) (length (p ∷ ps)))
-      where
-        go : (s : Bool) → count q (pagesIn (cond s (inner (split bytesOf k (p ∷ ps) none)) (leaf (p ∷ ps)))) ≡ cond (q p) 1 0 + count q ps
-        go true = omega (arith, split-count bytesOf k (p ∷ ps) none refl)
-        go false = refl
+    unfolding pagesIn count leaves
+    add-count k p ps = elim (truth (splits len thresholds k (length (p ∷ ps)))) [
+      | holds e ↦ rw (add-splits bytesOf len thresholds k p ps e) (omega (arith, split-count bytesOf k (p ∷ ps) none refl))
+      | fails e ↦ rw (add-stays bytesOf len thresholds k p ps e) refl
+    ]
 
     mutual
       unfolding insert pagesIn count

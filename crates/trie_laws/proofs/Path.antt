@@ -1,21 +1,17 @@
 -- Along a path of bytes: insertion and removal change what stands at its end.
-use Prim.Native.Nat.{ℕ, zero, suc, _+_, _≤_, _<_}
+use Prim.Native.Nat.{ℕ, zero, suc, _+_}
 use native.Mathlib.Omega.{arith}
 use native.Mathlib.Nat.{add-zero}
 use mathlib.Core.Path.{_≡_, refl, sym, ap, _∙_}
-use mathlib.Core.Bool.{Bool, true, false, cond, not, _&&_, _||_, true≢false, false≢true}
-use mathlib.Core.List.{List, [], _∷_, _++_}
-use lib.Dec.{ltb, eqb}
-use lib.ListN.{length, getD}
-use borrow.Author.Tests.{eqb-true, eq-eqb}
-use Rattle.meaning.specs.Lists.{all, any, count}
-use Rattle.meaning.specs.Trie.{Tree, leaf, inner, Children, none, child, without, byteAt, remove, removeIn, addLeaf, insert, insertIn, nodes, nodesIn}
-use Rattle.trie_laws.specs.Sound.{pagesIn, pagesAmong, filled, soundTrie, soundFrom}
-use Rattle.trie_laws.specs.Needed.{splitNodes, needed, neededIn, frees, freesIn}
-use Rattle.trie_laws.specs.Path.{has, kid, setKid, dropKid, putKid, pruneKid, hasBelow, below, setBelow, hasPath, subtree, replace, pathOf, follows, depth, depthIn}
-use Rattle.trie_laws.proofs.Lists.{less, same, more, compared, holds, fails, truth, and-intro, and-first, and-second}
-use Rattle.trie_laws.proofs.Sound.{SoundBelow, inner-parts}
-use Rattle.trie_laws.proofs.Kids.{has-set, kid-set, set-set, set-same, set-nodes, set-count, kid-sound, insert-there, insert-gap, needed-there, needed-gap, remove-there, frees-there}
+use mathlib.Core.Bool.{Bool, true, false, false≢true}
+use mathlib.Core.List.{List, [], _∷_}
+use Rattle.meaning.specs.Lists.{count}
+use Rattle.meaning.specs.Trie.{Tree, leaf, inner, Children, without, byteAt, remove, addLeaf, insert, nodes}
+use Rattle.trie_laws.specs.Sound.{pagesIn, filled}
+use Rattle.trie_laws.specs.Needed.{splitNodes, needed, frees}
+use Rattle.trie_laws.specs.Path.{has, kid, dropKid, putKid, pruneKid, hasBelow, below, setBelow, hasPath, subtree, replace, pathOf}
+use Rattle.trie_laws.proofs.Lists.{and-first, and-second}
+use Rattle.trie_laws.proofs.Kids.{has-set, kid-set, set-set, set-same, set-nodes, set-count, insert-there, insert-gap, needed-there, needed-gap, remove-there, frees-there}
 
 -- ---- one step
 module _ (y : ℕ) (u : Tree) where

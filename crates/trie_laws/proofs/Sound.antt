@@ -2,13 +2,13 @@
 use Prim.Native.Nat.{ℕ, suc, _≤_, _<_}
 use native.Mathlib.Omega.{arith}
 use mathlib.Core.Path.{_≡_, refl}
-use mathlib.Core.Bool.{Bool, true, false, _&&_}
-use mathlib.Core.List.{List, [], _∷_}
-use lib.Dec.{ltb, leb, eqb}
+use mathlib.Core.Bool.{true}
+use mathlib.Core.List.{List}
+use lib.Dec.{ltb, eqb}
 use borrow.Author.Tests.{ltb-true, lt-ltb, leb-true, le-leb}
 use Rattle.meaning.specs.Lists.{all}
 use Rattle.meaning.specs.Sketch.{packable}
-use Rattle.meaning.specs.Trie.{Tree, inner, Children, none, child, fresh, byteAt}
+use Rattle.meaning.specs.Trie.{Tree, inner, Children, none, child, byteAt}
 use Rattle.trie_laws.specs.Sound.{pagesIn, filled, soundTrie, soundFrom}
 use Rattle.trie_laws.proofs.Lists.{and-intro, and-first, and-second}
 

@@ -1,5 +1,5 @@
 -- How many nodes an insertion makes, counted along the page's path only; and whether a removal frees one.
-use Prim.Native.Nat.{ℕ, zero, suc, _+_}
+use Prim.Native.Nat.{ℕ, suc, _+_}
 use mathlib.Core.Bool.{Bool, true, false, cond, _&&_, _||_}
 use mathlib.Core.List.{List, [], _∷_, map}
 use lib.Dec.{ltb, eqb}
@@ -18,7 +18,7 @@ distinct bytesOf k ps = distinctFrom (λ y. false) (map (byteAt bytesOf k) ps)
 
 -- a leaf at level k with this many pages becomes inner
 unfoldable pub splits : ℕ → List ℕ → ℕ → ℕ → Bool
-splits len thresholds k count = ltb k len && ltb (getD thresholds k 0) count
+splits len thresholds k size = ltb k len && ltb (getD thresholds k 0) size
 
 module _ (bytesOf : ℕ → List ℕ) (len : ℕ) (thresholds : List ℕ) where
   -- the nodes that a leaf at level k gets with these pages: one for each byte where it splits

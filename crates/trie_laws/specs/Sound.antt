@@ -1,5 +1,5 @@
 -- What it is for a trie to be sound (document 01, "A store is sound if .."), as one test; and the pages that stand in it.
-use Prim.Native.Nat.{ℕ, zero, suc}
+use Prim.Native.Nat.{ℕ, suc}
 use mathlib.Core.Path.{_≡_}
 use mathlib.Core.Bool.{Bool, true, false, cond, _&&_}
 use mathlib.Core.List.{List, [], _∷_, _++_}
