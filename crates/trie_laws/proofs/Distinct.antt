@@ -9,7 +9,7 @@ use lib.ListN.{length}
 use borrow.Author.Tests.{ltb-true, eq-eqb, ne-eqb}
 use Rattle.meaning.specs.Lists.{all, any, count, from, upto}
 use Rattle.trie_laws.specs.Needed.{distinctFrom, distinct}
-use Rattle.trie_laws.proofs.Lists.{less, same, more, compared, and-first, and-second, or-first, or-second, count-none}
+use Rattle.trie_laws.proofs.Lists.{less, same, more, compared, holds, fails, truth, and-first, and-second, or-first, or-second, count-none}
 
 -- only what was seen of the list's own bytes counts
 pub distinct-agree : (s r : ℕ → Bool) (xs : List ℕ) → ((y : ℕ) → any (eqb y) xs ≡ true → s y ≡ r y) → distinctFrom s xs ≡ distinctFrom r xs
@@ -25,11 +25,12 @@ distinct-agree s r (x ∷ xs) h =
 pub distinct-length : (s : ℕ → Bool) (xs : List ℕ) → distinctFrom s xs ≤ length xs
 unfolding distinctFrom
 distinct-length s [] = omega arith
-distinct-length s (x ∷ xs) = go (s x) (distinct-length (λ y. eqb y x || s y) xs)
-  where
-    go : (q : Bool) {d : ℕ} → d ≤ length xs → cond q 0 1 + d ≤ suc (length xs)
-    go true h = omega arith
-    go false h = omega arith
+distinct-length s (x ∷ xs) =
+    let h : distinctFrom (λ y. eqb y x || s y) xs ≤ length xs = distinct-length (λ y. eqb y x || s y) xs in
+    elim (truth (s x)) [
+      | holds e ↦ rw e (omega arith)
+      | fails e ↦ rw e (omega arith)
+    ]
 
 -- one page has one byte, and each list of pages has a byte
 pub distinct-one : (bytesOf : ℕ → List ℕ) (k p : ℕ) → distinct bytesOf k (p ∷ []) ≡ 1
@@ -85,11 +86,12 @@ distinct-count m s (x ∷ xs) h =
 count-from : (f : ℕ → Bool) (j m : ℕ) → count f (from j m) ≤ m
 unfolding count from
 count-from f j zero = omega arith
-count-from f j (suc m) = go (f j) (count-from f (suc j) m)
-  where
-    go : (q : Bool) {d : ℕ} → d ≤ m → cond q 1 0 + d ≤ suc m
-    go true h = omega arith
-    go false h = omega arith
+count-from f j (suc m) =
+    let h : count f (from (suc j) m) ≤ m = count-from f (suc j) m in
+    elim (truth (f j)) [
+      | holds e ↦ rw e (omega arith)
+      | fails e ↦ rw e (omega arith)
+    ]
 
 pub distinct-below : (m : ℕ) (s : ℕ → Bool) (xs : List ℕ) → all (λ x. ltb x m) xs ≡ true → distinctFrom s xs ≤ m
 unfolding upto
