@@ -13,7 +13,8 @@ use crate::Opening;
 
 const MARK: u32 = 0x56440001;
 
-const LENGTH: usize = 391;
+// How many words the table needs.
+pub const LENGTH: usize = 391;
 
 // Where the thresholds, the memberships and the grants begin, and the free link.
 const THRESHOLDS: usize = 6;
