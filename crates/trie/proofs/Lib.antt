@@ -1,0 +1,4 @@
+pub mod Frame
+pub mod Abstract
+pub mod Steps
+pub mod Spot
