@@ -1,6 +1,6 @@
 -- The functions on the abstract trie go down by a page's bytes: at a node they pass over the children with lower bytes.
 use Prim.Native.Nat.{ℕ, suc, _<_}
-use mathlib.Core.Path.{_≡_, refl}
+use mathlib.Core.Path.{_≡_, refl, _∙_, sym}
 use mathlib.Core.List.{List, [], _∷_}
 use native.Mathlib.Omega.{arith}
 use borrow.Author.Tests.{le-ltb, lt-ltb, eq-eqb, ne-eqb}
@@ -42,6 +42,10 @@ unfolding putLeaf
 put-new b p none l = refl
 put-new b p (child c t cs) l = rw (lt-ltb b c l) refl
 
+pub put-empty : (b p : ℕ) (cs : Children) → Above b cs → putLeaf b p (child b (leaf []) cs) ≡ putLeaf b p cs
+unfolding push
+put-empty b p cs l = put-here b p (leaf []) cs ∙ sym (put-new b p cs l)
+
 module _ (bytesOf : ℕ → List ℕ) (p : ℕ) where
   -- insertion
   module _ (len : ℕ) (τ : List ℕ) where
@@ -54,6 +58,13 @@ module _ (bytesOf : ℕ → List ℕ) (p : ℕ) where
           skips = λ k c t cs l. rw (le-ltb (byteAt bytesOf k p) c (omega arith), ne-eqb (byteAt bytesOf k p) c (omega arith)) refl;
           here = λ k t cs z. rw (le-ltb (byteAt bytesOf k p) (byteAt bytesOf k p) (omega arith), eq-eqb (byteAt bytesOf k p) (byteAt bytesOf k p) refl) refl;
         }
+
+    pub insert-empty : (k : ℕ) (cs : Children) → Above (byteAt bytesOf k p) cs → insertIn bytesOf len τ k p (child (byteAt bytesOf k p) (leaf []) cs) ≡ insertIn bytesOf len τ k p cs
+    unfolding insert
+    insert-empty k none l =
+        rw (le-ltb (byteAt bytesOf k p) (byteAt bytesOf k p) (omega arith), eq-eqb (byteAt bytesOf k p) (byteAt bytesOf k p) refl) refl
+    insert-empty k (child c t cs) l =
+        rw (le-ltb (byteAt bytesOf k p) (byteAt bytesOf k p) (omega arith), eq-eqb (byteAt bytesOf k p) (byteAt bytesOf k p) refl, lt-ltb (byteAt bytesOf k p) c l) refl
 
   -- removal
   prune-kept : (c : ℕ) (t : Tree) (cs : Children) → Kept t → prune c t cs ≡ child c t cs

@@ -2,3 +2,5 @@ pub mod Frame
 pub mod Abstract
 pub mod Steps
 pub mod Spot
+pub mod Context
+pub mod Fresh

@@ -23,8 +23,13 @@ abbrev pub starts : Chain → ℕ → Bool
 starts stop b = false
 starts (link c t ch) b = eqb c b
 
-abbrev pub answer : Bool → ℕ → Place
-answer q s = cond q (Found s) (Missing s)
+-- the first node of a chain
+abbrev pub headC : Chain → ℕ
+headC stop = 0
+headC (link b t ch) = root t
+
+abbrev pub answer : Bool → ℕ → ℕ → Place
+answer q s c = cond q (Found s c) (Missing s)
 
 module _ (cap pcap base : ℕ) (small : cap ≤ 262144) where
   pub root-below : (t : Phys) → Sound cap pcap t → root t < cap
@@ -43,16 +48,17 @@ module _ (cap pcap base : ℕ) (small : cap ≤ 262144) where
     pub rest : Cells
     pub put : Chain → Chain
     pub before : Children → Children
+    pub within : s < 10 * cap → slot < 10 * cap
     pub whole : put tail ≡ ch
     pub same : (x : Chain) → Same (cellsC cap base (put x) s y) (cellsC cap base x slot byte ⊕ rest)
     pub from : SoundC cap pcap tail b hi
     pub sound : (x : Chain) → SoundC cap pcap x b hi → SoundC cap pcap (put x) lo hi
     pub kids : (x : Chain) (cs : Children) → kidsC (put x) cs ≡ before (kidsC x cs)
     pub skip : (F : Children → Children) → Skips b F → (cs : Children) → F (before cs) ≡ before (F cs)
-    pub find : (N P : List ℕ) (f : ℕ) → lo ≤ hi → hi < lo + f → Holds (cellsC cap base ch s y) N P → placeFrom N cap b s f ≡ answer (starts tail b) slot
+    pub find : (N P : List ℕ) (f : ℕ) → lo ≤ hi → hi < lo + f → Holds (cellsC cap base ch s y) N P → placeFrom N cap b s f ≡ answer (starts tail b) slot (headC tail)
 
   here : (ch : Chain) (b s y lo hi : ℕ) → lo ≤ b → SoundC cap pcap ch b hi →
-      ((N P : List ℕ) (f : ℕ) → lo ≤ hi → hi < lo + f → Holds (cellsC cap base ch s y) N P → placeFrom N cap b s f ≡ answer (starts ch b) s) → SpotC ch b s y lo hi
+      ((N P : List ℕ) (f : ℕ) → lo ≤ hi → hi < lo + f → Holds (cellsC cap base ch s y) N P → placeFrom N cap b s f ≡ answer (starts ch b) s (headC ch)) → SpotC ch b s y lo hi
   here ch b s y lo hi l g f =
       record {
         tail = ch;
@@ -61,6 +67,7 @@ module _ (cap pcap base : ℕ) (small : cap ≤ 262144) where
         rest = nil;
         put = λ x. x;
         before = λ cs. cs;
+        within = λ i. i;
         whole = refl;
         same = λ x. record {
           to = record { holds = λ N P h. (h, tt); nodes = λ a. omega arith; pages = λ a. omega arith };
@@ -74,7 +81,7 @@ module _ (cap pcap base : ℕ) (small : cap ≤ 262144) where
       }
 
   -- the words along a chain
-  link-word : (N : List ℕ) (s y : ℕ) (t : Phys) → Sound cap pcap t → getD N s 0 ≡ chainWord y (suc (root t)) → linkAt N s ≡ suc (root t)
+  link-word : (N : List ℕ) (s y : ℕ) (t : Phys) → Sound cap pcap t → getD N s 0 ≡ chainWord y (root t + 1) → linkAt N s ≡ root t + 1
   link-word N s y t g e = omega (arith, root-below t g)
 
   byte-word : (ch : Chain) (N P : List ℕ) (s y lo hi : ℕ) → SoundC cap pcap ch lo hi → Holds (cellsC cap base ch s y) N P → byteOf (getD N s 0) ≡ y
@@ -90,9 +97,10 @@ module _ (cap pcap base : ℕ) (small : cap ≤ 262144) where
         tail = r .tail;
         slot = r .slot;
         byte = r .byte;
-        rest = node s (chainWord y (suc (root t))) ⊕ cells cap base t ⊕ r .rest;
+        rest = node s (chainWord y (root t + 1)) ⊕ cells cap base t ⊕ r .rest;
         put = λ x. link c t (r .put x);
         before = λ cs. child c (tree t) (r .before cs);
+        within = λ i. r .within (omega (arith, root-below t (g .2)));
         whole = ap (link c t) (r .whole);
         same = λ x. record {
           to = record {
@@ -111,7 +119,7 @@ module _ (cap pcap base : ℕ) (small : cap ≤ 262144) where
         kids = λ x cs. ap (child c (tree t)) (r .kids x cs);
         skip = λ F z cs. z c (tree t) (r .before cs) k ∙ ap (child c (tree t)) (r .skip F z cs);
         find = λ N P f i j h.
-            let w : linkAt N s ≡ suc (root t) = link-word N s y t (g .2) (h .0) in
+            let w : linkAt N s ≡ root t + 1 = link-word N s y t (g .2) (h .0) in
             let e : linkAt N s - 1 ≡ root t = omega arith in
             let v : byteOf (getD N (root t) 0) ≡ c = byte-word ch N P (root t) c (suc c) hi (g .3) (h .1 .1) in
             let u = root-below t (g .2) in
@@ -122,16 +130,16 @@ module _ (cap pcap base : ℕ) (small : cap ≤ 262144) where
       let k : b ≤ c = ltb-false c b q in
       here (link c t ch) b s y lo hi l (k, g .1, g .2, g .3) (λ N P f i j h. last N P f i j h (eqb c b) refl)
     where
-      last : (N P : List ℕ) (f : ℕ) → lo ≤ hi → hi < lo + f → Holds (cellsC cap base (link c t ch) s y) N P → (o : Bool) → eqb c b ≡ o → placeFrom N cap b s f ≡ answer o s
+      last : (N P : List ℕ) (f : ℕ) → lo ≤ hi → hi < lo + f → Holds (cellsC cap base (link c t ch) s y) N P → (o : Bool) → eqb c b ≡ o → placeFrom N cap b s f ≡ answer o s (root t)
       last N P f i j h true o =
-          let w : linkAt N s ≡ suc (root t) = link-word N s y t (g .2) (h .0) in
+          let w : linkAt N s ≡ root t + 1 = link-word N s y t (g .2) (h .0) in
           let e : linkAt N s - 1 ≡ root t = omega arith in
           let v : byteOf (getD N (root t) 0) ≡ c = byte-word ch N P (root t) c (suc c) hi (g .3) (h .1 .1) in
           let u = root-below t (g .2) in
           let k : b ≤ c = ltb-false c b q in
-          sym (place-found N cap b s f _ refl (omega arith) (omega arith) (omega arith) (rw (e, v) k) (rw (e, v) (eqb-true c b o)))
+          sym (place-found N cap b s f _ refl (omega arith) (omega arith) (omega arith) (rw (e, v) k) (rw (e, v) (eqb-true c b o))) ∙ rw e refl
       last N P f i j h false o =
-          let w : linkAt N s ≡ suc (root t) = link-word N s y t (g .2) (h .0) in
+          let w : linkAt N s ≡ root t + 1 = link-word N s y t (g .2) (h .0) in
           let e : linkAt N s - 1 ≡ root t = omega arith in
           let v : byteOf (getD N (root t) 0) ≡ c = byte-word ch N P (root t) c (suc c) hi (g .3) (h .1 .1) in
           let u = root-below t (g .2) in
@@ -151,6 +159,7 @@ module _ (cap pcap base : ℕ) (small : cap ≤ 262144) where
     pub put : Chain → Buckets
     pub before : Children → Children
     pub later : Children
+    pub within : n < cap → slot < 10 * cap
     pub whole : put tail ≡ bs
     pub same : (x : Chain) → Same (cellsB cap base (put x) n g) (cellsC cap base x slot byte ⊕ rest)
     pub from : SoundC cap pcap tail b (32 * (b / 32) + 32)
@@ -158,7 +167,7 @@ module _ (cap pcap base : ℕ) (small : cap ≤ 262144) where
     pub kids : (x : Chain) → kids (put x) ≡ before (kidsC x later)
     pub above : Above b later
     pub skip : (F : Children → Children) → Skips b F → (cs : Children) → F (before cs) ≡ before (F cs)
-    pub find : (N P : List ℕ) → Holds (cellsB cap base bs n g) N P → findPlace N cap n b ≡ answer (starts tail b) slot
+    pub find : (N P : List ℕ) → Holds (cellsB cap base bs n g) N P → findPlace N cap n b ≡ answer (starts tail b) slot (headC tail)
 
   kids-above : (bs : Buckets) (g b : ℕ) → SoundB cap pcap bs g → b < 32 * g → Above b (kids bs)
   kids-above end g b h l = tt
@@ -170,9 +179,9 @@ module _ (cap pcap base : ℕ) (small : cap ≤ 262144) where
   skip-chain (link c t ch) b lo hi F z h l cs =
       z c (tree t) (kidsC ch cs) (omega (arith, h .1)) ∙ ap (child c (tree t)) (skip-chain ch b (suc c) hi F z (h .3) l cs)
 
-  spot-here : (ch : Chain) (bs : Buckets) (n g b : ℕ) → b / 32 ≡ g → SoundB cap pcap (bucket ch bs) g → SpotC ch b (headAt cap n g) 0 (32 * g) (32 * g + 32) → SpotB (bucket ch bs) n g b
+  spot-here : (ch : Chain) (bs : Buckets) (n g b : ℕ) → b / 32 ≡ g → b < 256 → SoundB cap pcap (bucket ch bs) g → SpotC ch b (headAt cap n g) 0 (32 * g) (32 * g + 32) → SpotB (bucket ch bs) n g b
   unfolding findPlace
-  spot-here ch bs n g b q h r =
+  spot-here ch bs n g b q k h r =
       record {
         tail = r .tail;
         slot = r .slot;
@@ -181,6 +190,7 @@ module _ (cap pcap base : ℕ) (small : cap ≤ 262144) where
         put = λ x. bucket (r .put x) bs;
         before = r .before;
         later = kids bs;
+        within = λ i. r .within (omega (arith, k));
         whole = ap (λ (x : Chain). bucket x bs) (r .whole);
         same = λ x. same-trans (same-left (cellsB cap base bs n (suc g)) (r .same x)) (same-assoc (cellsC cap base x (r .slot) (r .byte)) (r .rest) (cellsB cap base bs n (suc g)));
         from = rw q (r .from);
@@ -201,6 +211,7 @@ module _ (cap pcap base : ℕ) (small : cap ≤ 262144) where
         put = λ x. bucket ch (r .put x);
         before = λ cs. kidsC ch (r .before cs);
         later = r .later;
+        within = r .within;
         whole = ap (bucket ch) (r .whole);
         same = λ x. same-trans (same-right (cellsC cap base ch (headAt cap n g) 0) (r .same x)) (same-swap (cellsC cap base ch (headAt cap n g) 0) (cellsC cap base x (r .slot) (r .byte)) (r .rest));
         from = r .from;
@@ -214,7 +225,7 @@ module _ (cap pcap base : ℕ) (small : cap ≤ 262144) where
   spotB : (bs : Buckets) (k n g b : ℕ) → b / 32 ≡ g + k → b < 256 → SoundB cap pcap bs g → SpotB bs n g b
   spotB end k n g b e l h = absurd (omega arith)
   spotB (bucket ch bs) zero n g b e l h =
-      spot-here ch bs n g b (omega arith) h (spotC ch b (headAt cap n g) 0 (32 * g) (32 * g + 32) (omega arith) (h .0))
+      spot-here ch bs n g b (omega arith) l h (spotC ch b (headAt cap n g) 0 (32 * g) (32 * g + 32) (omega arith) (h .0))
   spotB (bucket ch bs) (suc k) n g b e l h = spot-later ch bs n g b (omega arith) h (spotB bs k n (suc g) b (omega arith) l (h .1))
 
   pub spot : (n : ℕ) (bs : Buckets) (b : ℕ) → b < 256 → Sound cap pcap (innerP n bs) → SpotB bs n 0 b

@@ -44,7 +44,7 @@ empty = bucket stop (bucket stop (bucket stop (bucket stop (bucket stop (bucket 
 -- the link to the first number of a list
 abbrev pub first : List ℕ → ℕ
 first [] = 0
-first (p ∷ ps) = suc p
+first (p ∷ ps) = p + 1
 
 -- the pages of a leaf: page p's link to the next one stands at base + p
 abbrev pub pageCells : ℕ → List ℕ → Cells
@@ -52,7 +52,7 @@ pageCells base [] = nil
 pageCells base (p ∷ ps) = page (base + p) (first ps) ⊕ pageCells base ps
 
 -- the heads of node n of cap nodes, without children
-abbrev pub noHeads : ℕ → ℕ → Cells
+unfoldable pub noHeads : ℕ → ℕ → Cells
 noHeads cap n =
     node (headAt cap n 0) 0 ⊕
     node (headAt cap n 1) 0 ⊕
@@ -83,7 +83,7 @@ module _ (cap base : ℕ) where
 
     pub cellsC : Chain → ℕ → ℕ → Cells
     cellsC stop s y = node s (chainWord y 0)
-    cellsC (link b t ch) s y = node s (chainWord y (suc (root t))) ⊕ cells t ⊕ cellsC ch (chainAt (root t)) b
+    cellsC (link b t ch) s y = node s (chainWord y (root t + 1)) ⊕ cells t ⊕ cellsC ch (chainAt (root t)) b
 
 abbrev pub Below : ℕ → List ℕ → Type 0
 Below cap [] = Unit {0}

@@ -35,7 +35,7 @@ unfolding findPlace
 loop-holds c = (refl, omega arith, omega arith)
 
 returns : tie.Need-returns Inv-loop μ-loop
-returns c = search place-out
+returns c = search (place-out, arith)
 
 mul-link : tie.Need-mul-link Inv-loop μ-loop
 mul-link c = search needs
@@ -47,22 +47,19 @@ cast-link : tie.Need-cast-link Inv-loop μ-loop
 cast-link c = omega arith
 
 returns-2 : tie.Need-returns-2 Inv-loop μ-loop
-returns-2 c = search place-none
+returns-2 c = search (place-none, arith)
 
 returns-3 : tie.Need-returns-3 Inv-loop μ-loop
-returns-3 c = search place-wild
+returns-3 c = search (place-wild, arith)
 
-sub-b : tie.Need-sub-b Inv-loop μ-loop
-sub-b c = search needs
+sub-child : tie.Need-sub-child Inv-loop μ-loop
+sub-child c = search needs
 
 mul-b : tie.Need-mul-b Inv-loop μ-loop
 mul-b c = search needs
 
 shared-slice-read-b : tie.Need-shared-slice-read-b Inv-loop μ-loop
 shared-slice-read-b c = search needs
-
-sub-slot : tie.Need-sub-slot Inv-loop μ-loop
-sub-slot c = search needs
 
 sub-left : tie.Need-sub-left Inv-loop μ-loop
 sub-left c = search needs
@@ -74,10 +71,10 @@ loop-again : tie.Need-loop-again Inv-loop μ-loop
 loop-again c = (search place-go, omega arith, omega arith)
 
 returns-4 : tie.Need-returns-4 Inv-loop μ-loop
-returns-4 c = search place-found
+returns-4 c = search (place-found, arith)
 
 returns-5 : tie.Need-returns-5 Inv-loop μ-loop
-returns-5 c = search place-past
+returns-5 c = search (place-past, arith)
 
 pub find-place-spec : {M : Type 1} → statement M
 find-place-spec =
@@ -97,10 +94,9 @@ find-place-spec =
     cast-link
     returns-2
     returns-3
-    sub-b
+    sub-child
     mul-b
     shared-slice-read-b
-    sub-slot
     sub-left
     loop-less
     loop-again
