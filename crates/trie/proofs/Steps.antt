@@ -1,0 +1,121 @@
+-- The models, one step at a time.
+use Prim.Native.Nat.{ℕ, suc, _*_, _-_, _<_, _≤_}
+use mathlib.Core.Path.{_≡_, refl, ap, _∙_, sym}
+use mathlib.Core.List.{List}
+use mathlib.Core.Bool.{Bool, true, false, cond}
+use native.Mathlib.Omega.{arith}
+use borrow.Author.Tests.{le-ltb, lt-ltb, eq-eqb, ne-eqb}
+use lib.Dec.{ltb, eqb}
+use lib.ListN.{getD}
+use Rattle.meaning.specs.Trie.{child}
+use Rattle.layout.specs.Nodes.{stateAt}
+use Rattle.trie.specs.declared.Got.{Got}
+use Rattle.trie.specs.declared.Got.the-variants.{Node, Full, Bad}
+use Rattle.trie.specs.declared.Place.{Place}
+use Rattle.trie.specs.declared.Place.the-variants.{Found, Missing, Broken}
+use Rattle.trie.specs.Model.{Inside, linkAt, childAt, byteIn, placeFrom, findPlace, linkLeaf, nodeIn, freshLeaf, childLeaf, pushNodes, pushPages, pushPage, putLeafM, made, pushed, after}
+
+pub suc-pred : (f : ℕ) → (f ≡ 0 → ⊥) → f ≡ suc (f - 1)
+suc-pred f h = omega arith
+
+-- `placeFrom` at each way out of a turn. R is what the walk comes to in the end
+module _ (N : List ℕ) (cap b s f : ℕ) (R : Place) (inv : placeFrom N cap b s f ≡ R) where
+  pub place-out : f ≡ 0 → Broken ≡ R
+  unfolding placeFrom
+  place-out e = rw e at inv
+
+  module _ (h : f ≡ 0 → ⊥) where
+    place-step :
+        cond (eqb (linkAt N s) 0) (Missing s)
+        (cond (ltb cap (linkAt N s)) Broken
+        (cond (ltb (byteIn N (childAt N s)) b) (placeFrom N cap b (childAt N s) (f - 1))
+        (cond (eqb (byteIn N (childAt N s)) b) (Found s (childAt N s)) (Missing s)))) ≡ R
+    unfolding placeFrom
+    place-step = ap (placeFrom N cap b s) (sym (suc-pred f h)) ∙ inv
+
+    pub place-none : linkAt N s ≡ 0 → Missing s ≡ R
+    place-none e = rw (eq-eqb _ _ e) at place-step
+
+    module _ (e : linkAt N s ≡ 0 → ⊥) where
+      pub place-wild : cap < linkAt N s → Broken ≡ R
+      place-wild l = rw (ne-eqb _ _ e, lt-ltb _ _ l) at place-step
+
+      module _ (l : linkAt N s ≤ cap) where
+        pub place-go : byteIn N (childAt N s) < b → placeFrom N cap b (childAt N s) (f - 1) ≡ R
+        place-go m = rw (ne-eqb _ _ e, le-ltb _ _ l, lt-ltb _ _ m) at place-step
+
+        module _ (m : b ≤ byteIn N (childAt N s)) where
+          pub place-found : byteIn N (childAt N s) ≡ b → Found s (childAt N s) ≡ R
+          place-found q = rw (ne-eqb _ _ e, le-ltb _ _ l, le-ltb _ _ m, eq-eqb _ _ q) at place-step
+
+          pub place-past : (byteIn N (childAt N s) ≡ b → ⊥) → Missing s ≡ R
+          place-past q = rw (ne-eqb _ _ e, le-ltb _ _ l, le-ltb _ _ m, ne-eqb _ _ q) at place-step
+
+-- `freshLeaf`, by each way
+module _ (N : List ℕ) (cap s b free : ℕ) where
+  pub fresh-full : free ≡ 0 → made N Full ≡ freshLeaf N cap s b free
+  unfolding freshLeaf
+  fresh-full e = rw (eq-eqb free 0 e) refl
+
+  module _ (h : free ≡ 0 → ⊥) where
+    pub fresh-wild : cap ≤ free - 1 → made N Bad ≡ freshLeaf N cap s b free
+    unfolding freshLeaf
+    fresh-wild l = rw (ne-eqb free 0 h, lt-ltb cap free (omega arith)) refl
+
+    pub fresh-made : (ns : List ℕ) → free - 1 < cap → ns ≡ linkLeaf N cap s (free - 1) b → made ns (Node (free - 1) (getD N (free - 1) 0)) ≡ freshLeaf N cap s b free
+    unfolding freshLeaf
+    fresh-made ns l e = rw (ne-eqb free 0 h, le-ltb cap free (omega arith), e) refl
+
+-- the bounds that a match tells
+pub found-in : (cap : ℕ) (r : Place) (s c : ℕ) → r ≡ Found s c → Inside cap r → c < cap
+found-in cap r s c e h = rw e at (h .child)
+
+pub missing-in : (cap : ℕ) (r : Place) (s : ℕ) → r ≡ Missing s → Inside cap r → s < 10 * cap
+missing-in cap r s e h = rw e at (h .slot)
+
+pub got-in : (cap : ℕ) (r : Got) (n f : ℕ) → r ≡ Node n f → nodeIn r ≤ cap → n < cap
+got-in cap r n f e h = rw e at h
+
+-- `childLeaf`, by each way
+module _ (N : List ℕ) (cap n b free : ℕ) (r : Place) (e : r ≡ findPlace N cap n b) where
+  pub child-found : (s c : ℕ) → r ≡ Found s c → made N (Node c free) ≡ childLeaf N cap n b free
+  unfolding childLeaf
+  child-found s c q = rw (sym e ∙ q) refl
+
+  pub child-made : (ns : List ℕ) (g : Got) (s : ℕ) → r ≡ Missing s → made ns g ≡ freshLeaf N cap s b free → made ns g ≡ childLeaf N cap n b free
+  unfolding childLeaf
+  child-made ns g s q m = rw (sym e ∙ q) m
+
+  pub child-lost : r ≡ Broken → made N Bad ≡ childLeaf N cap n b free
+  unfolding childLeaf
+  child-lost q = rw (sym e ∙ q) refl
+
+-- `pushPage`, by each way
+module _ (N P : List ℕ) (cap base n p : ℕ) where
+  pub push-none : getD N (stateAt cap n) 0 < 2 → pushed N P false ≡ pushPage N P cap base n p
+  unfolding pushPage
+  push-none l = rw (lt-ltb _ _ l) refl
+
+  pub push-done : 2 ≤ getD N (stateAt cap n) 0 →
+      pushed (pushNodes N cap n p) (pushPages N P cap base n p) true ≡ pushPage N P cap base n p
+  unfolding pushPage
+  push-done l = rw (le-ltb _ _ l) refl
+
+-- `putLeafM`, by each way
+module _ (N P : List ℕ) (cap base n b p free : ℕ) (ns : List ℕ) (g : Got) (e : made ns g ≡ childLeaf N cap n b free) where
+  module _ (c next : ℕ) (q : g ≡ Node c next) (ns' ps' : List ℕ) (done : Bool) (u : pushed ns' ps' done ≡ pushPage ns P cap base c p) where
+    pub put-done : done ≡ true → after ns' ps' (Node c next) ≡ putLeafM N P cap base n b p free
+    unfolding putLeafM
+    put-done z = rw (← e, q, ← u, z) refl
+
+    pub put-lost : done ≡ false → after ns' ps' Bad ≡ putLeafM N P cap base n b p free
+    unfolding putLeafM
+    put-lost z = rw (← e, q, ← u, z) refl
+
+  pub put-full : g ≡ Full → after ns P Full ≡ putLeafM N P cap base n b p free
+  unfolding putLeafM
+  put-full q = rw (← e, q) refl
+
+  pub put-bad : g ≡ Bad → after ns P Bad ≡ putLeafM N P cap base n b p free
+  unfolding putLeafM
+  put-bad q = rw (← e, q) refl

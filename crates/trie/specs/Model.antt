@@ -1,0 +1,111 @@
+-- What the code computes, as definitions on the tables: N the node table, P the page table, cap and pcap the capacities.
+use Prim.Native.Nat.{ℕ, zero, suc, _+_, _*_, _-_, _/_, _<_}
+use mathlib.Core.List.{List}
+use mathlib.Core.Bool.{Bool, true, false, cond}
+use lib.Dec.{ltb, eqb}
+use lib.ListN.{getD, set}
+use Rattle.meaning.specs.Trie.{child}
+use Rattle.layout.specs.Nodes.{linkOf, byteOf, chainWord, withLink, stateAt, headAt, leafState}
+use Rattle.trie.specs.declared.Got.{Got}
+use Rattle.trie.specs.declared.Got.the-variants.{Node, Full, Bad}
+use Rattle.trie.specs.declared.Place.{Place}
+use Rattle.trie.specs.declared.Place.the-variants.{Found, Missing, Broken}
+
+-- a place inside the table: its slot, and the child there
+abbrev pub slotOf : Place → ℕ
+slotOf (Found s c) = s
+slotOf (Missing s) = s
+slotOf Broken = 0
+
+abbrev pub childOf : Place → ℕ
+childOf (Found s c) = c
+childOf (Missing s) = 0
+childOf Broken = 0
+
+pub record Inside (cap : ℕ) (r : Place) : Type 0 where
+  pub slot : slotOf r < 10 * cap
+  pub child : childOf r < cap
+
+-- the link in a slot, the node that it links to, and the byte of a node
+abbrev pub linkAt : List ℕ → ℕ → ℕ
+linkAt N s = linkOf (getD N s 0)
+
+abbrev pub childAt : List ℕ → ℕ → ℕ
+childAt N s = linkAt N s - 1
+
+abbrev pub byteIn : List ℕ → ℕ → ℕ
+byteIn N n = byteOf (getD N n 0)
+
+-- the place of byte b in a chain from slot s on, over fewer than f links
+unfoldable pub placeFrom : List ℕ → ℕ → ℕ → ℕ → ℕ → Place
+placeFrom N cap b s zero = Broken
+placeFrom N cap b s (suc f) =
+    cond (eqb (linkAt N s) 0) (Missing s)
+    (cond (ltb cap (linkAt N s)) Broken
+    (cond (ltb (byteIn N (childAt N s)) b) (placeFrom N cap b (childAt N s) f)
+    (cond (eqb (byteIn N (childAt N s)) b) (Found s (childAt N s)) (Missing s))))
+
+unfoldable pub findPlace : List ℕ → ℕ → ℕ → ℕ → Place
+findPlace N cap n b = placeFrom N cap b (headAt cap n (b / 32)) 33
+
+-- node f as an empty leaf with byte b, linked into slot s before what the slot linked to
+unfoldable pub linkLeaf : List ℕ → ℕ → ℕ → ℕ → ℕ → List ℕ
+linkLeaf N cap s f b =
+    set (set (set N f (chainWord b (linkAt N s))) (stateAt cap f) (leafState 0)) s (withLink (getD N s 0) (f + 1))
+
+-- the node table and the answer
+pub data Made : Type 0 where
+  made : List ℕ → Got → Made
+
+-- one above the node of an answer
+abbrev pub nodeIn : Got → ℕ
+nodeIn (Node n free) = suc n
+nodeIn Full = 0
+nodeIn Bad = 0
+
+unfoldable pub freshLeaf : List ℕ → ℕ → ℕ → ℕ → ℕ → Made
+freshLeaf N cap s b free =
+    cond (eqb free 0) (made N Full)
+    (cond (ltb cap free) (made N Bad)
+    (made (linkLeaf N cap s (free - 1) b) (Node (free - 1) (getD N (free - 1) 0))))
+
+abbrev pub madeAt : List ℕ → ℕ → ℕ → ℕ → Place → Made
+madeAt N cap b free (Found s c) = made N (Node c free)
+madeAt N cap b free (Missing s) = freshLeaf N cap s b free
+madeAt N cap b free Broken = made N Bad
+
+-- the child of byte b of node n, which is made where it is missing
+unfoldable pub childLeaf : List ℕ → ℕ → ℕ → ℕ → ℕ → Made
+childLeaf N cap n b free = madeAt N cap b free (findPlace N cap n b)
+
+-- both tables, and whether the page was put in
+pub data Pushed : Type 0 where
+  pushed : List ℕ → List ℕ → Bool → Pushed
+
+-- page p put first into leaf n
+abbrev pub pushNodes : List ℕ → ℕ → ℕ → ℕ → List ℕ
+pushNodes N cap n p = set N (stateAt cap n) (leafState (p + 1))
+
+abbrev pub pushPages : List ℕ → List ℕ → ℕ → ℕ → ℕ → ℕ → List ℕ
+pushPages N P cap base n p = set P (base + p) (getD N (stateAt cap n) 0 - 2)
+
+unfoldable pub pushPage : List ℕ → List ℕ → ℕ → ℕ → ℕ → ℕ → Pushed
+pushPage N P cap base n p =
+    cond (ltb (getD N (stateAt cap n) 0) 2) (pushed N P false) (pushed (pushNodes N cap n p) (pushPages N P cap base n p) true)
+
+-- both tables and the answer
+pub data After : Type 0 where
+  after : List ℕ → List ℕ → Got → After
+
+abbrev pub putDone : ℕ → ℕ → Pushed → After
+putDone c next (pushed N P true) = after N P (Node c next)
+putDone c next (pushed N P false) = after N P Bad
+
+abbrev pub putInto : List ℕ → ℕ → ℕ → ℕ → Made → After
+putInto P cap base p (made N (Node c next)) = putDone c next (pushPage N P cap base c p)
+putInto P cap base p (made N Full) = after N P Full
+putInto P cap base p (made N Bad) = after N P Bad
+
+-- page p put into the child leaf of byte b of node n
+unfoldable pub putLeafM : List ℕ → List ℕ → ℕ → ℕ → ℕ → ℕ → ℕ → ℕ → After
+putLeafM N P cap base n b p free = putInto P cap base p (childLeaf N cap n b free)
