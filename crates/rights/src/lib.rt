@@ -8,8 +8,10 @@ ghost use Rattle.layout.specs.Settings.{settingsLength};
 ghost use Rattle.rights.specs.Register.{withMember, withGrant, opens};
 ghost use Rattle.rights.specs.Open.{openClasses, isOpen};
 
-// Where the memberships and the grants begin.
+// Where the memberships begin.
 const MEMBERS: usize = 70;
+
+// Where the grants begin.
 const GRANTS: usize = 326;
 
 // Makes the reader a member of the group.
