@@ -1,2 +1,3 @@
 pub mod Questions
 pub mod RightsCalls
+pub mod Shows

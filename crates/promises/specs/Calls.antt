@@ -1,11 +1,11 @@
 -- What each call promises: an equation for its answer and for every table lent to it, refused or not.
-use Prim.Native.Nat.{ℕ}
+use Prim.Native.Nat.{ℕ, _*_}
 use mathlib.Core.Path.{_≡_}
 use mathlib.Core.Bool.{cond}
 use mathlib.Core.List.{List, []}
 use lib.Dec.{eqb}
 use Rattle.meaning.specs.Ledger.{Settings, Call, opening, show}
-use Rattle.promises.specs.Tables.{Tables, settingsAlone, pageRow}
+use Rattle.promises.specs.Tables.{Tables, settingsAlone, given, pageRow}
 use Rattle.promises.specs.Answers.{number, opened, registered}
 
 -- an opening with settings s, lent the tables T; it leaves the sketch table and the working table as they were
@@ -20,6 +20,13 @@ pub record RightsPromise (c : Call) (ws : List ℕ) (n : ℕ) (settings : List �
   pub answers : n ≡ number (settingsAlone ws) [] c
   pub settings-left : settings ≡ cond (eqb (number (settingsAlone ws) [] c) 0) (registered c ws) ws
 
--- a show, by what it gives: the page's row, or nothing
+-- a show, by where in the sketch table the part that it gives begins, and how long it is: the page's row, or no bytes at the table's start
+unfoldable pub startShown : Tables → ℕ → ℕ → ℕ
+startShown T reader p = cond (eqb (number T [] (show reader p)) 0) (p * given T .symbols) 0
+
+unfoldable pub lengthShown : Tables → ℕ → ℕ → ℕ
+lengthShown T reader p = cond (eqb (number T [] (show reader p)) 0) (given T .symbols) 0
+
+-- and by what the part holds
 unfoldable pub rowShown : Tables → ℕ → ℕ → List ℕ
 rowShown T reader p = cond (eqb (number T [] (show reader p)) 0) (pageRow T p) []

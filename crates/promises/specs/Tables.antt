@@ -25,6 +25,10 @@ pub record Tables : Type 0 where
 abbrev pub settingsAlone : List ℕ → Tables
 settingsAlone ws = record { settings = ws; nodes = []; pages = []; sketches = []; working = [] }
 
+-- those of a show
+abbrev pub showTables : List ℕ → List ℕ → List ℕ → Tables
+showTables ws pages sketches = record { settings = ws; nodes = []; pages = pages; sketches = sketches; working = [] }
+
 abbrev pub withSettings : Tables → List ℕ → Tables
 withSettings T ws = record { settings = ws; nodes = T .nodes; pages = T .pages; sketches = T .sketches; working = T .working }
 

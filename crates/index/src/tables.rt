@@ -1,0 +1,17 @@
+// Questions 5 and 6, of the tables behind the settings table: is each long enough for the opening?
+ghost use mathlib.Core.Path.{_≡_};
+ghost use mathlib.Core.Bool.{_&&_};
+ghost use lib.Dec.{leb};
+ghost use lib.ListN.{length};
+ghost use Rattle.layout.specs.Header.{bare};
+ghost use Rattle.layout.specs.Limits.{HeaderLimits};
+ghost use Rattle.layout.specs.Lengths.{pagesLength, sketchesLength};
+use layout::Header;
+
+pub fn long_pages(h: Header, pages: &[u32], sketches: &[u8]) -> bool
+    requires { ⌜ HeaderLimits h ⌝ }
+    ensures { λ r. ⌜ r ≡ leb (pagesLength (bare h)) (length (now (pages .entry))) && leb (sketchesLength (bare h)) (length (now (sketches .entry))) ⌝ }
+{
+    (layout::lengths::pages_length(h) <= pages.len())
+        & (layout::lengths::sketches_length(h) <= sketches.len())
+}
