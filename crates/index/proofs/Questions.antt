@@ -1,10 +1,20 @@
--- A list of questions none of which says no.
+-- Tests as the code answers them, and a list of questions none of which says no.
 use Prim.Native.Nat.{ℕ}
-use mathlib.Core.Path.{_≡_, refl}
-use mathlib.Core.Bool.{Bool, true, false, cond}
+use mathlib.Core.Path.{_≡_, refl, sym, _∙_}
+use mathlib.Core.Bool.{Bool, true, false, cond, not}
 use mathlib.Core.List.{List, [], _∷_}
+use borrow.Author.Tests.{not-true, not-false}
 use Rattle.meaning.specs.Refusal.{Question, firstNo}
 
+-- ---- a branch on `!r`, where r is the answer to a test
+module _ {r t : Bool} (answer : r ≡ t) where
+  pub fails : not r ≡ true → t ≡ false
+  fails e = sym answer ∙ not-true r e
+
+  pub holds : not r ≡ false → t ≡ true
+  holds e = sym answer ∙ not-false r e
+
+-- ---- a list of questions
 abbrev pub AllYes : List Question → Type 0
 AllYes [] = Unit {0}
 AllYes (q ∷ qs) = (q .passed ≡ true) × AllYes qs

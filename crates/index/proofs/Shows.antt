@@ -42,7 +42,8 @@ module _ (h : Header) (p : ℕ) (page : p < h .pages) where
   pub start-fits : HeaderLimits h → p * h .m < 2 ^ 32
   start-fits l =
       let small : p ≤ 65535 = omega arith in
-      lt-of-le-of-lt (mul-le-mul small (l .symbols)) (lit< tt)
+      let few : h .m ≤ 64 = omega arith in
+      lt-of-le-of-lt (mul-le-mul small few) (lit< tt)
 
 module _ (T : Tables) (r p : ℕ) where
   refused-place : (n : ℕ) → number T [] (show r p) ≡ n → (n ≡ 0 → ⊥) → noRow n ≡ placeOf T r p

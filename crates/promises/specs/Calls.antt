@@ -8,6 +8,11 @@ use Rattle.meaning.specs.Ledger.{Settings, Call, opening, show}
 use Rattle.promises.specs.Tables.{Tables, settingsAlone, given, pageRow}
 use Rattle.promises.specs.Answers.{number, opened, registered}
 
+-- the settings and capacities of an opening, by its arguments
+abbrev pub settingsGiven : ℕ → ℕ → ℕ → ℕ → ℕ → List ℕ → Settings
+settingsGiven b m q pages nodes thresholds =
+    record { bits = b; symbols = m; blocks = q; pages = pages; nodes = nodes; thresholds = thresholds }
+
 -- an opening with settings s, lent the tables T; it leaves the sketch table and the working table as they were
 pub record OpenPromise (s : Settings) (T : Tables) (n : ℕ) (settings nodes pages : List ℕ) : Type 0 where
   pub answers : n ≡ number T [] (opening s)

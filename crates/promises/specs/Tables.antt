@@ -22,6 +22,15 @@ pub record Tables : Type 0 where
   pub sketches : List ℕ
   pub working : List ℕ
 
+abbrev pub tables : List ℕ → List ℕ → List ℕ → List ℕ → List ℕ → Tables
+tables settings nodes pages sketches working = record {
+  settings = settings;
+  nodes = nodes;
+  pages = pages;
+  sketches = sketches;
+  working = working;
+}
+
 abbrev pub settingsAlone : List ℕ → Tables
 settingsAlone ws = record { settings = ws; nodes = []; pages = []; sketches = []; working = [] }
 

@@ -1,12 +1,14 @@
 -- `find_row` is `placeOf`.
 use native.Mathlib.Omega.{arith}
 use mathlib.Core.Path.{_≡_, sym, _∙_}
-use mathlib.Core.Bool.{true}
+use mathlib.Core.Bool.{Bool, true, _&&_}
 use borrow.Author.Needs.{needs}
-use borrow.Author.Tests.{not-true, not-false}
 use Rattle.layout.specs.declared.Opening.the-variants.{Shown}
 use Rattle.layout.specs.Header.{openingOf}
+use Rattle.layout.specs.Pages.{isLive, classOf}
 use Rattle.layout.proofs.Openings.{shown}
+use Rattle.rights.specs.Register.{opens}
+use Rattle.index.proofs.Questions.{fails, holds}
 use Rattle.index.proofs.Shows.{longFor6, row-refused, row-6, row-7, row-8, class-inside, start-fits, row-9, row-shown}
 use Rattle.index.proofs.show.find_row.Statement.{statement}
 use Rattle.index.proofs.show.find_row.Tie as tie
@@ -35,6 +37,13 @@ entry k = k .before .before .before .before .before .before .before
 shows : (k : tie.After-known-told2) → openingOf (entry k .args .settings .now) ≡ Shown (k .before .h .given .0 .0)
 shows k = sym (k .before .before .before .opening .ensures) ∙ k .before .h .given .1
 
+-- 9
+abbrev seen : tie.After-known-told2 → Bool
+seen k =
+    let a = entry k .args in
+    let P = k .before .h .given .0 .0 .pages in
+    isLive (a .pages .now) (a .page) && opens (a .settings .now) (a .reader) (classOf (a .pages .now) P (a .page))
+
 long-pages-requires : tie.Need-long-pages-requires
 long-pages-requires c κs = shown _ _ (shows c) .limits
 
@@ -45,12 +54,12 @@ returns-2 : tie.Need-returns-2
 returns-2 c =
     let k = c .before .before in
     c .refused2 .ensures
-    ∙ row-6 _ _ _ _ _ _ (shows (k .before)) (sym (k .long-pages .ensures) ∙ not-true _ (c .before .if1 .taken))
+    ∙ row-6 _ _ _ _ _ _ (shows (k .before)) (fails (k .long-pages .ensures) (c .before .if1 .taken))
 
 -- 6 of the other two
 long : (c : tie.Else1) → let k = c .before .before in
     longFor6 (k .before .h .given .0 .0) (entry k .args .pages .now) (entry k .args .sketches .now) ≡ true
-long c = sym (c .before .long-pages .ensures) ∙ not-false _ (c .if1 .left)
+long c = holds (c .before .long-pages .ensures) (c .if1 .left)
 
 refused-requires-3 : tie.Need-refused-requires-3
 refused-requires-3 c κs = search needs
@@ -86,7 +95,7 @@ returns-5 c =
     let u = s .before .before in
     c .refused5 .ensures
     ∙ row-9 _ _ _ _ _ _ (shows (u .before .before .before)) (long (u .before)) (u .if2 .left) (s .before .if3 .left)
-    (sym (s .is-shown .ensures) ∙ not-true _ (c .before .if4 .taken))
+    (fails {t = seen (u .before .before .before)} (s .is-shown .ensures) (c .before .if4 .taken))
 
 cast-m : tie.Need-cast-m
 cast-m c = omega (arith, shown _ _ (shows (c .before .before .before .before .before .before .before)) .limits)
@@ -101,7 +110,7 @@ returns-6 c =
     let s = c .before .before in
     let u = s .before .before in
     row-shown _ _ _ _ _ _ (shows (u .before .before .before)) (long (u .before)) (u .if2 .left) (s .before .if3 .left)
-    (sym (s .is-shown .ensures) ∙ not-false _ (c .before .if4 .left))
+    (holds {t = seen (u .before .before .before)} (s .is-shown .ensures) (c .before .if4 .left))
 
 pub find-row-spec : {M : Type 1} → statement M
 find-row-spec =

@@ -1,7 +1,6 @@
 -- `is_shown` asks both halves of 9.
-use mathlib.Core.Path.{sym, _∙_}
 use borrow.Author.Needs.{needs}
-use borrow.Author.Tests.{not-true, not-false}
+use Rattle.index.proofs.Questions.{fails, holds}
 use Rattle.index.proofs.show.is_shown.Statement.{statement}
 use Rattle.index.proofs.show.is_shown.Tie as tie
 
@@ -9,7 +8,7 @@ is-live-requires : tie.Need-is-live-requires
 is-live-requires c κs = search needs
 
 returns : tie.Need-returns
-returns c = rw (sym (c .before .is-live .ensures) ∙ not-true _ (c .if1 .taken))
+returns c = rw (fails (c .before .is-live .ensures) (c .if1 .taken))
 
 class-of-requires : tie.Need-class-of-requires
 class-of-requires c κs = search needs
@@ -20,7 +19,7 @@ is-open-to-requires c κs = search needs
 returns-2 : tie.Need-returns-2
 returns-2 c =
     let live = c .before .before in
-    rw (sym (live .before .is-live .ensures) ∙ not-false _ (live .if1 .left), ← c .before .class-of .ensures) (c .is-open-to .ensures)
+    rw (holds (live .before .is-live .ensures) (live .if1 .left), ← c .before .class-of .ensures) (c .is-open-to .ensures)
 
 pub is-shown-spec : {M : Type 1} → statement M
 is-shown-spec =
