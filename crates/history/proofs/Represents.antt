@@ -21,7 +21,7 @@ use Rattle.layout.specs.Pages.{isLive, classOf}
 use Rattle.layout.specs.Lengths.{pagesLength, sketchesLength}
 use Rattle.layout.proofs.Tests.{and-left, and-right, and-both}
 use Rattle.layout.proofs.Limits.{bounds}
-use Rattle.layout.proofs.Openings.{settings-header, shows-header}
+use Rattle.layout.proofs.Written.{settings-header, shows-header}
 use Rattle.rights.specs.Register.{opens}
 use Rattle.rights.proofs.Pairs.{Holds, holds-opens}
 use Rattle.promises.specs.Tables.{Tables, given, pageClass, pageRow, isShown, scan, rowsOf, byTables}
