@@ -23,6 +23,7 @@ use Rattle.rights.proofs.Pairs.{holds-none}
 use Rattle.promises.specs.Tables.{Tables, given, rowsOf}
 use Rattle.promises.specs.Answers.{longFor, longSettings, longNodes, longPages, entered, number, freeLink, freshSettings, freshNodes, freshPages, opened}
 use Rattle.promises.specs.Calls.{OpenPromise}
+use Rattle.history.specs.Relation.{withOpening}
 use Rattle.history.specs.History.{event}
 use Rattle.history.proofs.Lists.{passed, rows-none}
 use Rattle.history.proofs.Represents.{Represents, AsLong, long-kept, settings-read}
@@ -111,10 +112,6 @@ module _ (s : Settings) (limits : inLimits s ≡ true) where
 
 -- ---- what an opening promises
 
--- the tables that an opening leaves: it takes the sketch table and the working table only to see how long they are
-abbrev pub leftBy : Tables → List ℕ → List ℕ → List ℕ → Tables
-leftBy T settings nodes pages = record { settings = settings; nodes = nodes; pages = pages; sketches = T .sketches; working = T .working }
-
 module _ (s : Settings) (T : Tables) (L : Ledger) where
   accepted : number T [] (opening s) ≡ 0 → Represents (opened s T) (accept (opening s) L)
   unfolding number entered asked firstNo
@@ -124,21 +121,21 @@ module _ (s : Settings) (T : Tables) (L : Ledger) where
       started s (h4 .0) T (h5 .0) L
 
   module _ (n : ℕ) (settings nodes pages : List ℕ) (p : OpenPromise s T n settings nodes pages) where
-    left-eq : leftBy T settings nodes pages ≡ cond (eqb (number T [] (opening s)) 0) (opened s T) T
+    left-eq : withOpening T settings nodes pages ≡ cond (eqb (number T [] (opening s)) 0) (opened s T) T
     unfolding opened
     left-eq = rw (p .settings-left, p .nodes-left, p .pages-left) (go (eqb (number T [] (opening s)) 0))
       where
-        go : (t : Bool) → leftBy T (cond t (opened s T .settings) (T .settings)) (cond t (opened s T .nodes) (T .nodes)) (cond t (opened s T .pages) (T .pages))
+        go : (t : Bool) → withOpening T (cond t (opened s T .settings) (T .settings)) (cond t (opened s T .nodes) (T .nodes)) (cond t (opened s T .pages) (T .pages))
             ≡ cond t (opened s T) T
         go true = refl
         go false = refl
 
-    pub begins : n ≡ 0 → Represents (leftBy T settings nodes pages) (accept (opening s) L)
+    pub begins : n ≡ 0 → Represents (withOpening T settings nodes pages) (accept (opening s) L)
     begins e =
         let z : number T [] (opening s) ≡ 0 = sym (p .answers) ∙ e in
         rw (left-eq, z) (accepted z)
 
-    pub reopens : Represents T L → Represents (leftBy T settings nodes pages) (step (event (opening s) n) L)
+    pub reopens : Represents T L → Represents (withOpening T settings nodes pages) (step (event (opening s) n) L)
     unfolding step
     reopens R = rw (left-eq, p .answers) (go (eqb (number T [] (opening s)) 0) refl)
       where

@@ -26,6 +26,7 @@ use Rattle.rights.proofs.Pairs.{Holds, holds-same, holds-join, holds-leave, hol
 use Rattle.promises.specs.Tables.{Tables, settingsAlone, withSettings, given, pageClass, pageRow, rowsOf}
 use Rattle.promises.specs.Answers.{longFor, longSettings, entered, shown56, number, registered}
 use Rattle.promises.specs.Calls.{RightsPromise}
+use Rattle.history.specs.Relation.{withWorking}
 use Rattle.history.specs.History.{event, admitted, judged}
 use Rattle.history.proofs.Lists.{passed}
 use Rattle.history.proofs.Pages.{rowsIn, rows-add, rows-drop, live-add, live-drop, class-add, class-drop}
@@ -51,9 +52,6 @@ unless false e = e
 below : (t : Bool) {b : Bool} {c d : ℕ} → c < 64 → (b ≡ true → d < 64) → cond t true b ≡ true → cond t c d < 64
 below true h k e = h
 below false h k e = k e
-
-abbrev pub withWorking : Tables → List ℕ → Tables
-withWorking T ws = record { settings = T .settings; nodes = T .nodes; pages = T .pages; sketches = T .sketches; working = ws }
 
 module _ (T : Tables) (L : Ledger) (R : Represents T L) where
   -- the tables afterwards, as long and with the same header
