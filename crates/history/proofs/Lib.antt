@@ -5,3 +5,4 @@ pub mod Opening
 pub mod Steps
 pub mod Searches
 pub mod Example
+pub mod Claims
