@@ -6,3 +6,4 @@ pub mod Steps
 pub mod Searches
 pub mod Example
 pub mod Claims
+pub mod FreshStore

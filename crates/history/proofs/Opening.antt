@@ -28,29 +28,29 @@ use Rattle.history.specs.History.{event}
 use Rattle.history.proofs.Lists.{passed, rows-none}
 use Rattle.history.proofs.Represents.{Represents, AsLong, long-kept, settings-read}
 
-onto-length : (xs table : List ℕ) → length xs ≤ length table → length (onto xs table) ≡ length table
+pub onto-length : (xs table : List ℕ) → length xs ≤ length table → length (onto xs table) ≡ length table
 unfolding onto
 onto-length xs table h = simp (length-append, length-drop) (omega arith)
 
 -- a word of the beginning
-onto-word : (xs table : List ℕ) (i : ℕ) → i < length xs → getD (onto xs table) i 0 ≡ getD xs i 0
+pub onto-word : (xs table : List ℕ) (i : ℕ) → i < length xs → getD (onto xs table) i 0 ≡ getD xs i 0
 unfolding onto
 onto-word xs table i h = List·getD-append xs _ 0 i h
 
-from-length : (k n : ℕ) → length (from k n) ≡ n
+pub from-length : (k n : ℕ) → length (from k n) ≡ n
 unfolding from
 from-length k zero = refl
 from-length k (suc n) = ap suc (from-length (suc k) n)
 
-zero-word : (n : ℕ) (t : List ℕ) (k : ℕ) → k < n → getD (replicate n 0 ++ t) k 0 ≡ 0
+pub zero-word : (n : ℕ) (t : List ℕ) (k : ℕ) → k < n → getD (replicate n 0 ++ t) k 0 ≡ 0
 zero-word n t k h = List·getD-append (replicate n 0) t 0 k (rw (length-replicate {A = ℕ} n 0) h) ∙ getD-replicate n k 0 0 h
 
 module _ (s : Settings) (limits : inLimits s ≡ true) where
-  header-length : length (header s) ≡ membersAt
+  pub header-length : length (header s) ≡ membersAt
   unfolding header
   header-length = omega (arith, bounds s limits .count)
 
-  settings-length : length (freshSettings s) ≡ settingsLength
+  pub settings-length : length (freshSettings s) ≡ settingsLength
   unfolding freshSettings
   settings-length = simp (length-append, header-length)
 
@@ -58,7 +58,7 @@ module _ (s : Settings) (limits : inLimits s ≡ true) where
   unfolding freshSettings
   settings-word k h = rw (← header-length, getD-append-add (header s) _ k 0) (zero-word 320 (freeLink (s .nodes) (s .blocks) ∷ []) k h)
 
-  nodes-length : length (freshNodes s) ≡ nodesLength s
+  pub nodes-length : length (freshNodes s) ≡ nodesLength s
   unfolding freshNodes nodesLength upto
   nodes-length = simp (length-append, length-map, from-length, length-replicate) (omega arith)
 
@@ -87,11 +87,11 @@ module _ (s : Settings) (limits : inLimits s ≡ true) where
         let e : i ≡ membersAt + (i - membersAt) = omega arith in
         rw (e, onto-word (freshSettings s) (T .settings) (membersAt + (i - membersAt)) (omega (arith, settings-length)), settings-word (i - membersAt) (omega arith))
 
-    no-page : (i : ℕ) → i < s .pages → isLive (opened s T .pages) i ≡ false
+    pub no-page : (i : ℕ) → i < s .pages → isLive (opened s T .pages) i ≡ false
     unfolding opened isLive freshPages onto pagesLength
     no-page i h = let l : 1 ≤ 2 + s .blocks = omega arith in rw (zero-word (pagesLength s) _ i (omega (arith, mul-le-mul-right (s .pages) l)))
 
-    beginning : take membersAt (opened s T .settings) ≡ header s
+    pub beginning : take membersAt (opened s T .settings) ≡ header s
     unfolding opened freshSettings onto
     beginning =
         take-append-le membersAt (freshSettings s) _ (omega (arith, settings-length))
