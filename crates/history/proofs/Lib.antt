@@ -7,3 +7,4 @@ pub mod Searches
 pub mod Example
 pub mod Claims
 pub mod FreshStore
+pub mod Store
