@@ -8,3 +8,4 @@ pub mod Example
 pub mod Claims
 pub mod FreshStore
 pub mod Store
+pub mod Numbers
