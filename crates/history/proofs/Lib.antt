@@ -4,8 +4,8 @@ pub mod Represents
 pub mod Opening
 pub mod Steps
 pub mod Searches
-pub mod Example
 pub mod Claims
 pub mod FreshStore
 pub mod Store
 pub mod Numbers
+pub mod Keeps

@@ -1,6 +1,6 @@
 -- An accepted opening makes the invariant, whatever the tables held.
 use mathlib.Core.Path.{_≡_, refl, sym, ap, _∙_}
-use mathlib.Core.Bool.{Bool, true, false, cond, _&&_, not, true≢false}
+use mathlib.Core.Bool.{Bool, true, false, cond, _&&_, true≢false}
 use mathlib.Core.List.{List, [], _∷_, _++_}
 use Prim.Native.Nat.{ℕ, zero, suc, _+_, _*_, _-_, _≤_, _<_}
 use native.Mathlib.Nat.{mul-le-mul-right}
@@ -8,11 +8,11 @@ use native.Mathlib.Omega.{arith}
 use lib.Dec.{leb, eqb}
 use lib.ListN.{length, getD, take, replicate, length-append, length-drop, length-map, length-replicate, getD-replicate, List·getD-append}
 use lib.Seq.{take-at, take-append-le, getD-append-add}
-use borrow.Author.Tests.{eqb-true, leb-true}
+use borrow.Author.Tests.{leb-true}
 use Rattle.meaning.specs.Lists.{any, onto, from, upto}
 use Rattle.meaning.specs.Refusal.{firstNo}
 use Rattle.meaning.specs.Rights.{stands}
-use Rattle.meaning.specs.Ledger.{Settings, Ledger, opening, accept, step}
+use Rattle.meaning.specs.Ledger.{Settings, Ledger, opening, accept}
 use Rattle.meaning.specs.Questions.{inLimits, asked}
 use Rattle.layout.specs.Settings.{settingsLength, membersAt, freeAt, header}
 use Rattle.layout.specs.Pages.{isLive}
@@ -22,9 +22,7 @@ use Rattle.layout.proofs.Limits.{bounds}
 use Rattle.rights.proofs.Pairs.{holds-none}
 use Rattle.promises.specs.Tables.{Tables, given, rowsOf}
 use Rattle.promises.specs.Answers.{longFor, longSettings, longNodes, longPages, entered, number, freeLink, freshSettings, freshNodes, freshPages, opened}
-use Rattle.promises.specs.Calls.{OpenPromise}
-use Rattle.history.specs.Relation.{withOpening}
-use Rattle.history.specs.History.{event}
+use Rattle.history.specs.Relation.{Answer, withOpening, Promised}
 use Rattle.history.proofs.Lists.{passed, rows-none}
 use Rattle.history.proofs.Represents.{Represents, AsLong, long-kept, settings-read}
 
@@ -97,7 +95,7 @@ module _ (s : Settings) (limits : inLimits s ≡ true) where
         take-append-le membersAt (freshSettings s) _ (omega (arith, settings-length))
         ∙ take-at (header s) _ membersAt header-length
 
-    started : (L : Ledger) → Represents (opened s T) (accept (opening s) L)
+    pub started : (L : Ledger) → Represents (opened s T) (accept (opening s) L)
     unfolding accept rowsOf
     started L = record {
       head = beginning;
@@ -111,34 +109,19 @@ module _ (s : Settings) (limits : inLimits s ≡ true) where
     }
 
 -- ---- what an opening promises
-
-module _ (s : Settings) (T : Tables) (L : Ledger) where
-  accepted : number T [] (opening s) ≡ 0 → Represents (opened s T) (accept (opening s) L)
+module _ (s : Settings) (T : Tables) where
+  pub entered-4-5 : number T [] (opening s) ≡ 0 → (inLimits s ≡ true) × (longSettings T && longFor s T (opening s) ≡ true)
   unfolding number entered asked firstNo
-  accepted e =
+  entered-4-5 e =
       let h4 = passed 4 (inLimits s) (cond (longSettings T && longFor s T (opening s)) 0 5) (omega arith) e in
       let h5 = passed 5 (longSettings T && longFor s T (opening s)) 0 (omega arith) (h4 .1) in
-      started s (h4 .0) T (h5 .0) L
+      (h4 .0, h5 .0)
 
-  module _ (n : ℕ) (settings nodes pages : List ℕ) (p : OpenPromise s T n settings nodes pages) where
-    left-eq : withOpening T settings nodes pages ≡ cond (eqb (number T [] (opening s)) 0) (opened s T) T
-    unfolding opened
-    left-eq = rw (p .settings-left, p .nodes-left, p .pages-left) (go (eqb (number T [] (opening s)) 0))
-      where
-        go : (t : Bool) → withOpening T (cond t (opened s T .settings) (T .settings)) (cond t (opened s T .nodes) (T .nodes)) (cond t (opened s T .pages) (T .pages))
-            ≡ cond t (opened s T) T
-        go true = refl
-        go false = refl
-
-    pub begins : n ≡ 0 → Represents (withOpening T settings nodes pages) (accept (opening s) L)
-    begins e =
-        let z : number T [] (opening s) ≡ 0 = sym (p .answers) ∙ e in
-        rw (left-eq, z) (accepted z)
-
-    pub reopens : Represents T L → Represents (withOpening T settings nodes pages) (step (event (opening s) n) L)
-    unfolding step
-    reopens R = rw (left-eq, p .answers) (go (eqb (number T [] (opening s)) 0) refl)
-      where
-        go : (t : Bool) → eqb (number T [] (opening s)) 0 ≡ t → Represents (cond t (opened s T) T) (cond (not t) L (accept (opening s) L))
-        go true e = accepted (eqb-true (number T [] (opening s)) 0 e)
-        go false e = R
+  pub left-by : (a : Answer) (T′ : Tables) → Promised (opening s) T a T′ → T′ ≡ cond (eqb (a .number) 0) (opened s T) T
+  unfolding opened
+  left-by a T′ p = p .1 ∙ rw (p .0 .settings-left, p .0 .nodes-left, p .0 .pages-left, p .0 .answers) (go (eqb (number T [] (opening s)) 0))
+    where
+      go : (t : Bool) → withOpening T (cond t (opened s T .settings) (T .settings)) (cond t (opened s T .nodes) (T .nodes)) (cond t (opened s T .pages) (T .pages))
+          ≡ cond t (opened s T) T
+      go true = refl
+      go false = refl
