@@ -9,3 +9,4 @@ pub mod FreshStore
 pub mod Store
 pub mod Numbers
 pub mod Keeps
+pub mod Main

@@ -1,6 +1,6 @@
 -- What a search lists under the invariant: the rows called for, rising. Two ledgers that agree list the same.
 use mathlib.Core.Path.{_≡_, refl, sym, _∙_}
-use mathlib.Core.Bool.{Bool, true, false, cond, _&&_, _||_}
+use mathlib.Core.Bool.{Bool, true, false, cond, _&&_}
 use mathlib.Core.List.{List}
 use Prim.Native.Nat.{ℕ}
 use lib.Dec.{leb, eqb}
@@ -8,7 +8,7 @@ use lib.ListN.{length}
 use borrow.Author.Tests.{eq-eqb, lt-ltb, le-leb}
 use Rattle.meaning.specs.Refusal.{firstNo}
 use Rattle.meaning.specs.Sketch.{distance}
-use Rattle.meaning.specs.SketchCalls.{lengthGiven, outputLeft}
+use Rattle.meaning.specs.SketchCalls.{outputLeft}
 use Rattle.meaning.specs.Rights.{openTo}
 use Rattle.meaning.specs.Trie.{Tree}
 use Rattle.meaning.specs.Ledger.{Ledger, search, calledFor, listed}
@@ -16,6 +16,7 @@ use Rattle.meaning.specs.Questions.{asked, byLedger}
 use Rattle.layout.specs.Pages.{isLive}
 use Rattle.promises.specs.Tables.{Tables, scan}
 use Rattle.promises.specs.Answers.{number}
+use Rattle.store.specs.Calls.{Lists}
 use Rattle.history.specs.History.{admitted, judged, RightlyPut, Found, rising, Agree}
 use Rattle.history.proofs.Lists.{rows-keep, rising-keep, rising-ext, any-map}
 use Rattle.history.proofs.Pages.{rowAt}
@@ -24,10 +25,6 @@ use Rattle.history.proofs.Represents.{Represents, rows-eq, scan-eq, fou
 accepted : (t : Bool) → eqb (cond t 0 13) 0 ≡ t
 accepted true = refl
 accepted false = refl
-
-either : (t : Bool) → eqb (cond t 0 13) 0 || eqb (cond t 0 13) 13 ≡ true
-either true = refl
-either false = refl
 
 module _ (T : Tables) (L : Ledger) (R : Represents T L) where
   -- each page once
@@ -49,15 +46,16 @@ module _ (T : Tables) (L : Ledger) (R : Represents T L) where
         ∙ rw (lt-ltb reader 256 (put .reads), le-leb radius 64 (put .near), eq-eqb (length x) (L .settings .symbols) (put .whole), put .symbols)
 
     -- a search that gives what the scan lists
-    pub finds : Found L reader radius x o (number T F (search reader radius x o))
-        (lengthGiven (number T F (search reader radius x o)) (length (scan T reader radius x)))
-        (outputLeft (number T F (search reader radius x o)) (scan T reader radius x) o)
-    unfolding lengthGiven outputLeft
-    finds = record {
-      refusal = refuses;
-      rows = rw (refuses, either (leb (length (calledFor L reader radius x)) (length o))) (found-eq T L R reader radius x (put .reads));
-      output = rw (refuses, scan-eq T L R reader radius x (put .reads), accepted (leb (length (calledFor L reader radius x)) (length o)));
-    }
+    pub finds : (n count : ℕ) (after : List ℕ) → Lists (scan T reader radius x) o n count after → Found L reader radius x o n count after
+    unfolding outputLeft
+    finds n count after l =
+        let c : length (scan T reader radius x) ≡ length (calledFor L reader radius x) = found-eq T L R reader radius x (put .reads) in
+        let r : n ≡ cond (leb (length (calledFor L reader radius x)) (length o)) 0 13 = l .refusal ∙ rw c in
+        record {
+          refusal = r;
+          rows = l .counted ∙ c;
+          output = l .output ∙ rw (r, scan-eq T L R reader radius x (put .reads), accepted (leb (length (calledFor L reader radius x)) (length o)));
+        }
 
 pub agreed : (T U : Tables) (L M : Ledger) → Represents T L → Represents U M → (reader radius : ℕ) (x : List ℕ)
     → Agree L M reader radius x → listed L reader radius x ≡ listed M reader radius x
