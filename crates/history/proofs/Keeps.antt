@@ -50,18 +50,21 @@ module _ (s : Settings) (T : Tables) (a : Answer) (T′ : Tables) (p : Promised 
       let h = entered-4-5 s T (sym (p .0 .answers) ∙ e) in
       rw (left-by s T a T′ p, eq-eqb (a .number) 0 e) (record { tables = started s (h .0) T (h .1) L; store = fresh-store s (h .0) T (h .1) })
 
--- ---- a call past 6 is refused by 13 at most
-below-14 : (qs : List Question) → all (λ q. ltb (q .number) 14) qs ≡ true → firstNo qs ≢ 14
+-- ---- a number is 0 or that of a question that is asked
+pub number-in : (P : ℕ → Bool) (qs : List Question) → P 0 ≡ true → all (λ q. P (q .number)) qs ≡ true → P (firstNo qs) ≡ true
 unfolding all firstNo
-below-14 [] h e = omega arith
-below-14 (q ∷ qs) h e = go (q .passed) (below-14 qs (and-right (ltb (q .number) 14) _ h)) e
+number-in P [] z h = z
+number-in P (q ∷ qs) z h = go (q .passed) (number-in P qs z (and-right (P (q .number)) _ h))
   where
-    go : (t : Bool) → firstNo qs ≢ 14 → cond t (firstNo qs) (q .number) ≢ 14
-    go true r e = r e
-    go false r e = omega (arith, ltb-true (q .number) 14 (and-left (ltb (q .number) 14) _ h))
+    go : (t : Bool) → P (firstNo qs) ≡ true → P (cond t (firstNo qs) (q .number)) ≡ true
+    go true r = r
+    go false r = and-left (P (q .number)) _ h
+
+not-14 : (qs : List Question) → all (λ q. ltb (q .number) 14) qs ≡ true → firstNo qs ≢ 14
+not-14 qs h e = omega (arith, ltb-true (firstNo qs) 14 (number-in (λ n. ltb n 14) qs refl h))
 
 -- the tables that an add or a drop does not take, and those that it takes
-rejoin : (T T′ : Tables) → toStore T′ ≡ toStore T → T′ .working ≡ T .working → T′ ≡ T
+pub rejoin : (T T′ : Tables) → toStore T′ ≡ toStore T → T′ .working ≡ T .working → T′ ≡ T
 rejoin T T′ e w = λ i. withWorking (e i) (w i)
 
 module _ (T : Tables) (L : Ledger) (F : List Tree) (W : Shows T L F) where
@@ -87,7 +90,7 @@ module _ (T : Tables) (L : Ledger) (F : List Tree) (W : Shows T L F) where
           tables = adds T L R T′ (h .0 .rest) (h .1) F p c x (k .page e) (sym n ∙ e);
           store = sound-back T′ _ (rw (rows-taken, given-eq T L R) at (k .tries e));
         })
-        (λ e. rw (rejoin T T′ (h .0 .refused e (λ z. below-14 (asked (byLedger L F) (add p c x)) refl (sym n ∙ z))) (h .1)) W)
+        (λ e. rw (rejoin T T′ (h .0 .refused e (λ z. not-14 (asked (byLedger L F) (add p c x)) refl (sym n ∙ z))) (h .1)) W)
 
     dropping : (p : ℕ) → Promised (drop p) T a T′ → Shows T′ (step (event (drop p) (a .number)) L) (triesAfter L (drop p) (a .number) F)
     unfolding judged admitted asked all
@@ -99,7 +102,7 @@ module _ (T : Tables) (L : Ledger) (F : List Tree) (W : Shows T L F) where
           tables = drops T L R T′ (h .0 .rest) (h .1) F p (k .page e) (sym n ∙ e);
           store = sound-back T′ _ (rw (rows-taken, given-eq T L R) at (k .tries e));
         })
-        (λ e. rw (rejoin T T′ (h .0 .refused e (λ z. below-14 (asked (byLedger L F) (drop p)) refl (sym n ∙ z))) (h .1)) W)
+        (λ e. rw (rejoin T T′ (h .0 .refused e (λ z. not-14 (asked (byLedger L F) (drop p)) refl (sym n ∙ z))) (h .1)) W)
 
     -- ---- join, leave, grant, revoke
     registers : (c : Call) → Registers c T a T′ → forestAfter (L .settings) (L .rows) c F ≡ F

@@ -10,3 +10,4 @@ pub mod Store
 pub mod Numbers
 pub mod Keeps
 pub mod Main
+pub mod Foreign
