@@ -11,3 +11,6 @@ pub mod Numbers
 pub mod Keeps
 pub mod Main
 pub mod Foreign
+pub mod Contracts
+pub mod Exist
+pub mod Example
