@@ -9,7 +9,7 @@ use Rattle.meaning.specs.Lists.{all, any, onto}
 use Rattle.meaning.specs.Refusal.{Question, firstNo}
 use Rattle.meaning.specs.Sketch.{inRange}
 use Rattle.meaning.specs.Trie.{Tree}
-use Rattle.meaning.specs.Ledger.{Settings, Ledger, Event, Call, opening, add, drop, join, leave, grant, revoke, search, show, check, calledFor, listed}
+use Rattle.meaning.specs.Ledger.{Settings, Row, Ledger, Event, Call, opening, add, drop, join, leave, grant, revoke, search, show, check, calledFor, listed}
 use Rattle.meaning.specs.Questions.{asked, byLedger}
 use Rattle.layout.specs.Lengths.{workingLength}
 use Rattle.promises.specs.Tables.{Tables}
@@ -63,6 +63,11 @@ pub record Found (L : Ledger) (reader radius : ℕ) (x before : List ℕ) (numbe
   pub rows : count ≡ length (calledFor L reader radius x)
   pub output : after ≡ cond (leb (length (calledFor L reader radius x)) (length before)) (onto (listed L reader radius x) before) before
 
+-- the sketch in a page's row
+unfoldable pub sketchIn : List Row → ℕ → List ℕ
+sketchIn [] p = []
+sketchIn (r ∷ rs) p = cond (eqb (r .page) p) (r .sketch) (sketchIn rs p)
+
 -- each number is below all that follow it
 unfoldable pub rising : List ℕ → Bool
 rising [] = true
@@ -81,9 +86,12 @@ pub record Claim (T : Tables) (L : Ledger) (F : List Tree) : Type 0 where
       → RightlyPut L reader radius x → Found L reader radius x o (a .number) (a .count) (a .list)
   -- each page stands in its list once, and the numbers rise
   pub once : (reader radius : ℕ) (x : List ℕ) → rising (listed L reader radius x) ≡ true
+  -- a show gives the page's row, and nothing where it is refused
+  pub shows : (reader p : ℕ) (a : Answer) (T′ : Tables) → Promised (show reader p) T a T′
+      → a .list ≡ cond (eqb (judged T L F (show reader p)) 0) (sketchIn (L .rows) p) []
   -- a check says yes
   pub checks : (a : Answer) (T′ : Tables) → Promised check T a T′ → a .yes ≡ true
-  -- both leave zeros in the needed part of the working table
+  -- a search and a check leave zeros in the needed part of the working table
   pub searched : (reader radius : ℕ) (x o : List ℕ) (a : Answer) (T′ : Tables) → Promised (search reader radius x o) T a T′
       → T′ .working ≡ zeroed L (T .working)
   pub checked : (a : Answer) (T′ : Tables) → Promised check T a T′ → T′ .working ≡ zeroed L (T .working)
