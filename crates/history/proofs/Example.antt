@@ -1,4 +1,4 @@
--- A small history whose tables compute and show its ledger, so that no hypothesis of the laws is empty.
+-- A small history whose tables compute, so that no hypothesis of the theorem is empty; and a page added to its tables.
 use mathlib.Core.Path.{_≡_, refl}
 use mathlib.Core.Bool.{true}
 use mathlib.Core.List.{List, [], _∷_}
@@ -22,10 +22,13 @@ use Rattle.rights.specs.Register.{withMember, withGrant}
 use Rattle.promises.specs.Tables.{Tables, withSettings}
 use Rattle.promises.specs.Answers.{longFor, longSettings, longNodes, longPages, longWorking, entered, shown56, number, freeLink, freshSettings, freshChain, freshState, freshNodes, freshPages, opened, registered}
 use Rattle.promises.specs.Calls.{OpenPromise, RightsPromise}
-use Rattle.history.specs.History.{event, admitted, judged}
-use Rattle.history.proofs.Represents.{Represents, number-eq}
-use Rattle.history.proofs.Opening.{begins}
-use Rattle.history.proofs.Steps.{Added, joins, grants, adds}
+use Rattle.store.specs.Calls.{SameRest, PageAdded}
+use Rattle.history.specs.Relation.{toStore}
+use Rattle.history.specs.History.{event, History, begun, called, admitted, judged}
+use Rattle.history.proofs.Represents.{Represents}
+use Rattle.history.proofs.Steps.{adds}
+use Rattle.history.proofs.Contracts.{numberAlone, from-open, from-rights}
+use Rattle.history.proofs.Main.{represents}
 
 s : Settings
 s = record { bits = 2; symbols = 4; blocks = 2; pages = 3; nodes = 5; thresholds = replicate 64 1 }
@@ -61,10 +64,15 @@ events = event (grant 1 3) 0 ∷ event (join 5 1) 0 ∷ event (opening s) 0 ∷ 
 opened-tables : Tables
 opened-tables = withSettings first third
 
+history : History events opened-tables
+unfolding events opened-tables first opened
+history =
+    let begins = begun s held (numberAlone 0) first (from-open held 0 s (first .settings) (first .nodes) (first .pages) opening-promise) refl in
+    let joins = called begins (join 5 1) (numberAlone 0) (withSettings first second) (from-rights first 0 (join 5 1) second join-promise) in
+    called joins (grant 1 3) (numberAlone 0) (withSettings first third) (from-rights (withSettings first second) 0 (grant 1 3) third grant-promise)
+
 shown : Represents opened-tables (ledger events)
-unfolding events ledger step opened-tables first opened
-shown =
-    grants _ _ (joins _ _ (begins s held _ 0 (first .settings) (first .nodes) (first .pages) opening-promise refl) 0 second 5 1 join-promise) 0 third 1 3 grant-promise
+shown = represents history .tables
 
 -- the words of reader 5 and of group 1
 words : (getD third 75 0 ≡ 2) × (getD third 328 0 ≡ 8)
@@ -78,28 +86,37 @@ x = 0 ∷ 1 ∷ 2 ∷ 3 ∷ []
 added-tables : Tables
 added-tables = record {
   settings = third;
-  nodes = replicate 52 6;
+  nodes = onto (replicate 50 6) (held .nodes);
   pages = set (withPage 3 (first .pages) 1 3) 7 5;
   sketches = withRow 4 (held .sketches) 1 x;
   working = held .working;
 }
 
-added : Added opened-tables added-tables 1 3 x
+same-rest : SameRest (toStore opened-tables) (toStore added-tables)
 unfolding s x held first second third opened-tables added-tables opened freshSettings freshNodes freshChain freshState freshPages nodesLength pagesLength freeLink header onto upto from settingsOf withPage withRow withFlag withBit bit
-added = record {
-  lengths = record { settings = refl; nodes = refl; pages = refl; sketches = refl; working = refl };
+same-rest = record {
   settings = refl;
+  nodes = refl;
   pages = refl;
   sketches = refl;
+  working = refl;
+  header = refl;
+  settings-rest = refl;
+  nodes-rest = refl;
+  pages-rest = refl;
 }
 
-accepts : number opened-tables (forest events) (add 1 3 x) ≡ 0
+added : PageAdded (toStore opened-tables) (toStore added-tables) 1 3 x
+unfolding s x held first second third opened-tables added-tables opened freshSettings freshPages pagesLength freeLink header onto settingsOf withPage withRow withFlag withBit bit
+added = record { pages = refl; sketches = refl }
+
+accepts : judged opened-tables (ledger events) (forest events) (add 1 3 x) ≡ 0
 unfolding s x events judged admitted asked byLedger firstNo inRange all any forest forestAfter ledger step accept withMembers withGrants putRow eachFrom blockBytes packedLength perByte blockLength totalNodes sum insert addLeaf nodes fresh
-accepts = number-eq opened-tables (ledger events) shown (forest events) (add 1 3 x)
+accepts = refl
 
 shown-page : Represents added-tables (ledger (event (add 1 3 x) 0 ∷ events))
-unfolding ledger step
-shown-page = adds opened-tables (ledger events) shown added-tables (forest events) 1 3 x added accepts
+unfolding ledger step opened-tables added-tables first opened
+shown-page = adds opened-tables (ledger events) shown added-tables same-rest refl (forest events) 1 3 x added accepts
 
 lists : listed (ledger (event (add 1 3 x) 0 ∷ events)) 5 0 x ≡ 1 ∷ []
 unfolding x events ledger step accept withRows withMembers withGrants putRow write listed calledFor keep openTo stands any samePair upto from distance

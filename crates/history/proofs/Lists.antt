@@ -11,7 +11,7 @@ use Rattle.meaning.specs.Lists.{all, any, keep, from, upto}
 use Rattle.meaning.specs.Ledger.{Row, putRow}
 use Rattle.layout.proofs.Tests.{and-left, and-right}
 use Rattle.promises.specs.Tables.{rowsFrom}
-use Rattle.history.specs.History.{rising}
+use Rattle.history.specs.History.{rising, sketchIn}
 
 -- ---- tests
 
@@ -130,6 +130,21 @@ module _ (l : ℕ → Bool) (h : ℕ → Row) (own : (i : ℕ) → h i .page ≡
   pub rows-live : (p k n : ℕ) → k ≤ p → p < k + n → any (λ r. eqb (r .page) p) (rowsFrom l h k n) ≡ l p
   rows-live p k n a b =
       ap (λ (f : Row → Bool). any f (rowsFrom l h k n)) (fun-ext (λ r. sym (and-true (eqb (r .page) p)))) ∙ rows-any (λ r. true) p k n a b ∙ and-true (l p)
+
+  -- the sketch of a live page
+  pub rows-sketch : (p k n : ℕ) → l p ≡ true → k ≤ p → p < k + n → sketchIn (rowsFrom l h k n) p ≡ h p .sketch
+  unfolding sketchIn rowsFrom
+  rows-sketch p k zero live a b = absurd (omega arith)
+  rows-sketch p k (suc n) live a b = go (eqb k p) refl (l k) refl (λ c. rows-sketch p (suc k) n live (omega arith) (omega arith))
+    where
+      rest : List Row
+      rest = rowsFrom l h (suc k) n
+
+      go : (t : Bool) → eqb k p ≡ t → (s : Bool) → l k ≡ s → (k ≢ p → sketchIn rest p ≡ h p .sketch) → sketchIn (cond s (h k ∷ rest) rest) p ≡ h p .sketch
+      go true e true m ih = rw (own k, e) (ap (λ (i : ℕ). h i .sketch) (eqb-true k p e))
+      go true e false m ih = absurd (true≢false (sym live ∙ ap l (sym (eqb-true k p e)) ∙ m))
+      go false e true m ih = rw (own k, e) (ih (eqb-false k p e))
+      go false e false m ih = ih (eqb-false k p e)
 
   -- the page numbers of the rows that pass
   pub rows-keep : (f : Row → Bool) (k n : ℕ) → map (λ r. r .page) (keep f (rowsFrom l h k n)) ≡ keep (λ i. l i && f (h i)) (from k n)

@@ -1,6 +1,6 @@
 -- An accepted opening makes the invariant, whatever the tables held.
 use mathlib.Core.Path.{_≡_, refl, sym, ap, _∙_}
-use mathlib.Core.Bool.{Bool, true, false, cond, _&&_, not, true≢false}
+use mathlib.Core.Bool.{Bool, true, false, cond, _&&_, true≢false}
 use mathlib.Core.List.{List, [], _∷_, _++_}
 use Prim.Native.Nat.{ℕ, zero, suc, _+_, _*_, _-_, _≤_, _<_}
 use native.Mathlib.Nat.{mul-le-mul-right}
@@ -8,11 +8,11 @@ use native.Mathlib.Omega.{arith}
 use lib.Dec.{leb, eqb}
 use lib.ListN.{length, getD, take, replicate, length-append, length-drop, length-map, length-replicate, getD-replicate, List·getD-append}
 use lib.Seq.{take-at, take-append-le, getD-append-add}
-use borrow.Author.Tests.{eqb-true, leb-true}
+use borrow.Author.Tests.{leb-true}
 use Rattle.meaning.specs.Lists.{any, onto, from, upto}
 use Rattle.meaning.specs.Refusal.{firstNo}
 use Rattle.meaning.specs.Rights.{stands}
-use Rattle.meaning.specs.Ledger.{Settings, Ledger, opening, accept, step}
+use Rattle.meaning.specs.Ledger.{Settings, Ledger, opening, accept}
 use Rattle.meaning.specs.Questions.{inLimits, asked}
 use Rattle.layout.specs.Settings.{settingsLength, membersAt, freeAt, header}
 use Rattle.layout.specs.Pages.{isLive}
@@ -22,34 +22,33 @@ use Rattle.layout.proofs.Limits.{bounds}
 use Rattle.rights.proofs.Pairs.{holds-none}
 use Rattle.promises.specs.Tables.{Tables, given, rowsOf}
 use Rattle.promises.specs.Answers.{longFor, longSettings, longNodes, longPages, entered, number, freeLink, freshSettings, freshNodes, freshPages, opened}
-use Rattle.promises.specs.Calls.{OpenPromise}
-use Rattle.history.specs.History.{event}
+use Rattle.history.specs.Relation.{Answer, withOpening, Promised}
 use Rattle.history.proofs.Lists.{passed, rows-none}
 use Rattle.history.proofs.Represents.{Represents, AsLong, long-kept, settings-read}
 
-onto-length : (xs table : List ℕ) → length xs ≤ length table → length (onto xs table) ≡ length table
+pub onto-length : (xs table : List ℕ) → length xs ≤ length table → length (onto xs table) ≡ length table
 unfolding onto
 onto-length xs table h = simp (length-append, length-drop) (omega arith)
 
 -- a word of the beginning
-onto-word : (xs table : List ℕ) (i : ℕ) → i < length xs → getD (onto xs table) i 0 ≡ getD xs i 0
+pub onto-word : (xs table : List ℕ) (i : ℕ) → i < length xs → getD (onto xs table) i 0 ≡ getD xs i 0
 unfolding onto
 onto-word xs table i h = List·getD-append xs _ 0 i h
 
-from-length : (k n : ℕ) → length (from k n) ≡ n
+pub from-length : (k n : ℕ) → length (from k n) ≡ n
 unfolding from
 from-length k zero = refl
 from-length k (suc n) = ap suc (from-length (suc k) n)
 
-zero-word : (n : ℕ) (t : List ℕ) (k : ℕ) → k < n → getD (replicate n 0 ++ t) k 0 ≡ 0
+pub zero-word : (n : ℕ) (t : List ℕ) (k : ℕ) → k < n → getD (replicate n 0 ++ t) k 0 ≡ 0
 zero-word n t k h = List·getD-append (replicate n 0) t 0 k (rw (length-replicate {A = ℕ} n 0) h) ∙ getD-replicate n k 0 0 h
 
 module _ (s : Settings) (limits : inLimits s ≡ true) where
-  header-length : length (header s) ≡ membersAt
+  pub header-length : length (header s) ≡ membersAt
   unfolding header
   header-length = omega (arith, bounds s limits .count)
 
-  settings-length : length (freshSettings s) ≡ settingsLength
+  pub settings-length : length (freshSettings s) ≡ settingsLength
   unfolding freshSettings
   settings-length = simp (length-append, header-length)
 
@@ -57,7 +56,7 @@ module _ (s : Settings) (limits : inLimits s ≡ true) where
   unfolding freshSettings
   settings-word k h = rw (← header-length, getD-append-add (header s) _ k 0) (zero-word 320 (freeLink (s .nodes) (s .blocks) ∷ []) k h)
 
-  nodes-length : length (freshNodes s) ≡ nodesLength s
+  pub nodes-length : length (freshNodes s) ≡ nodesLength s
   unfolding freshNodes nodesLength upto
   nodes-length = simp (length-append, length-map, from-length, length-replicate) (omega arith)
 
@@ -86,17 +85,17 @@ module _ (s : Settings) (limits : inLimits s ≡ true) where
         let e : i ≡ membersAt + (i - membersAt) = omega arith in
         rw (e, onto-word (freshSettings s) (T .settings) (membersAt + (i - membersAt)) (omega (arith, settings-length)), settings-word (i - membersAt) (omega arith))
 
-    no-page : (i : ℕ) → i < s .pages → isLive (opened s T .pages) i ≡ false
+    pub no-page : (i : ℕ) → i < s .pages → isLive (opened s T .pages) i ≡ false
     unfolding opened isLive freshPages onto pagesLength
     no-page i h = let l : 1 ≤ 2 + s .blocks = omega arith in rw (zero-word (pagesLength s) _ i (omega (arith, mul-le-mul-right (s .pages) l)))
 
-    beginning : take membersAt (opened s T .settings) ≡ header s
+    pub beginning : take membersAt (opened s T .settings) ≡ header s
     unfolding opened freshSettings onto
     beginning =
         take-append-le membersAt (freshSettings s) _ (omega (arith, settings-length))
         ∙ take-at (header s) _ membersAt header-length
 
-    started : (L : Ledger) → Represents (opened s T) (accept (opening s) L)
+    pub started : (L : Ledger) → Represents (opened s T) (accept (opening s) L)
     unfolding accept rowsOf
     started L = record {
       head = beginning;
@@ -110,38 +109,19 @@ module _ (s : Settings) (limits : inLimits s ≡ true) where
     }
 
 -- ---- what an opening promises
-
--- the tables that an opening leaves: it takes the sketch table and the working table only to see how long they are
-abbrev pub leftBy : Tables → List ℕ → List ℕ → List ℕ → Tables
-leftBy T settings nodes pages = record { settings = settings; nodes = nodes; pages = pages; sketches = T .sketches; working = T .working }
-
-module _ (s : Settings) (T : Tables) (L : Ledger) where
-  accepted : number T [] (opening s) ≡ 0 → Represents (opened s T) (accept (opening s) L)
+module _ (s : Settings) (T : Tables) where
+  pub entered-4-5 : number T [] (opening s) ≡ 0 → (inLimits s ≡ true) × (longSettings T && longFor s T (opening s) ≡ true)
   unfolding number entered asked firstNo
-  accepted e =
+  entered-4-5 e =
       let h4 = passed 4 (inLimits s) (cond (longSettings T && longFor s T (opening s)) 0 5) (omega arith) e in
       let h5 = passed 5 (longSettings T && longFor s T (opening s)) 0 (omega arith) (h4 .1) in
-      started s (h4 .0) T (h5 .0) L
+      (h4 .0, h5 .0)
 
-  module _ (n : ℕ) (settings nodes pages : List ℕ) (p : OpenPromise s T n settings nodes pages) where
-    left-eq : leftBy T settings nodes pages ≡ cond (eqb (number T [] (opening s)) 0) (opened s T) T
-    unfolding opened
-    left-eq = rw (p .settings-left, p .nodes-left, p .pages-left) (go (eqb (number T [] (opening s)) 0))
-      where
-        go : (t : Bool) → leftBy T (cond t (opened s T .settings) (T .settings)) (cond t (opened s T .nodes) (T .nodes)) (cond t (opened s T .pages) (T .pages))
-            ≡ cond t (opened s T) T
-        go true = refl
-        go false = refl
-
-    pub begins : n ≡ 0 → Represents (leftBy T settings nodes pages) (accept (opening s) L)
-    begins e =
-        let z : number T [] (opening s) ≡ 0 = sym (p .answers) ∙ e in
-        rw (left-eq, z) (accepted z)
-
-    pub reopens : Represents T L → Represents (leftBy T settings nodes pages) (step (event (opening s) n) L)
-    unfolding step
-    reopens R = rw (left-eq, p .answers) (go (eqb (number T [] (opening s)) 0) refl)
-      where
-        go : (t : Bool) → eqb (number T [] (opening s)) 0 ≡ t → Represents (cond t (opened s T) T) (cond (not t) L (accept (opening s) L))
-        go true e = accepted (eqb-true (number T [] (opening s)) 0 e)
-        go false e = R
+  pub left-by : (a : Answer) (T′ : Tables) → Promised (opening s) T a T′ → T′ ≡ cond (eqb (a .number) 0) (opened s T) T
+  unfolding opened
+  left-by a T′ p = p .1 ∙ rw (p .0 .settings-left, p .0 .nodes-left, p .0 .pages-left, p .0 .answers) (go (eqb (number T [] (opening s)) 0))
+    where
+      go : (t : Bool) → withOpening T (cond t (opened s T .settings) (T .settings)) (cond t (opened s T .nodes) (T .nodes)) (cond t (opened s T .pages) (T .pages))
+          ≡ cond t (opened s T) T
+      go true = refl
+      go false = refl

@@ -13,7 +13,7 @@ use Rattle.meaning.specs.Ledger.{Row, putRow}
 use Rattle.layout.specs.Pages.{isLive, classOf, rowOf, withPage, withoutPage}
 use Rattle.layout.specs.Settings.{membersAt}
 use Rattle.layout.proofs.Words.{live-kept, class-kept, live-written, live-written-other, class-written, class-written-other, live-struck, live-struck-other, class-struck}
-use Rattle.layout.proofs.Openings.{settings-kept}
+use Rattle.layout.proofs.Written.{settings-kept}
 use Rattle.promises.specs.Tables.{Tables, given, pageClass, pageRow, rowsFrom, rowsOf}
 use Rattle.history.proofs.Lists.{rows-upto, rows-put, rows-strike}
 

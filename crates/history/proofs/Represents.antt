@@ -18,10 +18,10 @@ use Rattle.meaning.specs.Ledger.{Settings, Row, Ledger, Call, opening, add, dro
 use Rattle.meaning.specs.Questions.{inLimits, asked, byLedger}
 use Rattle.layout.specs.Settings.{membersAt, header, settingsOf, showsOpening}
 use Rattle.layout.specs.Pages.{isLive, classOf}
-use Rattle.layout.specs.Lengths.{pagesLength, sketchesLength}
+use Rattle.layout.specs.Lengths.{pagesLength, sketchesLength, workingLength}
 use Rattle.layout.proofs.Tests.{and-left, and-right, and-both}
 use Rattle.layout.proofs.Limits.{bounds}
-use Rattle.layout.proofs.Openings.{settings-header, shows-header}
+use Rattle.layout.proofs.Written.{settings-header, shows-header}
 use Rattle.rights.specs.Register.{opens}
 use Rattle.rights.proofs.Pairs.{Holds, holds-opens}
 use Rattle.promises.specs.Tables.{Tables, given, pageClass, pageRow, isShown, scan, rowsOf, byTables}
@@ -100,6 +100,11 @@ module _ (T : Tables) (L : Ledger) (R : Represents T L) where
   long-sketches =
       leb-true (sketchesLength (L .settings)) (length (T .sketches)) (and-right (leb (pagesLength (L .settings)) (length (T .pages))) _ (long-for (show 0 0)))
 
+  pub long-working : workingLength (L .settings) ≤ length (T .working)
+  unfolding longFor longWorking
+  long-working =
+      leb-true (workingLength (L .settings)) (length (T .working)) (and-right (longNodes (L .settings) T && longPages (L .settings) T) _ (long-for check))
+
   pub shows-opening : showsOpening (T .settings) ≡ true
   shows-opening =
       ap showsOpening (parted (L .settings) (T .settings) (R .head))
@@ -108,6 +113,10 @@ module _ (T : Tables) (L : Ledger) (R : Represents T L) where
 
   pub shown-6 : (c : Call) → showsOpening (T .settings) && longFor (given T) T c ≡ true
   shown-6 c = rw (given-eq) (and-both (showsOpening (T .settings)) (longFor (L .settings) T c) shows-opening (long-for c))
+
+  pub past-6 : (c : Call) → firstNo (shown56 T c) ≡ 0
+  unfolding shown56 firstNo
+  past-6 c = rw (long-settings, shown-6 c)
 
   -- ---- what 9, 12 and 13 read
   pub rows-eq : L .rows ≡ rowsIn (L .settings .pages) (L .settings .symbols) (T .pages) (T .sketches)
