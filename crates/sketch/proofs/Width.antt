@@ -1,7 +1,7 @@
 -- z symbols of b bits fit a byte.
-use mathlib.Core.Path.{_≡_, _∙_}
 use mathlib.Core.Bool.{Bool, true, false, cond, not}
 use mathlib.Core.List.{List, [], _∷_}
+use mathlib.Core.Path.{_≡_, _∙_}
 use Prim.Native.Nat.{ℕ, suc, _+_, _-_, _*_, _%_, _^_, _<_, _≤_}
 use native.Mathlib.Nat.{lt-div-mul-add, le-trans, mul-le-mul-left, div-le-self, le-div-iff-mul-le, mul-div-le, one-mul}
 use native.Mathlib.Omega.{arith}

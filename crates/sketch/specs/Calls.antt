@@ -1,9 +1,9 @@
 -- What each call on sketches promises: the number it answers, the value beside it, and its output afterwards.
-use Prim.Native.Nat.{ℕ}
-use mathlib.Core.Path.{_≡_}
 use mathlib.Core.List.{List}
-use Rattle.sketch.specs.declared.calls.Answer.{Answer}
+use mathlib.Core.Path.{_≡_}
+use Prim.Native.Nat.{ℕ}
 use Rattle.meaning.specs.SketchCalls.{measureNumber, measureValue, packNumber, packLength, packLeft, unpackNumber, unpackLength, unpackLeft}
+use Rattle.sketch.specs.declared.calls.Answer.{Answer}
 
 -- a refusal that gives no length
 abbrev pub refusal : ℕ → Answer

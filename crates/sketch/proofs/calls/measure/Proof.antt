@@ -1,13 +1,13 @@
 -- `measure` asks its questions in order, and gives the distance.
-use mathlib.Core.Path.{_≡_, refl, sym, _∙_}
 use mathlib.Core.Bool.{true, cond, _&&_}
+use mathlib.Core.Path.{_≡_, refl, sym, _∙_}
 use native.Mathlib.Omega.{arith}
+use borrow.Author.Needs.{needs}
 use borrow.Author.Tests.{eq-eqb, ne-eqb, not-true, not-false}
 use Rattle.meaning.specs.Refusal.{firstNo}
 use Rattle.meaning.specs.Sketch.{inRange}
 use Rattle.meaning.specs.SketchCalls.{sketchLimits, measureNumber}
 use Rattle.sketch.proofs.Answers.{within, measured}
-use borrow.Author.Needs.{needs}
 use Rattle.sketch.proofs.calls.measure.Statement.{statement}
 use Rattle.sketch.proofs.calls.measure.Tie as tie
 
@@ -65,7 +65,9 @@ in-range-requires-2 : tie.Need-in-range-requires-2
 in-range-requires-2 c κs = within _ _ (limits (c .before .before .before .before)) .0
 
 -- the first sketch is in range
-first : (c : tie.Else4) → inRange (c .before .before .before .before .before .before .before .before .args .b) (c .before .before .before .before .before .before .before .before .args .x .now) ≡ true
+first : (c : tie.Else4) →
+    let args = c .before .before .before .before .before .before .before .before .args in
+    inRange (args .b) (args .x .now) ≡ true
 first c = sym (c .before .in-range .ensures) ∙ not-false _ (c .if4 .left)
 
 refused-requires-5 : tie.Need-refused-requires-5

@@ -1,18 +1,18 @@
 -- `pack` asks its questions in order, and writes its output where no answer is "no".
-use mathlib.Core.Path.{_≡_, refl, sym, _∙_}
 use mathlib.Core.Bool.{true, cond}
+use mathlib.Core.Path.{_≡_, refl, sym, _∙_}
 use native.Mathlib.Nat.{le-of-eq}
 use native.Mathlib.Omega.{arith}
 use lib.Dec.{leb}
 use lib.ListN.{length, take}
 use lib.Seq.{take-all}
+use borrow.Author.Needs.{needs}
 use borrow.Author.Tests.{eq-eqb, ne-eqb, le-leb, lt-leb, not-true, not-false}
 use Rattle.meaning.specs.Refusal.{firstNo}
 use Rattle.meaning.specs.Sketch.{inRange, packedLength}
 use Rattle.meaning.specs.SketchCalls.{sketchLimits, packNumber, lengthGiven, outputLeft}
 use Rattle.sketch.proofs.Answers.{within, packed}
 use Rattle.sketch.proofs.Width.{bytes-most}
-use borrow.Author.Needs.{needs}
 use Rattle.sketch.proofs.calls.pack.Statement.{statement}
 use Rattle.sketch.proofs.calls.pack.Tie as tie
 

@@ -1,15 +1,15 @@
 -- `unpack` asks its questions in order, and writes its output where no answer is "no".
-use mathlib.Core.Path.{_≡_, refl, sym, _∙_}
 use mathlib.Core.Bool.{true, cond}
+use mathlib.Core.Path.{_≡_, refl, sym, _∙_}
 use native.Mathlib.Nat.{le-of-eq}
 use lib.Dec.{leb}
 use lib.ListN.{length}
+use borrow.Author.Needs.{needs}
 use borrow.Author.Tests.{eq-eqb, ne-eqb, le-leb, lt-leb, not-true, not-false}
 use Rattle.meaning.specs.Refusal.{firstNo}
 use Rattle.meaning.specs.Sketch.{packedLength}
 use Rattle.meaning.specs.SketchCalls.{sketchLimits, unpackNumber, lengthGiven, outputLeft}
 use Rattle.sketch.proofs.Answers.{within, unpacked}
-use borrow.Author.Needs.{needs}
 use Rattle.sketch.proofs.calls.unpack.Statement.{statement}
 use Rattle.sketch.proofs.calls.unpack.Tie as tie
 
