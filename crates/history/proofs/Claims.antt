@@ -3,7 +3,7 @@ use Prim.Native.Nat.{ℕ, zero, suc, _+_, _*_, _≤_, _<_}
 use native.Mathlib.Omega.{arith}
 use native.Mathlib.Numerals.{towards-suc}
 use native.Mathlib.Nat.{add-zero, add-suc, zero-add, suc-add}
-use mathlib.Core.Path.{_≡_, refl, ap, _∙_, sym}
+use mathlib.Core.Path.{_≡_, refl}
 use mathlib.Core.List.{List, [], _∷_}
 use mathlib.Core.Bool.{Bool, true, false, cond}
 use lib.Dec.{eqb}
@@ -12,11 +12,10 @@ use Rattle.meaning.specs.Lists.{from}
 use Rattle.trie.specs.Heap.{hit, nodeClaims, pageClaims}
 use Rattle.trie.specs.Phys.{Phys, leafP, noHeads, freeCells}
 use Rattle.layout.specs.Nodes.{headAt}
-use Rattle.trie_laws.proofs.Path.{shift}
 use Rattle.store.specs.Sound.{triesCells}
 
 -- how often a word is among n from k on
-unfoldable pub among : ℕ → ℕ → ℕ → ℕ
+among : ℕ → ℕ → ℕ → ℕ
 among k zero a = 0
 among k (suc n) a = hit k a + among (suc k) n a
 
@@ -25,7 +24,7 @@ unfolding among hit
 past k zero a h = refl
 past k (suc n) a h = rw (ne-eqb k a (omega arith)) (rw (past (suc k) n a (omega arith)))
 
-pub once : (k n a : ℕ) → among k n a ≤ 1
+once : (k n a : ℕ) → among k n a ≤ 1
 unfolding among hit
 once k zero a = omega arith
 once k (suc n) a = go (eqb k a) refl (once (suc k) n a)
@@ -35,7 +34,7 @@ once k (suc n) a = go (eqb k a) refl (once (suc k) n a)
     go false e h = omega arith
 
 -- two runs that meet are one
-pub joined : (k m l n a : ℕ) → k + m ≡ l → among k (m + n) a ≡ among k m a + among l n a
+joined : (k m l n a : ℕ) → k + m ≡ l → among k (m + n) a ≡ among k m a + among l n a
 unfolding among
 joined k zero l n a e = let f : k ≡ l = omega arith in rw (zero-add n, f) (omega arith)
 joined k (suc m) l n a e = rw (suc-add m n, joined (suc k) m l n a (omega arith)) (omega arith)
@@ -56,12 +55,12 @@ roots j zero = []
 roots j (suc n) = leafP j [] ∷ roots (suc j) n
 
 module _ (N P : ℕ) where
-  pub tries-claims : (j n a : ℕ) → nodeClaims (triesCells N P j (roots j n)) a ≡ among (N + j) n a + among (headAt N j 0) (8 * n) a
+  tries-claims : (j n a : ℕ) → nodeClaims (triesCells N P j (roots j n)) a ≡ among (N + j) n a + among (headAt N j 0) (8 * n) a
   unfolding roots among
   tries-claims j zero a = refl
   tries-claims j (suc n) a = rw (more-heads N j n a) (omega (arith, rw (add-suc N j) at (tries-claims (suc j) n a)))
 
-  pub free-claims : (x n a : ℕ) → nodeClaims (freeCells N (from x n)) a ≡ among x n a + among (N + x) n a + among (headAt N x 0) (8 * n) a
+  free-claims : (x n a : ℕ) → nodeClaims (freeCells N (from x n)) a ≡ among x n a + among (N + x) n a + among (headAt N x 0) (8 * n) a
   unfolding from among
   free-claims x zero a = refl
   free-claims x (suc n) a = rw (more-heads N x n a) (omega (arith, rw (add-suc N x) at (free-claims (suc x) n a)))

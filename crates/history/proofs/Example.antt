@@ -1,9 +1,9 @@
 -- A small history whose tables compute, so that no hypothesis of the theorem is empty; and a page added to its tables.
-use mathlib.Core.Path.{_≡_, refl}
+use mathlib.Core.Path.{_≡_, refl, sym}
 use mathlib.Core.Bool.{true}
 use mathlib.Core.List.{List, [], _∷_}
-use Prim.Native.Nat.{ℕ}
-use lib.ListN.{getD, set, replicate}
+use Prim.Native.Nat.{ℕ, _+_}
+use lib.ListN.{length, getD, set, replicate}
 use Rattle.meaning.specs.Lists.{all, any, keep, onto, from, upto, sum}
 use Rattle.meaning.specs.Refusal.{firstNo}
 use Rattle.meaning.specs.Ledger.{Settings, Event, opening, add, join, grant, accept, step, ledger, withRows, withMembers, withGrants, putRow, calledFor, listed}
@@ -29,6 +29,7 @@ use Rattle.history.proofs.Represents.{Represents}
 use Rattle.history.proofs.Steps.{adds}
 use Rattle.history.proofs.Contracts.{numberAlone, from-open, from-rights}
 use Rattle.history.proofs.Main.{represents}
+use Rattle.history.proofs.Exist.{of-length}
 
 s : Settings
 s = record { bits = 2; symbols = 4; blocks = 2; pages = 3; nodes = 5; thresholds = replicate 64 1 }
@@ -73,6 +74,10 @@ history =
 
 shown : Represents opened-tables (ledger events)
 shown = represents history .tables
+
+-- and there is one of every length
+of-any-length : (n : ℕ) → (es : List Event) × (T : Tables) × (History es T) × (length es ≡ n + 1)
+of-any-length = of-length s held (sym (opening-promise .answers))
 
 -- the words of reader 5 and of group 1
 words : (getD third 75 0 ≡ 2) × (getD third 328 0 ≡ 8)

@@ -1,14 +1,13 @@
 -- Histories exist: for every list of calls behind an accepted opening there is one with just these calls, add and drop left out, which the
 -- code alone carries out.
-use Prim.Native.Nat.{ℕ, _≤_}
-use native.Mathlib.Omega.{arith}
+use Prim.Native.Nat.{ℕ, zero, suc, _+_}
 use mathlib.Core.Path.{_≡_, refl, sym, ap, _∙_}
-use mathlib.Core.Bool.{Bool, true, false, cond, _&&_, _||_, not, true≢false}
-use mathlib.Core.Logic.{_≢_, _⊎_, inl, inr}
+use mathlib.Core.Bool.{Bool, true, false, cond, _||_, not, true≢false}
+use mathlib.Core.Logic.{_≢_, inr}
 use mathlib.Core.List.{List, [], _∷_, _++_, map}
 use lib.Dec.{leb, eqb}
-use lib.ListN.{length}
-use borrow.Author.Tests.{eqb-true, eqb-false, eq-eqb, ne-eqb, not-true}
+use lib.ListN.{length, replicate, length-append, length-map, length-replicate}
+use borrow.Author.Tests.{eq-eqb, ne-eqb, not-true}
 use Rattle.meaning.specs.Lists.{all}
 use Rattle.meaning.specs.Refusal.{firstNo}
 use Rattle.meaning.specs.SketchCalls.{lengthGiven, outputLeft}
@@ -20,7 +19,7 @@ use Rattle.layout.proofs.Tests.{and-left, and-right}
 use Rattle.promises.specs.Tables.{Tables, settingsAlone, withSettings, scan}
 use Rattle.promises.specs.Answers.{number, opened, registered}
 use Rattle.promises.specs.Calls.{RightsPromise, rowShown}
-use Rattle.store.specs.Calls.{Lists, SearchPromise, CheckPromise, workingLeft, listedOf}
+use Rattle.store.specs.Calls.{Lists, SearchPromise, workingLeft, listedOf}
 use Rattle.history.specs.Relation.{Answer, toShow, withOpening, withWorking, Registers, Promised}
 use Rattle.history.specs.History.{event, History, begun, called, admitted, judged}
 use Rattle.history.proofs.Represents.{number-eq}
@@ -162,3 +161,15 @@ module _ (s : Settings) (T₀ : Tables) (accepted : number T₀ [] (opening s) �
         history = called (h .history) c (k .answer) (k .tables) (k .promised);
         calls = ap {B = List Call} (λ ds. c ∷ ds) (h .calls);
       }
+
+  checks-only : (n : ℕ) → all (λ c. not (changesTries c)) (replicate n check) ≡ true
+  unfolding all changesTries
+  checks-only zero = refl
+  checks-only (suc n) = checks-only n
+
+  -- one of every length
+  pub of-length : (n : ℕ) → (es : List Event) × (T : Tables) × (History es T) × (length es ≡ n + 1)
+  of-length n =
+      let h = history-of (replicate n check) (checks-only n) in
+      let e : length (map (λ (e : Event). e .call) (h .events)) ≡ n + 1 = ap length (h .calls) ∙ simp (length-append, length-replicate) in
+      (h .events, h .tables, h .history, sym (length-map (h .events) (λ e. e .call)) ∙ e)

@@ -3,30 +3,29 @@ use Prim.Native.Nat.{ℕ, zero, suc, _+_, _*_, _-_, _≤_, _<_}
 use native.Mathlib.Omega.{arith}
 use mathlib.Core.Path.{_≡_, refl, ap, _∙_, sym, fun-ext}
 use mathlib.Core.List.{List, [], _∷_, _++_, map, append-assoc}
-use mathlib.Core.Bool.{Bool, true, false, cond, _&&_, true≢false}
-use lib.Dec.{ltb, eqb}
+use mathlib.Core.Bool.{Bool, true, false, _&&_, true≢false}
+use lib.Dec.{ltb}
 use lib.ListN.{length, getD, replicate, length-append, length-map, length-replicate, getD-replicate}
 use lib.Seq.{getD-append-add, getD-at}
 use borrow.Author.Tests.{lt-ltb, le-ltb, ltb-true}
-use Rattle.meaning.specs.Lists.{onto, from, upto}
+use Rattle.meaning.specs.Lists.{from, upto}
 use Rattle.meaning.specs.Trie.{Tree, fresh}
 use Rattle.meaning.specs.Ledger.{Settings, opening}
 use Rattle.meaning.specs.Questions.{inLimits}
 use Rattle.layout.specs.Settings.{freeAt, header}
-use Rattle.layout.specs.Nodes.{headAt, stateAt, leafState, freeState}
+use Rattle.layout.specs.Nodes.{headAt, stateAt, freeState}
 use Rattle.layout.specs.Pages.{isLive}
 use Rattle.layout.specs.Lengths.{nodesLength}
 use Rattle.layout.proofs.Limits.{bounds}
-use Rattle.trie.specs.Heap.{Holds, Heap}
-use Rattle.trie.specs.Phys.{Phys, leafP, tree, first, noHeads, freeCells, Below}
-use Rattle.trie_laws.specs.Block.{SoundBlock, EachFrom}
+use Rattle.trie.specs.Heap.{Holds}
+use Rattle.trie.specs.Phys.{tree, first, noHeads, freeCells, Below}
 use Rattle.trie_laws.proofs.Block.{fresh-forest}
 use Rattle.trie_laws.proofs.Forest.{total-fresh}
 use Rattle.promises.specs.Tables.{Tables, given}
 use Rattle.promises.specs.Answers.{longFor, longSettings, freeLink, freshSettings, freshChain, freshState, freshNodes, opened}
 use Rattle.store.specs.Sound.{triesCells, Rooted, Holding, livePage, pageBytes, Sound}
 use Rattle.history.proofs.Represents.{settings-read}
-use Rattle.history.proofs.Opening.{onto-word, from-length, zero-word, settings-length, nodes-length, no-page, beginning, header-length}
+use Rattle.history.proofs.Opening.{onto-word, from-length, settings-length, nodes-length, no-page, beginning, header-length}
 use Rattle.history.proofs.Claims.{roots, tries-pages, free-pages, all-claims}
 
 -- ---- the words of the node table
@@ -74,24 +73,17 @@ module _ (s : Settings) (limits : inLimits s ≡ true) (T : Tables) where
   no-heads : (x : ℕ) → x < N → Holds (noHeads N x) ws (opened s T .pages)
   unfolding noHeads
   no-heads x h =
-      let at : (g : ℕ) → g < 8 → getD ws (headAt N x g) 0 ≡ 0 = λ g. head-at x g h in (
+      let at : (g : ℕ) → g < 8 → getD ws (headAt N x g) 0 ≡ 0 = λ g. head-at x g h in
+      omega (
+        arith,
         at 0 (omega arith),
-        (
-          at 1 (omega arith),
-          (
-            at 2 (omega arith),
-            (
-              at 3 (omega arith),
-              (
-                at 4 (omega arith),
-                (
-                  at 5 (omega arith),
-                  (at 6 (omega arith), (at 7 (omega arith), tt)),
-                ),
-              ),
-            ),
-          ),
-        ),
+        at 1 (omega arith),
+        at 2 (omega arith),
+        at 3 (omega arith),
+        at 4 (omega arith),
+        at 5 (omega arith),
+        at 6 (omega arith),
+        at 7 (omega arith),
       )
 
   -- the roots are empty leaves

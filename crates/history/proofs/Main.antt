@@ -2,7 +2,7 @@
 use Prim.Native.Nat.{ℕ, _≤_}
 use native.Mathlib.Omega.{arith}
 use mathlib.Core.Path.{_≡_, refl, sym, ap, _∙_}
-use mathlib.Core.Bool.{true, cond, not}
+use mathlib.Core.Bool.{cond}
 use mathlib.Core.List.{List, []}
 use lib.Dec.{leb, eqb}
 use lib.ListN.{length, take, length-map}
@@ -12,13 +12,13 @@ use Rattle.meaning.specs.Lists.{onto}
 use Rattle.meaning.specs.Refusal.{firstNo}
 use Rattle.meaning.specs.Questions.{asked}
 use Rattle.meaning.specs.Trie.{Tree}
-use Rattle.meaning.specs.Ledger.{Ledger, Event, opening, search, show, check, step, unopened, ledger, calledFor, listed}
+use Rattle.meaning.specs.Ledger.{Ledger, Event, search, show, check, step, unopened, ledger, calledFor, listed}
 use Rattle.meaning.specs.Forest.{forest, forestAfter}
 use Rattle.promises.specs.Tables.{Tables, pageRow, scan}
 use Rattle.promises.specs.Answers.{entered}
 use Rattle.promises.specs.Calls.{rowShown}
 use Rattle.history.specs.Relation.{Answer, toShow, Promised}
-use Rattle.history.specs.History.{History, begun, called, foreign, admitted, judged, RightlyPut, Found, sketchIn, zeroed, Claim, Agree}
+use Rattle.history.specs.History.{History, begun, called, foreign, admitted, judged, RightlyPut, Found, sketchIn, Claim, Agree}
 use Rattle.history.proofs.Lists.{passed}
 use Rattle.history.proofs.Represents.{found-eq, number-eq}
 use Rattle.history.proofs.Searches.{ordered, refuses, finds, shows-row}

@@ -12,13 +12,12 @@ use Rattle.meaning.specs.Sketch.{inRange}
 use Rattle.meaning.specs.Trie.{Tree}
 use Rattle.meaning.specs.Ledger.{Ledger, Call, opening, add, drop, join, leave, grant, revoke, search, show, check}
 use Rattle.meaning.specs.Questions.{asked}
-use Rattle.promises.specs.Tables.{Tables, settingsAlone, given, pageClass, pageRow, isShown, scan, rowsOf, byTables}
+use Rattle.promises.specs.Tables.{Tables, given, pageClass, pageRow, isShown, scan, rowsOf, byTables}
 use Rattle.promises.specs.Answers.{longFor, longSettings, longNodes, longPages, shown56, entered, number}
 use Rattle.layout.specs.Settings.{showsOpening}
 use Rattle.store.specs.Sound.{Sound}
-use Rattle.store.specs.Calls.{SearchPromise}
 use Rattle.history.specs.Relation.{Answer, toStore, toShow, Promised}
-use Rattle.history.specs.History.{admitted, judged}
+use Rattle.history.specs.History.{judged}
 use Rattle.history.proofs.Represents.{Represents, number-eq}
 use Rattle.history.proofs.Store.{sound-working}
 

@@ -2,16 +2,15 @@
 use mathlib.Core.Path.{_≡_, refl, sym, ap, _∙_}
 use mathlib.Core.Bool.{Bool, true, false, cond, _&&_, true≢false}
 use mathlib.Core.List.{List, [], _∷_, _++_}
-use Prim.Native.Nat.{ℕ, zero, suc, _+_, _*_, _-_, _≤_, _<_}
+use Prim.Native.Nat.{ℕ, zero, suc, _+_, _-_, _≤_, _<_}
 use native.Mathlib.Nat.{mul-le-mul-right}
 use native.Mathlib.Omega.{arith}
 use lib.Dec.{leb, eqb}
 use lib.ListN.{length, getD, take, replicate, length-append, length-drop, length-map, length-replicate, getD-replicate, List·getD-append}
 use lib.Seq.{take-at, take-append-le, getD-append-add}
 use borrow.Author.Tests.{leb-true}
-use Rattle.meaning.specs.Lists.{any, onto, from, upto}
+use Rattle.meaning.specs.Lists.{onto, from, upto}
 use Rattle.meaning.specs.Refusal.{firstNo}
-use Rattle.meaning.specs.Rights.{stands}
 use Rattle.meaning.specs.Ledger.{Settings, Ledger, opening, accept}
 use Rattle.meaning.specs.Questions.{inLimits, asked}
 use Rattle.layout.specs.Settings.{settingsLength, membersAt, freeAt, header}

@@ -1,7 +1,7 @@
 -- What an accepted call leaves shows the ledger after its step.
 use mathlib.Core.Path.{_≡_, refl, sym, ap, _∙_}
 use mathlib.Core.Bool.{Bool, true, false, cond, _&&_, not, true≢false}
-use mathlib.Core.List.{List, []}
+use mathlib.Core.List.{List}
 use Prim.Native.Nat.{ℕ, _+_, _*_, _≤_, _<_}
 use native.Mathlib.Omega.{arith}
 use lib.Dec.{ltb, eqb}
@@ -10,13 +10,11 @@ use lib.Seq.{take-take}
 use borrow.Author.Tests.{eqb-true, ltb-true, leb-true, not-true}
 use Rattle.meaning.specs.Lists.{any, keep}
 use Rattle.meaning.specs.Refusal.{firstNo}
-use Rattle.meaning.specs.Rights.{Pair, pair, samePair, stands}
+use Rattle.meaning.specs.Rights.{Pair}
 use Rattle.meaning.specs.Trie.{Tree}
-use Rattle.meaning.specs.Ledger.{Row, Ledger, Call, add, drop, join, leave, grant, revoke, accept, withRows, withMembers, withGrants, putRow}
+use Rattle.meaning.specs.Ledger.{Row, Ledger, add, drop, join, leave, grant, revoke, accept, withRows, withMembers, withGrants, putRow}
 use Rattle.meaning.specs.Questions.{asked, byLedger}
-use Rattle.words.specs.Bits.{withFlag}
-use Rattle.words.proofs.Flags.{length-with, take-with}
-use Rattle.layout.specs.Settings.{settingsLength, membersAt, grantsAt, freeAt}
+use Rattle.layout.specs.Settings.{settingsLength, membersAt, freeAt}
 use Rattle.layout.specs.Pages.{isLive, classOf, withRow, withPage, withoutPage}
 use Rattle.layout.proofs.Tests.{and-left, and-right}
 use Rattle.layout.proofs.Rows.{row-inside, row-same, row-other}

@@ -1,14 +1,13 @@
 -- Soundness reads the settings' header and free link, the nodes, the pages and the sketches: a call that leaves these as they were keeps it.
 use Prim.Native.Nat.{ℕ}
 use mathlib.Core.Path.{_≡_, refl, _∙_, fun-ext}
-use mathlib.Core.Bool.{Bool, true}
-use mathlib.Core.List.{List, []}
+use mathlib.Core.List.{List}
 use lib.ListN.{getD, take}
 use Rattle.meaning.specs.Trie.{Tree}
 use Rattle.layout.specs.Settings.{membersAt, freeAt, settingsOf}
 use Rattle.layout.proofs.Written.{settings-kept}
 use Rattle.promises.specs.Tables.{Tables, pageClass, pageRow}
-use Rattle.store.specs.Sound.{Holding, livePage, pageBytes, SoundPage, Sound}
+use Rattle.store.specs.Sound.{livePage, pageBytes, SoundPage, Sound}
 use Rattle.history.specs.Relation.{toStore, withWorking}
 
 -- another settings table and another working table
