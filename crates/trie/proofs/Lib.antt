@@ -7,3 +7,4 @@ pub mod Fresh
 pub mod Push
 pub mod Put
 pub mod Bytes
+pub mod Split
