@@ -33,6 +33,16 @@ pub leaves-next : (c : ℕ) (t : Tree) (cs : Children) → Leaves (child c t cs)
 leaves-next c (leaf ps) cs z = z
 leaves-next c (inner ds) cs z = absurd z
 
+-- inner nodes have levels below len
+abbrev mutual
+  pub Shallow : Tree → ℕ → ℕ → Type 0
+  Shallow (leaf ps) len k = Unit {0}
+  Shallow (inner cs) len k = (k < len) × ShallowIn cs len (suc k)
+
+  pub ShallowIn : Children → ℕ → ℕ → Type 0
+  ShallowIn none len k = Unit {0}
+  ShallowIn (child c t cs) len k = Shallow t len k × ShallowIn cs len k
+
 -- at level k a node's function works on the child of byte k
 pub record Walks (byte : ℕ → ℕ) (F : ℕ → Tree → Tree) : Type 0 where
   pub below : ℕ → Children → Children
