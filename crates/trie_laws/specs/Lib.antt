@@ -1,0 +1,4 @@
+pub mod Sound
+pub mod Needed
+pub mod Path
+pub mod Block
