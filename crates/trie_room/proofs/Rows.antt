@@ -12,17 +12,20 @@ use lib.ListN.{length, getD, take, drop, length-map, length-take, length-drop, d
 use lib.Seq.{getD-take, getD-drop, drop-drop}
 use borrow.Author.Tests.{lt-ltb, ltb-true}
 use Rattle.meaning.specs.Lists.{all}
-use Rattle.meaning.specs.Sketch.{inRange, perByte, packByte, pack, symbolsAt, block, blockStart, blockLength}
+use Rattle.meaning.specs.Sketch.{inRange, perByte, packByte, packedLength, pack, symbolsAt, block, blockStart, blockLength}
+use Rattle.meaning.specs.Trie.{byteAt}
 use Rattle.meaning.specs.Ledger.{Settings}
 use Rattle.meaning.specs.Forest.{bytesOfSketch}
 use Rattle.layout.specs.Pages.{rowOf}
 use Rattle.sketch.proofs.Lists.{window}
 use Rattle.sketch.proofs.BlockEnds.{block-ends}
 use Rattle.sketch.proofs.Bytes.{byte-fits, byte-step}
-use Rattle.sketch.proofs.Width.{shifted}
+use Rattle.sketch.proofs.Width.{shifted, byte-begins}
 use Rattle.sketch_laws.proofs.Packing.{pack-at, range-of}
 use Rattle.sketch_laws.proofs.Lists.{and-first, and-second}
-use Rattle.trie_room.specs.Rows.{reduced, rowByte, rowBytes}
+use Rattle.sketch.specs.Settings.{Bits}
+use Rattle.trie_room.specs.declared.row.Level.{Level}
+use Rattle.trie_room.specs.Rows.{reduced, rowByte, rowBytes, levelOf, levelByte, LevelIn}
 
 module _ (b : ℕ) where
   pub reduced-length : (xs : List ℕ) → length (reduced b xs) ≡ length xs
@@ -115,3 +118,17 @@ pub row-same : (s : Settings) (j : ℕ) (sketches : List ℕ) (p : ℕ) → inRa
     rowBytes (s .bits) (s .symbols) (s .blocks) j sketches p ≡ bytesOfSketch s j (rowOf (s .symbols) sketches p)
 unfolding rowBytes bytesOfSketch
 row-same s j sketches p r = rw (reduced-same (s .bits) (rowOf (s .symbols) sketches p) r)
+
+-- ---- a level
+pub level-at : (b m q j k : ℕ) (sketches : List ℕ) (p : ℕ) → j < q → levelByte sketches (levelOf b m q j k) p ≡ byteAt (rowBytes b m q j sketches) k p
+unfolding levelByte levelOf byteAt
+level-at b m q j k sketches p h = sym (row-at b m q j sketches p k h)
+
+pub level-in : (b m q j k : ℕ) → Bits b → j < q → k < packedLength b (blockLength m q j) → LevelIn (levelOf b m q j k)
+unfolding levelOf symbolsAt
+level-in b m q j k h l w =
+    record { bits = h; few = omega arith; inside = omega (arith, byte-begins b (blockLength m q j) k h w, block-ends m q j l) }
+
+pub level-fits : (sketches : List ℕ) (l : Level) (p : ℕ) → LevelIn l → levelByte sketches l p < 256
+unfolding levelByte
+level-fits sketches l p h = row-byte-fits (l .b) sketches (p * l .m + l .start) (l .count) (h .few)

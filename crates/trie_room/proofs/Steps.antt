@@ -1,14 +1,21 @@
 -- The models, one step at a time: what each way out of a turn comes to. R is what the whole comes to.
-use Prim.Native.Nat.{ℕ, suc, _-_, _<_, _≤_}
-use mathlib.Core.Path.{_≡_, refl, ap, _∙_, sym}
-use mathlib.Core.List.{List}
-use mathlib.Core.Bool.{cond}
+use Prim.Native.Nat.{ℕ, zero, suc, _+_, _-_, _<_, _≤_}
+use mathlib.Core.Path.{_≡_, refl, ap, _∙_, sym, fun-ext}
+use mathlib.Core.List.{List, [], map}
+use mathlib.Core.Bool.{Bool, true, false, cond, not, _||_}
 use native.Mathlib.Omega.{arith}
-use borrow.Author.Tests.{le-ltb, lt-ltb, eq-eqb, ne-eqb}
+use borrow.Author.Tests.{le-ltb, lt-ltb, eq-eqb, ne-eqb, eqb-true, eqb-false}
+use mir.Val.{boolByte}
 use lib.Dec.{ltb, eqb}
+use lib.ListN.{length, getD, set}
+use lib.Seq.{getD-set-same, getD-set-other}
+use Rattle.trie_laws.specs.Needed.{distinctFrom}
 use Rattle.trie_room.specs.declared.chain.AtLeast.{AtLeast}
 use Rattle.trie_room.specs.declared.chain.AtLeast.the-variants.{Yes, No, Broken}
-use Rattle.trie_room.specs.Chains.{nextLink, atLeast}
+use Rattle.trie_room.specs.declared.split.Distinct.{Distinct}
+use Rattle.trie_room.specs.declared.split.Distinct.the-variants.{Bytes, Broken as Lost}
+use Rattle.trie_room.specs.Chains.{nextLink, atLeast, Chained, whole, broken, ahead, chainFrom}
+use Rattle.trie_room.specs.Splits.{counted}
 
 suc-pred : (f : ℕ) → 0 < f → suc (f - 1) ≡ f
 suc-pred f h = omega arith
@@ -33,3 +40,74 @@ module _ (T : List ℕ) (cap base link n : ℕ) (R : AtLeast) (inv : atLeast T c
 
       pub least-next : link ≤ cap → atLeast T cap base (nextLink T base link) (n - 1) ≡ R
       least-next l = rw (ne-eqb _ _ e, le-ltb _ _ l) at least-step
+
+-- `chainFrom`
+module _ (T : List ℕ) (cap base link : ℕ) where
+  pub chain-none : (f : ℕ) → link ≡ 0 → chainFrom T cap base link f ≡ whole []
+  unfolding chainFrom
+  chain-none zero e = rw (eq-eqb link 0 e) refl
+  chain-none (suc f) e = rw (eq-eqb link 0 e) refl
+
+  module _ (f : ℕ) (e : link ≡ 0 → ⊥) where
+    pub chain-long : f ≡ 0 → chainFrom T cap base link f ≡ broken
+    unfolding chainFrom
+    chain-long z = rw (z, ne-eqb link 0 e) refl
+
+    module _ (h : 0 < f) where
+      pub chain-wild : cap < link → chainFrom T cap base link f ≡ broken
+      unfolding chainFrom
+      chain-wild l = ap (chainFrom T cap base link) (sym (suc-pred f h)) ∙ rw (ne-eqb link 0 e, lt-ltb cap link l) refl
+
+      pub chain-next : link ≤ cap → chainFrom T cap base link f ≡ ahead (link - 1) (chainFrom T cap base (nextLink T base link) (f - 1))
+      unfolding chainFrom
+      chain-next l = ap (chainFrom T cap base link) (sym (suc-pred f h)) ∙ rw (ne-eqb link 0 e, le-ltb cap link l) refl
+
+-- the bytes that a table of 256 flags has
+abbrev pub flagged : List Bool → ℕ → Bool
+flagged seen y = getD seen y false
+
+flag-set : (seen : List Bool) (v : ℕ) → v < length seen → (y : ℕ) → flagged (set seen v true) y ≡ eqb y v || flagged seen y
+flag-set seen v h y = go (eqb y v) refl
+  where
+    go : (q : Bool) → eqb y v ≡ q → flagged (set seen v true) y ≡ q || flagged seen y
+    go true e = rw (eqb-true y v e) (getD-set-same seen v true false h)
+    go false e = getD-set-other seen v y true false (eqb-false y v e)
+
+-- one page more
+count-ahead : (byteOf : ℕ → ℕ) (seen : List Bool) (n x : ℕ) (c : Chained) → byteOf x < length seen →
+    counted byteOf (flagged seen) n (ahead x c) ≡
+    counted byteOf (flagged (set seen (byteOf x) true)) (n + boolByte (not (flagged seen (byteOf x)))) c
+unfolding distinctFrom
+count-ahead byteOf seen n x broken h = refl
+count-ahead byteOf seen n x (whole ps) h =
+    rw (fun-ext (flag-set seen (byteOf x) h)) (ap Bytes (go (flagged seen (byteOf x))))
+  where
+    rest : ℕ
+    rest = distinctFrom (λ y. eqb y (byteOf x) || flagged seen y) (map byteOf ps)
+
+    go : (q : Bool) → n + (cond q 0 1 + rest) ≡ n + boolByte (not q) + rest
+    go true = omega arith
+    go false = omega arith
+
+-- `distinctBytes`
+module _ (T : List ℕ) (cap base : ℕ) (byteOf : ℕ → ℕ) (seen : List Bool) (n link f : ℕ) (R : Distinct)
+    (inv : counted byteOf (flagged seen) n (chainFrom T cap base link f) ≡ R) where
+  pub bytes-done : link ≡ 0 → Bytes n ≡ R
+  unfolding distinctFrom
+  bytes-done e = let z : n ≡ n + 0 = omega arith in ap Bytes z ∙ (rw (chain-none T cap base link f e) at inv)
+
+  module _ (e : link ≡ 0 → ⊥) where
+    pub bytes-long : f ≡ 0 → Lost ≡ R
+    bytes-long z = rw (chain-long T cap base link f e z) at inv
+
+    module _ (h : 0 < f) where
+      pub bytes-wild : cap < link → Lost ≡ R
+      bytes-wild l = rw (chain-wild T cap base link f e h l) at inv
+
+      pub bytes-next : link ≤ cap → (v : ℕ) → v ≡ byteOf (link - 1) → v < length seen →
+          counted byteOf (flagged (set seen v true)) (n + boolByte (not (flagged seen v))) (chainFrom T cap base (nextLink T base link) (f - 1)) ≡ R
+      bytes-next l v q s =
+          rw q
+          (sym (count-ahead byteOf seen n (link - 1) (chainFrom T cap base (nextLink T base link) (f - 1)) (omega (arith, q)))
+          ∙ ap (counted byteOf (flagged seen) n) (sym (chain-next T cap base link f e h l))
+          ∙ inv)
