@@ -3,7 +3,7 @@ use mathlib.Core.Path.{_≡_, refl, sym, ap, _∙_}
 use mathlib.Core.Bool.{true}
 use mathlib.Core.List.{List, [], _∷_, map}
 use Prim.Native.Nat.{ℕ, zero, suc, _+_, _-_, _*_, _%_, _^_, _<_, _≤_, min}
-use native.Mathlib.Nat.{mod-lt, mod-eq-of-lt, zero-mod}
+use native.Mathlib.Nat.{mod-lt, mod-eq-of-lt, zero-mod, mul-le-mul-right}
 use native.Mathlib.Omega.{arith}
 use lib.Dec.{ltb}
 use lib.Bits.{bitAnd, and-mask}
@@ -132,3 +132,7 @@ level-in b m q j k h l w =
 pub level-fits : (sketches : List ℕ) (l : Level) (p : ℕ) → LevelIn l → levelByte sketches l p < 256
 unfolding levelByte
 level-fits sketches l p h = row-byte-fits (l .b) sketches (p * l .m + l .start) (l .count) (h .few)
+
+-- the row of each page below the capacity lies in the table
+pub row-inside : (cap m p n : ℕ) → p < cap → cap * m ≤ n → p * m + m ≤ n
+row-inside cap m p n h l = omega (arith, mul-le-mul-right m h)

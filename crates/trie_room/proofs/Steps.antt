@@ -7,7 +7,7 @@ use native.Mathlib.Omega.{arith}
 use borrow.Author.Tests.{le-ltb, lt-ltb, eq-eqb, ne-eqb, eqb-true, eqb-false}
 use mir.Val.{boolByte}
 use lib.Dec.{ltb, eqb}
-use lib.ListN.{length, getD, set}
+use lib.ListN.{length, getD, set, replicate}
 use lib.Seq.{getD-set-same, getD-set-other}
 use Rattle.trie_laws.specs.Needed.{distinctFrom}
 use Rattle.trie_room.specs.declared.chain.AtLeast.{AtLeast}
@@ -15,7 +15,7 @@ use Rattle.trie_room.specs.declared.chain.AtLeast.the-variants.{Yes, No,
 use Rattle.trie_room.specs.declared.split.Distinct.{Distinct}
 use Rattle.trie_room.specs.declared.split.Distinct.the-variants.{Bytes, Broken as Lost}
 use Rattle.trie_room.specs.Chains.{nextLink, atLeast, Chained, whole, broken, ahead, chainFrom}
-use Rattle.trie_room.specs.Splits.{counted}
+use Rattle.trie_room.specs.Splits.{counted, bytesIn}
 
 suc-pred : (f : ℕ) → 0 < f → suc (f - 1) ≡ f
 suc-pred f h = omega arith
@@ -53,14 +53,14 @@ module _ (T : List ℕ) (cap base link : ℕ) where
     unfolding chainFrom
     chain-long z = rw (z, ne-eqb link 0 e) refl
 
-    module _ (h : 0 < f) where
+    module _ (h : f ≡ 0 → ⊥) where
       pub chain-wild : cap < link → chainFrom T cap base link f ≡ broken
       unfolding chainFrom
-      chain-wild l = ap (chainFrom T cap base link) (sym (suc-pred f h)) ∙ rw (ne-eqb link 0 e, lt-ltb cap link l) refl
+      chain-wild l = ap (chainFrom T cap base link) (sym (suc-pred f (omega arith))) ∙ rw (ne-eqb link 0 e, lt-ltb cap link l) refl
 
       pub chain-next : link ≤ cap → chainFrom T cap base link f ≡ ahead (link - 1) (chainFrom T cap base (nextLink T base link) (f - 1))
       unfolding chainFrom
-      chain-next l = ap (chainFrom T cap base link) (sym (suc-pred f h)) ∙ rw (ne-eqb link 0 e, le-ltb cap link l) refl
+      chain-next l = ap (chainFrom T cap base link) (sym (suc-pred f (omega arith))) ∙ rw (ne-eqb link 0 e, le-ltb cap link l) refl
 
 -- the bytes that a table of 256 flags has
 abbrev pub flagged : List Bool → ℕ → Bool
@@ -72,6 +72,10 @@ flag-set seen v h y = go (eqb y v) refl
     go : (q : Bool) → eqb y v ≡ q → flagged (set seen v true) y ≡ q || flagged seen y
     go true e = rw (eqb-true y v e) (getD-set-same seen v true false h)
     go false e = getD-set-other seen v y true false (eqb-false y v e)
+
+pub flag-most : (t : Bool) → boolByte t ≤ 1
+flag-most true = omega arith
+flag-most false = omega arith
 
 -- one page more
 count-ahead : (byteOf : ℕ → ℕ) (seen : List Bool) (n x : ℕ) (c : Chained) → byteOf x < length seen →
@@ -89,6 +93,19 @@ count-ahead byteOf seen n x (whole ps) h =
     go true = omega arith
     go false = omega arith
 
+-- only the new byte was seen
+pub no-flags : (n y : ℕ) → flagged (replicate n false) y ≡ false
+no-flags zero y = refl
+no-flags (suc n) zero = refl
+no-flags (suc n) (suc y) = no-flags n y
+
+pub count-start : (byteOf : ℕ → ℕ) (byte : ℕ) (seen : List Bool) (c : Chained) → byte < length seen → ((y : ℕ) → flagged seen y ≡ false) →
+    counted byteOf (flagged (set seen byte true)) 1 c ≡ bytesIn byteOf byte c
+unfolding distinctFrom
+count-start byteOf byte seen broken h none = refl
+count-start byteOf byte seen (whole ps) h none =
+    rw (fun-ext (λ y. flag-set seen byte h y ∙ ap (λ (q : Bool). eqb y byte || q) (none y))) refl
+
 -- `distinctBytes`
 module _ (T : List ℕ) (cap base : ℕ) (byteOf : ℕ → ℕ) (seen : List Bool) (n link f : ℕ) (R : Distinct)
     (inv : counted byteOf (flagged seen) n (chainFrom T cap base link f) ≡ R) where
@@ -100,7 +117,7 @@ module _ (T : List ℕ) (cap base : ℕ) (byteOf : ℕ → ℕ) (seen : List Boo
     pub bytes-long : f ≡ 0 → Lost ≡ R
     bytes-long z = rw (chain-long T cap base link f e z) at inv
 
-    module _ (h : 0 < f) where
+    module _ (h : f ≡ 0 → ⊥) where
       pub bytes-wild : cap < link → Lost ≡ R
       bytes-wild l = rw (chain-wild T cap base link f e h l) at inv
 

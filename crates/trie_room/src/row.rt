@@ -5,7 +5,6 @@ ghost use lib.ListN.{length};
 ghost use Rattle.meaning.specs.Sketch.{perByte, packedLength, blockLength};
 ghost use Rattle.sketch.specs.Settings.{Bits};
 ghost use Rattle.trie_room.specs.Rows.{rowByte, LevelIn, levelOf, levelByte};
-
 use sketch::blocks::block_length;
 use sketch::blocks::block_start;
 use sketch::limits::per_byte;

@@ -5,7 +5,6 @@ ghost use lib.ListN.{length};
 ghost use Rattle.trie.specs.Tables.{PageTable};
 ghost use Rattle.trie_room.specs.Rows.{LevelIn};
 ghost use Rattle.trie_room.specs.Splits.{distinctBytes};
-
 use crate::row::Level;
 use crate::row::level_byte;
 
