@@ -21,6 +21,16 @@ Kept (leaf []) = ⊥
 Kept (leaf (p ∷ ps)) = Unit {0}
 Kept (inner cs) = Unit {0}
 
+-- every child is a leaf
+abbrev pub Leaves : Children → Type 0
+Leaves none = Unit {0}
+Leaves (child c (leaf ps) cs) = Leaves cs
+Leaves (child c (inner ds) cs) = ⊥
+
+pub leaves-next : (c : ℕ) (t : Tree) (cs : Children) → Leaves (child c t cs) → Leaves cs
+leaves-next c (leaf ps) cs z = z
+leaves-next c (inner ds) cs z = absurd z
+
 -- at level k a node's function works on the child of byte k
 pub record Walks (byte : ℕ → ℕ) (F : ℕ → Tree → Tree) : Type 0 where
   pub below : ℕ → Children → Children

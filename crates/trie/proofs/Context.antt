@@ -3,12 +3,13 @@ use Prim.Native.Nat.{ℕ, suc, _+_, _*_, _/_, _<_, _≤_}
 use mathlib.Core.Path.{_≡_, refl, ap, _∙_, sym}
 use mathlib.Core.List.{List}
 use native.Mathlib.Omega.{arith}
-use Rattle.meaning.specs.Trie.{Tree, inner, Children, child}
+use Rattle.meaning.specs.Trie.{Tree, inner, Children, child, nodes}
 use Rattle.layout.specs.Nodes.{chainWord, stateAt, innerState}
 use Rattle.trie.specs.Heap.{Cells, nil, node, _⊕_}
-use Rattle.trie.specs.Phys.{Phys, innerP, Buckets, Chain, link, root, tree, kids, kidsC, cells, cellsC, Sound, SoundC, State}
+use Rattle.trie.specs.Model.{after}
+use Rattle.trie.specs.Phys.{Phys, Buckets, Chain, root, tree, kids, kidsC, freeCells, cells, cellsC, Sound, SoundC, State, innerP, link}
+use Rattle.trie.proofs.Frame.{Less, less, less-right, Same}
 use Rattle.trie.proofs.Abstract.{Kept, Walks}
-use Rattle.trie.proofs.Frame.{less, Same}
 use Rattle.trie.proofs.Spot.{SpotB}
 
 module _ (cap pcap base : ℕ) (small : cap ≤ 262144) (byte : ℕ → ℕ) where
@@ -95,6 +96,8 @@ module _ (cap pcap base : ℕ) (small : cap ≤ 262144) (byte : ℕ → ℕ) whe
             pages = λ a. omega (arith, C .same u r .to .pages a);
           }) (st .heap);
           sound = g;
+          nodeTable = st .nodeTable;
+          pageTable = st .pageTable;
           chain = st .chain;
           below = st .below;
         }
@@ -108,6 +111,20 @@ module _ (cap pcap base : ℕ) (small : cap ≤ 262144) (byte : ℕ → ℕ) whe
             pages = λ a. omega (arith, C .same u r .back .pages a);
           }) (st .heap);
           sound = C .sound u (st .sound);
+          nodeTable = st .nodeTable;
+          pageTable = st .pageTable;
           chain = st .chain;
           below = st .below;
         }
+
+-- other cells beside it
+pub beside : {cap pcap base : ℕ} {N P : List ℕ} {free : ℕ} {t : Phys} {fs : List ℕ} {G G' : Cells} → Less G G' → State cap pcap base N P free t fs G → State cap pcap base N P free t fs G'
+beside {cap} {base} {t} {fs} l st =
+    record {
+      nodeTable = st .nodeTable;
+      pageTable = st .pageTable;
+      heap = less (less-right (cells cap base t) (less-right (freeCells cap fs) l)) (st .heap);
+      sound = st .sound;
+      chain = st .chain;
+      below = st .below;
+    }

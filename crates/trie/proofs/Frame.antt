@@ -8,6 +8,7 @@ use lib.ListN.{length, set, length-set}
 use lib.Seq.{getD-set-same, getD-set-other}
 use Rattle.meaning.specs.Trie.{nodes}
 use Rattle.trie.specs.Heap.{Cells, hit, nodeClaims, pageClaims, Holds, Heap, nil, node, page, _⊕_}
+use Rattle.trie.specs.Tables.{NodeTable, PageTable}
 
 hit-same : {a b : ℕ} → a ≡ b → hit b a ≡ 1
 unfolding hit
@@ -119,3 +120,10 @@ node-write3 {a} {b} {c} {v} {w} {r} x y z h la lb lc =
     let h1 = less (rotate (node a x) (node b v) (node c w) r) (node-write x h la) in
     let h2 = less (rotate (node b y) (node c w) (node a x) r) (node-write y h1 (simp length-set lb)) in
     less (rotate (node c z) (node a x) (node b y) r) (node-write z h2 (simp length-set lc))
+
+-- a table keeps its length
+pub nodes-kept : {cap : ℕ} {N N' : List ℕ} → length N' ≡ length N → NodeTable cap N → NodeTable cap N'
+nodes-kept e t = record { long = omega (arith, t .long); small = t .small }
+
+pub pages-kept : {pcap base : ℕ} {P P' : List ℕ} → length P' ≡ length P → PageTable pcap base P → PageTable pcap base P'
+pages-kept e t = record { long = omega (arith, t .long); small = t .small }

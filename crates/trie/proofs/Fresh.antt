@@ -5,13 +5,13 @@ use mathlib.Core.List.{List, [], _∷_}
 use mathlib.Core.Bool.{false}
 use native.Mathlib.Omega.{arith}
 use borrow.Author.Tests.{eqb-false}
-use lib.ListN.{getD}
+use lib.ListN.{getD, length-set}
 use Rattle.meaning.specs.Trie.{leaf, Children, child, nodes}
 use Rattle.layout.specs.Nodes.{chainWord, withLink, stateAt, freeState, innerState, leafState}
 use Rattle.trie.specs.Heap.{Cells, Holds, Heap, nil, node, _⊕_}
-use Rattle.trie.specs.Model.{NodeTable, linkAt, linkLeaf}
+use Rattle.trie.specs.Model.{linkAt, linkLeaf}
 use Rattle.trie.specs.Phys.{Phys, Buckets, Chain, root, kids, kidsC, first, noHeads, freeCells, cells, cellsC, SoundC, State, leafP, innerP, stop, link}
-use Rattle.trie.proofs.Frame.{Less, less, Same, node-write3}
+use Rattle.trie.proofs.Frame.{Less, less, Same, node-write3, nodes-kept}
 use Rattle.trie.proofs.Abstract.{Skips, Above}
 use Rattle.trie.proofs.Spot.{starts, root-below, SpotB}
 use Rattle.trie.proofs.Context.{whole, below, rest}
@@ -54,7 +54,7 @@ module _ (cap pcap base : ℕ) (small : cap ≤ 262144) where
   tail-above stop b hi later e g l = l
   tail-above (link c t ch) b hi later e g l = past (link c t ch) b hi e g .0
 
-  module _ {N P : List ℕ} {free n f b : ℕ} {bs : Buckets} {fs : List ℕ} {G : Cells} (ln : NodeTable cap N)
+  module _ {N P : List ℕ} {free n f b : ℕ} {bs : Buckets} {fs : List ℕ} {G : Cells}
       (st : State cap pcap base N P free (innerP n bs) (f ∷ fs) G) (s : SpotB cap pcap base small bs n 0 b) (lb : b < 256) (gap : starts (s .tail) b ≡ false) where
     abbrev pub withLeaf : Phys
     withLeaf = innerP n (s .put (link b (leafP f []) (s .tail)))
@@ -106,6 +106,8 @@ module _ (cap pcap base : ℕ) (small : cap ≤ 262144) where
         record {
           heap = less together (rw (y, z) (node-write3 (chainWord b (linkC (s .tail))) (leafState 0) (chainWord (s .byte) (f + 1)) h (omega arith) (omega arith) (omega (arith, s .within (st .sound .0)))));
           sound = (st .sound .0, s .sound x (omega arith, omega arith, (lf, tt), past (s .tail) b (32 * (b / 32) + 32) gap (s .from)));
+          nodeTable = nodes-kept (simp length-set) (st .nodeTable);
+          pageTable = st .pageTable;
           chain = h .holds .0;
           below = st .below .1;
         }

@@ -4,3 +4,5 @@ pub mod Steps
 pub mod Spot
 pub mod Context
 pub mod Fresh
+pub mod Push
+pub mod Put

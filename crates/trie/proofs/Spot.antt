@@ -7,15 +7,15 @@ use native.Mathlib.Omega.{arith}
 use borrow.Author.Tests.{ltb-true, ltb-false, eqb-true, eqb-false}
 use lib.Dec.{ltb, eqb}
 use lib.ListN.{getD}
-use Rattle.meaning.specs.Trie.{Children, child}
+use Rattle.meaning.specs.Trie.{Tree, Children, child, nodes, nodesIn}
 use Rattle.layout.specs.Nodes.{byteOf, chainWord, headAt}
 use Rattle.trie.specs.declared.Place.{Place}
 use Rattle.trie.specs.declared.Place.the-variants.{Found, Missing}
-use Rattle.trie.specs.Heap.{Cells, nil, node, _⊕_, Holds}
-use Rattle.trie.specs.Model.{placeFrom, findPlace, linkAt}
-use Rattle.trie.specs.Phys.{Phys, leafP, innerP, Buckets, end, bucket, Chain, stop, link, root, tree, kids, kidsC, cells, cellsB, cellsC, Sound, SoundB, SoundC}
-use Rattle.trie.proofs.Abstract.{Skips, Above}
+use Rattle.trie.specs.Heap.{Cells, Holds, nil, node, _⊕_}
+use Rattle.trie.specs.Model.{linkAt, placeFrom, findPlace}
+use Rattle.trie.specs.Phys.{Phys, Buckets, Chain, root, tree, kids, kidsC, cells, cellsB, cellsC, Sound, SoundB, SoundC, leafP, innerP, end, bucket, stop, link}
 use Rattle.trie.proofs.Frame.{Same, same-trans, same-right, same-left, same-assoc, same-swap}
+use Rattle.trie.proofs.Abstract.{Skips, Above, Leaves, leaves-next}
 use Rattle.trie.proofs.Steps.{place-none, place-go, place-found, place-past}
 
 -- whether a chain begins with a byte
@@ -30,6 +30,21 @@ headC (link b t ch) = root t
 
 abbrev pub answer : Bool → ℕ → ℕ → Place
 answer q s c = cond q (Found s c) (Missing s)
+
+-- children before others add the same number of nodes to each
+child-count : (c : ℕ) (t : Tree) (xs ys cs ds : Children) → nodesIn xs + nodesIn ds ≡ nodesIn ys + nodesIn cs →
+    nodesIn (child c t xs) + nodesIn ds ≡ nodesIn (child c t ys) + nodesIn cs
+unfolding nodes
+child-count c t xs ys cs ds e = omega arith
+
+chain-count : (ch : Chain) (xs ys cs ds : Children) → nodesIn xs + nodesIn ds ≡ nodesIn ys + nodesIn cs →
+    nodesIn (kidsC ch xs) + nodesIn ds ≡ nodesIn (kidsC ch ys) + nodesIn cs
+chain-count stop xs ys cs ds e = e
+chain-count (link c t ch) xs ys cs ds e = child-count c (tree t) (kidsC ch xs) (kidsC ch ys) cs ds (chain-count ch xs ys cs ds e)
+
+leaves-chain : (ch : Chain) (cs : Children) → Leaves (kidsC ch cs) → Leaves cs
+leaves-chain stop cs z = z
+leaves-chain (link c t ch) cs z = leaves-chain ch cs (leaves-next c (tree t) (kidsC ch cs) z)
 
 module _ (cap pcap base : ℕ) (small : cap ≤ 262144) where
   pub root-below : (t : Phys) → Sound cap pcap t → root t < cap
@@ -54,6 +69,8 @@ module _ (cap pcap base : ℕ) (small : cap ≤ 262144) where
     pub from : SoundC cap pcap tail b hi
     pub sound : (x : Chain) → SoundC cap pcap x b hi → SoundC cap pcap (put x) lo hi
     pub kids : (x : Chain) (cs : Children) → kidsC (put x) cs ≡ before (kidsC x cs)
+    pub count : (cs ds : Children) → nodesIn (before cs) + nodesIn ds ≡ nodesIn (before ds) + nodesIn cs
+    pub leaves : (cs : Children) → Leaves (before cs) → Leaves cs
     pub skip : (F : Children → Children) → Skips b F → (cs : Children) → F (before cs) ≡ before (F cs)
     pub find : (N P : List ℕ) (f : ℕ) → lo ≤ hi → hi < lo + f → Holds (cellsC cap base ch s y) N P → placeFrom N cap b s f ≡ answer (starts tail b) slot (headC tail)
 
@@ -76,6 +93,8 @@ module _ (cap pcap base : ℕ) (small : cap ≤ 262144) where
         from = g;
         sound = λ x. weaken x lo b hi l;
         kids = λ x cs. refl;
+        count = λ cs ds. omega arith;
+        leaves = λ cs z. z;
         skip = λ F z cs. refl;
         find = f;
       }
@@ -117,6 +136,8 @@ module _ (cap pcap base : ℕ) (small : cap ≤ 262144) where
         from = r .from;
         sound = λ x z. (g .0, g .1, g .2, r .sound x z);
         kids = λ x cs. ap (child c (tree t)) (r .kids x cs);
+        count = λ cs ds. child-count c (tree t) (r .before cs) (r .before ds) cs ds (r .count cs ds);
+        leaves = λ cs z. r .leaves cs (leaves-next c (tree t) (r .before cs) z);
         skip = λ F z cs. z c (tree t) (r .before cs) k ∙ ap (child c (tree t)) (r .skip F z cs);
         find = λ N P f i j h.
             let w : linkAt N s ≡ root t + 1 = link-word N s y t (g .2) (h .0) in
@@ -166,6 +187,8 @@ module _ (cap pcap base : ℕ) (small : cap ≤ 262144) where
     pub sound : (x : Chain) → SoundC cap pcap x b (32 * (b / 32) + 32) → SoundB cap pcap (put x) g
     pub kids : (x : Chain) → kids (put x) ≡ before (kidsC x later)
     pub above : Above b later
+    pub count : (cs ds : Children) → nodesIn (before cs) + nodesIn ds ≡ nodesIn (before ds) + nodesIn cs
+    pub leaves : (cs : Children) → Leaves (before cs) → Leaves cs
     pub skip : (F : Children → Children) → Skips b F → (cs : Children) → F (before cs) ≡ before (F cs)
     pub find : (N P : List ℕ) → Holds (cellsB cap base bs n g) N P → findPlace N cap n b ≡ answer (starts tail b) slot (headC tail)
 
@@ -196,6 +219,8 @@ module _ (cap pcap base : ℕ) (small : cap ≤ 262144) where
         from = rw q (r .from);
         sound = λ x z. (r .sound x (rw q at z), h .1);
         kids = λ x. r .kids x (kids bs);
+        count = r .count;
+        leaves = r .leaves;
         above = kids-above bs (suc g) b (h .1) (omega arith);
         skip = r .skip;
         find = λ N P z. rw q (r .find N P 33 (omega arith) (omega arith) (z .0));
@@ -217,6 +242,8 @@ module _ (cap pcap base : ℕ) (small : cap ≤ 262144) where
         from = r .from;
         sound = λ x z. (h .0, r .sound x z);
         kids = λ x. ap (kidsC ch) (r .kids x);
+        count = λ cs ds. chain-count ch (r .before cs) (r .before ds) cs ds (r .count cs ds);
+        leaves = λ cs z. r .leaves cs (leaves-chain ch (r .before cs) z);
         above = r .above;
         skip = λ F z cs. skip-chain ch b (32 * g) (32 * g + 32) F z (h .0) (omega arith) (r .before cs) ∙ ap (kidsC ch) (r .skip F z cs);
         find = λ N P z. r .find N P (z .1);

@@ -1,19 +1,19 @@
 -- The models, one step at a time.
-use Prim.Native.Nat.{ℕ, suc, _+_, _*_, _-_, _<_, _≤_}
+use Prim.Native.Nat.{ℕ, suc, _*_, _-_, _<_, _≤_}
 use mathlib.Core.Path.{_≡_, refl, ap, _∙_, sym}
 use mathlib.Core.List.{List}
 use mathlib.Core.Bool.{Bool, true, false, cond}
 use native.Mathlib.Omega.{arith}
 use borrow.Author.Tests.{le-ltb, lt-ltb, eq-eqb, ne-eqb}
 use lib.Dec.{ltb, eqb}
-use lib.ListN.{getD, set}
+use lib.ListN.{getD}
 use Rattle.meaning.specs.Trie.{child}
-use Rattle.layout.specs.Nodes.{stateAt, leafState}
+use Rattle.layout.specs.Nodes.{stateAt}
 use Rattle.trie.specs.declared.Got.{Got}
 use Rattle.trie.specs.declared.Got.the-variants.{Node, Full, Bad}
 use Rattle.trie.specs.declared.Place.{Place}
 use Rattle.trie.specs.declared.Place.the-variants.{Found, Missing, Broken}
-use Rattle.trie.specs.Model.{Inside, linkAt, childAt, byteIn, placeFrom, findPlace, linkLeaf, nodeIn, freshLeaf, childLeaf, pushPage, putLeafM, made, pushed, after}
+use Rattle.trie.specs.Model.{Inside, linkAt, childAt, byteIn, placeFrom, findPlace, linkLeaf, nodeIn, freshLeaf, childLeaf, pushNodes, pushPages, pushPage, putLeafM, made, pushed, after}
 
 pub suc-pred : (f : ℕ) → (f ≡ 0 → ⊥) → f ≡ suc (f - 1)
 suc-pred f h = omega arith
@@ -97,7 +97,7 @@ module _ (N P : List ℕ) (cap base n p : ℕ) where
   push-none l = rw (lt-ltb _ _ l) refl
 
   pub push-done : 2 ≤ getD N (stateAt cap n) 0 →
-      pushed (set N (stateAt cap n) (leafState (p + 1))) (set P (base + p) (getD N (stateAt cap n) 0 - 2)) true ≡ pushPage N P cap base n p
+      pushed (pushNodes N cap n p) (pushPages N P cap base n p) true ≡ pushPage N P cap base n p
   unfolding pushPage
   push-done l = rw (le-ltb _ _ l) refl
 

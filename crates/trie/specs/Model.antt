@@ -1,25 +1,15 @@
 -- What the code computes, as definitions on the tables: N the node table, P the page table, cap and pcap the capacities.
-use Prim.Native.Nat.{ℕ, zero, suc, _+_, _*_, _-_, _/_, _<_, _≤_}
+use Prim.Native.Nat.{ℕ, zero, suc, _+_, _*_, _-_, _/_, _<_}
 use mathlib.Core.List.{List}
 use mathlib.Core.Bool.{Bool, true, false, cond}
 use lib.Dec.{ltb, eqb}
-use lib.ListN.{length, getD, set}
+use lib.ListN.{getD, set}
 use Rattle.meaning.specs.Trie.{child}
 use Rattle.layout.specs.Nodes.{linkOf, byteOf, chainWord, withLink, stateAt, headAt, leafState}
 use Rattle.trie.specs.declared.Got.{Got}
 use Rattle.trie.specs.declared.Got.the-variants.{Node, Full, Bad}
 use Rattle.trie.specs.declared.Place.{Place}
 use Rattle.trie.specs.declared.Place.the-variants.{Found, Missing, Broken}
-
--- a table of cap nodes, few enough for a link
-pub record NodeTable (cap : ℕ) (N : List ℕ) : Type 0 where
-  pub long : 10 * cap ≤ length N
-  pub small : cap ≤ 262144
-
--- the links of pcap pages, from base on
-pub record PageTable (pcap base : ℕ) (P : List ℕ) : Type 0 where
-  pub long : base + pcap ≤ length P
-  pub small : pcap ≤ 65535
 
 -- a place inside the table: its slot, and the child there
 abbrev pub slotOf : Place → ℕ
@@ -93,10 +83,15 @@ pub data Pushed : Type 0 where
   pushed : List ℕ → List ℕ → Bool → Pushed
 
 -- page p put first into leaf n
+abbrev pub pushNodes : List ℕ → ℕ → ℕ → ℕ → List ℕ
+pushNodes N cap n p = set N (stateAt cap n) (leafState (p + 1))
+
+abbrev pub pushPages : List ℕ → List ℕ → ℕ → ℕ → ℕ → ℕ → List ℕ
+pushPages N P cap base n p = set P (base + p) (getD N (stateAt cap n) 0 - 2)
+
 unfoldable pub pushPage : List ℕ → List ℕ → ℕ → ℕ → ℕ → ℕ → Pushed
 pushPage N P cap base n p =
-    cond (ltb (getD N (stateAt cap n) 0) 2) (pushed N P false)
-    (pushed (set N (stateAt cap n) (leafState (p + 1))) (set P (base + p) (getD N (stateAt cap n) 0 - 2)) true)
+    cond (ltb (getD N (stateAt cap n) 0) 2) (pushed N P false) (pushed (pushNodes N cap n p) (pushPages N P cap base n p) true)
 
 -- both tables and the answer
 pub data After : Type 0 where

@@ -4,7 +4,8 @@ use mathlib.Core.Path.{_≡_}
 use mathlib.Core.List.{List, [], _∷_}
 use Rattle.meaning.specs.Trie.{Tree, leaf, inner, Children, none, child}
 use Rattle.layout.specs.Nodes.{chainWord, chainAt, stateAt, headAt, freeState, innerState, leafState}
-use Rattle.trie.specs.Heap.{Cells, nil, node, page, _⊕_, Heap}
+use Rattle.trie.specs.Heap.{Cells, Heap, nil, node, page, _⊕_}
+use Rattle.trie.specs.Tables.{NodeTable, PageTable}
 
 mutual
   pub data Phys : Type 0 where
@@ -106,6 +107,8 @@ module _ (cap pcap : ℕ) where
 
 -- a trie and the free nodes lie in the tables, beside other cells
 pub record State (cap pcap base : ℕ) (N P : List ℕ) (free : ℕ) (t : Phys) (fs : List ℕ) (G : Cells) : Type 0 where
+  pub nodeTable : NodeTable cap N
+  pub pageTable : PageTable pcap base P
   pub heap : Heap N P (cells cap base t ⊕ freeCells cap fs ⊕ G)
   pub sound : Sound cap pcap t
   pub chain : free ≡ first fs

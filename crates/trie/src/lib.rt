@@ -3,7 +3,8 @@ ghost use mathlib.Core.Path.{_≡_};
 ghost use Prim.Native.Nat.{ℕ, _+_, _*_, _<_, _≤_, _-_};
 ghost use lib.ListN.{length, getD, set};
 ghost use Rattle.layout.specs.Nodes.{withLink};
-ghost use Rattle.trie.specs.Model.{NodeTable, Inside, findPlace, linkLeaf, made, freshLeaf, childLeaf, nodeIn, pushed, pushPage, after, putLeafM};
+ghost use Rattle.trie.specs.Tables.{NodeTable};
+ghost use Rattle.trie.specs.Model.{Inside, findPlace, linkLeaf, made, freshLeaf, childLeaf, nodeIn, pushed, pushPage, after, putLeafM};
 
 // A chain word is a link and, times this, a byte.
 const LINKS: u32 = 524288;
