@@ -6,3 +6,5 @@ pub mod Context
 pub mod Fresh
 pub mod Push
 pub mod Put
+pub mod Bytes
+pub mod Split

@@ -1,5 +1,5 @@
 -- The models, one step at a time.
-use Prim.Native.Nat.{ℕ, suc, _*_, _-_, _<_, _≤_}
+use Prim.Native.Nat.{ℕ, suc, _+_, _*_, _-_, _<_, _≤_}
 use mathlib.Core.Path.{_≡_, refl, ap, _∙_, sym}
 use mathlib.Core.List.{List}
 use mathlib.Core.Bool.{Bool, true, false, cond}
@@ -11,9 +11,10 @@ use Rattle.meaning.specs.Trie.{child}
 use Rattle.layout.specs.Nodes.{stateAt}
 use Rattle.trie.specs.declared.Got.{Got}
 use Rattle.trie.specs.declared.Got.the-variants.{Node, Full, Bad}
+use Rattle.trie.specs.declared.Level.{Level}
 use Rattle.trie.specs.declared.Place.{Place}
 use Rattle.trie.specs.declared.Place.the-variants.{Found, Missing, Broken}
-use Rattle.trie.specs.Model.{Inside, linkAt, childAt, byteIn, placeFrom, findPlace, linkLeaf, nodeIn, freshLeaf, childLeaf, pushNodes, pushPages, pushPage, putLeafM, made, pushed, after}
+use Rattle.trie.specs.Model.{Inside, linkAt, childAt, byteIn, placeFrom, findPlace, linkLeaf, nodeIn, freshLeaf, childLeaf, pushNodes, pushPages, pushPage, After, putLeafM, pageByte, onPut, splitFrom, made, pushed, after}
 
 pub suc-pred : (f : ℕ) → (f ≡ 0 → ⊥) → f ≡ suc (f - 1)
 suc-pred f h = omega arith
@@ -119,3 +120,40 @@ module _ (N P : List ℕ) (cap base n b p free : ℕ) (ns : List ℕ) (g : Got) 
   pub put-bad : g ≡ Bad → after ns P Bad ≡ putLeafM N P cap base n b p free
   unfolding putLeafM
   put-bad q = rw (← e, q) refl
+
+-- `splitFrom` at each way out of a turn. R is what the walk comes to in the end
+module _ (S : List ℕ) (v : Level) (cap pcap base n : ℕ) (N P : List ℕ) (l free f : ℕ) (R : After) (inv : splitFrom S v cap pcap base n N P l free f ≡ R) where
+  pub split-out : f ≡ 0 → after N P Bad ≡ R
+  unfolding splitFrom
+  split-out e = rw e at inv
+
+  module _ (h : f ≡ 0 → ⊥) where
+    split-step :
+        cond (eqb l 0) (after N P (Node n free))
+        (cond (ltb pcap l) (after N P Bad)
+        (onPut (λ N' P' free'. splitFrom S v cap pcap base n N' P' (getD P (base + (l - 1)) 0) free' (f - 1))
+        (putLeafM N P cap base n (pageByte S v (l - 1)) (l - 1) free))) ≡ R
+    unfolding splitFrom
+    split-step = ap (splitFrom S v cap pcap base n N P l free) (sym (suc-pred f h)) ∙ inv
+
+    pub split-end : l ≡ 0 → after N P (Node n free) ≡ R
+    split-end e = rw (eq-eqb l 0 e) at split-step
+
+    module _ (e : l ≡ 0 → ⊥) where
+      pub split-wild : pcap ≤ l - 1 → after N P Bad ≡ R
+      split-wild m = rw (ne-eqb l 0 e, lt-ltb pcap l (omega arith)) at split-step
+
+      module _ (m : l - 1 < pcap) (ns ps : List ℕ) (y : ℕ) (g : Got) (b : y ≡ pageByte S v (l - 1)) (u : after ns ps g ≡ putLeafM N P cap base n y (l - 1) free) where
+        split-go : onPut (λ N' P' free'. splitFrom S v cap pcap base n N' P' (getD P (base + (l - 1)) 0) free' (f - 1)) (after ns ps g) ≡ R
+        split-go =
+            ap (onPut (λ N' P' free'. splitFrom S v cap pcap base n N' P' (getD P (base + (l - 1)) 0) free' (f - 1))) (u ∙ ap (λ (z : ℕ). putLeafM N P cap base n z (l - 1) free) b) ∙
+            rw (ne-eqb l 0 e, le-ltb pcap l (omega arith)) at split-step
+
+        pub split-next : (c free' : ℕ) → g ≡ Node c free' → splitFrom S v cap pcap base n ns ps (getD P (base + (l - 1)) 0) free' (f - 1) ≡ R
+        split-next c free' q = rw q at split-go
+
+        pub split-full : g ≡ Full → after ns ps Full ≡ R
+        split-full q = rw q at split-go
+
+        pub split-bad : g ≡ Bad → after ns ps Bad ≡ R
+        split-bad q = rw q at split-go

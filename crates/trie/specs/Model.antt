@@ -1,5 +1,5 @@
 -- What the code computes, as definitions on the tables: N the node table, P the page table, cap and pcap the capacities.
-use Prim.Native.Nat.{ℕ, zero, suc, _+_, _*_, _-_, _/_, _<_}
+use Prim.Native.Nat.{ℕ, zero, suc, _+_, _*_, _-_, _/_, _%_, _^_, _<_}
 use mathlib.Core.List.{List}
 use mathlib.Core.Bool.{Bool, true, false, cond}
 use lib.Dec.{ltb, eqb}
@@ -8,6 +8,7 @@ use Rattle.meaning.specs.Trie.{child}
 use Rattle.layout.specs.Nodes.{linkOf, byteOf, chainWord, withLink, stateAt, headAt, leafState}
 use Rattle.trie.specs.declared.Got.{Got}
 use Rattle.trie.specs.declared.Got.the-variants.{Node, Full, Bad}
+use Rattle.trie.specs.declared.Level.{Level}
 use Rattle.trie.specs.declared.Place.{Place}
 use Rattle.trie.specs.declared.Place.the-variants.{Found, Missing, Broken}
 
@@ -109,3 +110,26 @@ putInto P cap base p (made N Bad) = after N P Bad
 -- page p put into the child leaf of byte b of node n
 unfoldable pub putLeafM : List ℕ → List ℕ → ℕ → ℕ → ℕ → ℕ → ℕ → ℕ → After
 putLeafM N P cap base n b p free = putInto P cap base p (childLeaf N cap n b free)
+
+-- the packed byte of n symbols of the table S from a place on, each taken modulo 2^b
+unfoldable pub rowByte : ℕ → List ℕ → ℕ → ℕ → ℕ
+rowByte b S i zero = 0
+rowByte b S i (suc n) = getD S i 0 % 2 ^ b + 2 ^ b * rowByte b S (suc i) n
+
+-- the byte of page p at a level
+unfoldable pub pageByte : List ℕ → Level → ℕ → ℕ
+pageByte S v p = rowByte (v .bits) S (p * v .symbols + v .from) (v .count)
+
+abbrev pub onPut : (List ℕ → List ℕ → ℕ → After) → After → After
+onPut go (after N P (Node c free)) = go N P free
+onPut go (after N P Full) = after N P Full
+onPut go (after N P Bad) = after N P Bad
+
+-- the pages of a chain from link l on, each in turn put into the child leaf of its byte, fewer than f
+unfoldable pub splitFrom : List ℕ → Level → ℕ → ℕ → ℕ → ℕ → List ℕ → List ℕ → ℕ → ℕ → ℕ → After
+splitFrom S v cap pcap base n N P l free zero = after N P Bad
+splitFrom S v cap pcap base n N P l free (suc f) =
+    cond (eqb l 0) (after N P (Node n free))
+    (cond (ltb pcap l) (after N P Bad)
+    (onPut (λ N' P' free'. splitFrom S v cap pcap base n N' P' (getD P (base + (l - 1)) 0) free' f)
+    (putLeafM N P cap base n (pageByte S v (l - 1)) (l - 1) free)))

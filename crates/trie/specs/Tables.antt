@@ -2,6 +2,7 @@
 use Prim.Native.Nat.{ℕ, _+_, _*_, _≤_}
 use mathlib.Core.List.{List}
 use lib.ListN.{length}
+use Rattle.trie.specs.declared.Level.{Level}
 
 -- a table of cap nodes
 pub record NodeTable (cap : ℕ) (N : List ℕ) : Type 0 where
@@ -12,3 +13,10 @@ pub record NodeTable (cap : ℕ) (N : List ℕ) : Type 0 where
 pub record PageTable (pcap base : ℕ) (P : List ℕ) : Type 0 where
   pub long : base + pcap ≤ length P
   pub small : pcap ≤ 65535
+
+-- a table with a row of symbols for each page, in which a level's symbols lie and fit a byte
+pub record SketchTable (pcap : ℕ) (v : Level) (S : List ℕ) : Type 0 where
+  pub long : pcap * v .symbols ≤ length S
+  pub inside : v .from + v .count ≤ v .symbols
+  pub narrow : v .bits ≤ 8
+  pub fits : v .bits * v .count ≤ 8

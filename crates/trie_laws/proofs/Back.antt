@@ -10,13 +10,13 @@ use lib.ListN.{length}
 use borrow.Author.Tests.{eq-eqb}
 use Rattle.meaning.specs.Lists.{all, any, count}
 use Rattle.meaning.specs.Trie.{Tree, leaf, inner, Children, none, child, without, prune, byteAt, remove, removeIn, addLeaf, insert, insertIn}
-use Rattle.trie_laws.specs.Sound.{pagesIn, pagesAmong, filled, packs, soundTrie, soundFrom}
+use Rattle.trie_laws.specs.Sound.{pagesIn, pagesAmong, filled, packs, soundTrie, soundFrom, Stands}
 use Rattle.trie_laws.specs.Needed.{splits, splitNodes, needed, neededIn}
 use Rattle.trie_laws.proofs.Lists.{less, same, more, compared, holds, fails, truth, or-none, eqb-comm, any-append}
 use Rattle.trie_laws.proofs.Distinct.{distinct-some}
 use Rattle.trie_laws.proofs.Leaf.{add-stays}
 use Rattle.trie_laws.proofs.Sound.{inner-parts, child-parts}
-use Rattle.trie_laws.proofs.Pages.{insert-count, remove-count, absent-count}
+use Rattle.trie_laws.proofs.Pages.{stands-any, insert-count, remove-count, absent-count}
 use Rattle.trie_laws.proofs.Keeps.{insert-sound}
 
 without-absent : (p : ℕ) (xs : List ℕ) → any (eqb p) xs ≡ false → without p xs ≡ xs
@@ -40,6 +40,12 @@ module _ (bytesOf : ℕ → List ℕ) (b n len : ℕ) (thresholds : List ℕ) (p
       remove-count bytesOf b n len q k p (insert bytesOf len thresholds k p t) (insert-sound bytesOf b n len thresholds k p t e f h)
       ∙ insert-count (λ x. not (eqb x p) && q x) bytesOf len thresholds k p t
       ∙ rw (eq-eqb p p refl) (zero-add (count (λ x. not (eqb x p) && q x) (pagesIn t)) ∙ sym (absent-count q p (pagesIn t) a))
+
+  pub back-stands : (live : ℕ → Bool) (k : ℕ) (t : Tree) → packs bytesOf b n len p ≡ true → all (packs bytesOf b n len) (pagesIn t) ≡ true →
+      soundTrie bytesOf b n len k t ≡ true → Stands live t → live p ≡ false →
+      Stands live (remove bytesOf k p (insert bytesOf len thresholds k p t))
+  unfolding Stands
+  back-stands live k t e f h s a x = back-count (eqb x) k t e f h (stands-any live t s p ∙ a) ∙ s x
 
   back-leaf : (k : ℕ) (ps : List ℕ) → any (eqb p) ps ≡ false → splitNodes bytesOf len thresholds k (p ∷ ps) ≡ 0 →
       remove bytesOf k p (addLeaf bytesOf len thresholds k p ps) ≡ leaf ps

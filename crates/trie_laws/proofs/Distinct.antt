@@ -6,10 +6,10 @@ use mathlib.Core.Bool.{Bool, true, false, cond, not, _&&_, _||_, and-true, and-f
 use mathlib.Core.List.{List, [], _∷_}
 use lib.Dec.{ltb, eqb}
 use lib.ListN.{length}
-use borrow.Author.Tests.{ltb-true, eq-eqb, ne-eqb}
+use borrow.Author.Tests.{ltb-true, eqb-true, eq-eqb, ne-eqb}
 use Rattle.meaning.specs.Lists.{all, any, count, from, upto}
 use Rattle.trie_laws.specs.Needed.{distinctFrom, distinct}
-use Rattle.trie_laws.proofs.Lists.{less, same, more, compared, and-first, and-second, or-first, or-second, count-none}
+use Rattle.trie_laws.proofs.Lists.{less, same, more, compared, holds, fails, truth, and-first, and-second, or-first, or-second, count-none, count-upto}
 
 -- only what was seen of the list's own bytes counts
 pub distinct-agree : (s r : ℕ → Bool) (xs : List ℕ) → ((y : ℕ) → any (eqb y) xs ≡ true → s y ≡ r y) → distinctFrom s xs ≡ distinctFrom r xs
@@ -25,11 +25,31 @@ distinct-agree s r (x ∷ xs) h =
 pub distinct-length : (s : ℕ → Bool) (xs : List ℕ) → distinctFrom s xs ≤ length xs
 unfolding distinctFrom
 distinct-length s [] = omega arith
-distinct-length s (x ∷ xs) = go (s x) (distinct-length (λ y. eqb y x || s y) xs)
+distinct-length s (x ∷ xs) =
+    let h : distinctFrom (λ y. eqb y x || s y) xs ≤ length xs = distinct-length (λ y. eqb y x || s y) xs in
+    elim (truth (s x)) [
+      | holds e ↦ rw e (omega arith)
+      | fails e ↦ rw e (omega arith)
+    ]
+
+-- where no number comes twice, nor was seen, all are different
+pub distinct-once : (s : ℕ → Bool) (xs : List ℕ) → ((y : ℕ) → count (eqb y) xs + cond (s y) 1 0 ≤ 1) → distinctFrom s xs ≡ length xs
+unfolding distinctFrom count
+distinct-once s [] h = refl
+distinct-once s (x ∷ xs) h =
+    let g : 1 + count (eqb x) xs + cond (s x) 1 0 ≤ 1 = rw (eq-eqb x x refl) at (h x) in
+    let more = distinct-once (λ y. eqb y x || s y) xs (λ y. later y g (h y)) in
+    elim (truth (s x)) [
+      | holds e ↦ absurd (omega (arith, rw e at g))
+      | fails e ↦ rw e (omega (arith, more))
+    ]
   where
-    go : (q : Bool) {d : ℕ} → d ≤ length xs → cond q 0 1 + d ≤ suc (length xs)
-    go true h = omega arith
-    go false h = omega arith
+    later : (y : ℕ) → 1 + count (eqb x) xs + cond (s x) 1 0 ≤ 1 → cond (eqb y x) 1 0 + count (eqb y) xs + cond (s y) 1 0 ≤ 1 →
+        count (eqb y) xs + cond (eqb y x || s y) 1 0 ≤ 1
+    later y g h = elim (truth (eqb y x)) [
+      | holds e ↦ rw (e, eqb-true y x e) (omega arith)
+      | fails e ↦ rw e (omega (arith, rw e at h))
+    ]
 
 -- one page has one byte, and each list of pages has a byte
 pub distinct-one : (bytesOf : ℕ → List ℕ) (k p : ℕ) → distinct bytesOf k (p ∷ []) ≡ 1
@@ -82,15 +102,5 @@ distinct-count m s (x ∷ xs) h =
     part false false true = refl
     part false false false = refl
 
-count-from : (f : ℕ → Bool) (j m : ℕ) → count f (from j m) ≤ m
-unfolding count from
-count-from f j zero = omega arith
-count-from f j (suc m) = go (f j) (count-from f (suc j) m)
-  where
-    go : (q : Bool) {d : ℕ} → d ≤ m → cond q 1 0 + d ≤ suc m
-    go true h = omega arith
-    go false h = omega arith
-
 pub distinct-below : (m : ℕ) (s : ℕ → Bool) (xs : List ℕ) → all (λ x. ltb x m) xs ≡ true → distinctFrom s xs ≤ m
-unfolding upto
-distinct-below m s xs h = rw (distinct-count m s xs h) (count-from (λ y. not (s y) && any (eqb y) xs) 0 m)
+distinct-below m s xs h = rw (distinct-count m s xs h) (count-upto (λ y. not (s y) && any (eqb y) xs) m)

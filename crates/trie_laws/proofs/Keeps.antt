@@ -8,7 +8,7 @@ use lib.Dec.{eqb}
 use lib.ListN.{length}
 use borrow.Author.Tests.{eq-eqb}
 use Rattle.meaning.specs.Lists.{all}
-use Rattle.meaning.specs.Sketch.{packable}
+use Rattle.meaning.specs.Sketch.{packedLength, packable, allPackable}
 use Rattle.meaning.specs.Trie.{Tree, leaf, inner, Children, none, child, fresh, push, putLeaf, prune, byteAt, split, remove, removeIn, addLeaf, insert, insertIn}
 use Rattle.trie_laws.specs.Sound.{pagesIn, pagesAmong, filled, packs, soundTrie, soundFrom}
 use Rattle.trie_laws.specs.Needed.{splits}
@@ -36,6 +36,11 @@ module _ (bytesOf : ℕ → List ℕ) (b n len : ℕ) where
   unfolding packs
   packs-at p k h l = upto-all (λ i. packable b n i (byteAt bytesOf i p)) len h k l
 
+  -- with the packed length of n symbols this is the test of crate meaning
+  pub packs-all : (p : ℕ) → len ≡ packedLength b n → packs bytesOf b n len p ≡ allPackable b n (bytesOf p)
+  unfolding packs allPackable byteAt
+  packs-all p e = rw e refl
+
   push-sound : (k p : ℕ) (t : Tree) → soundTrie bytesOf b n len k t ≡ true → soundTrie bytesOf b n len k (push p t) ≡ true
   unfolding push soundTrie
   push-sound k p (leaf ps) h = refl
@@ -57,17 +62,17 @@ module _ (bytesOf : ℕ → List ℕ) (b n len : ℕ) where
     sub = push-sound (suc k) p t (s .sub);
   }
 
-  pub put-sound : (k p lo : ℕ) (cs : Children) → lo ≤ byteAt bytesOf k p → packable b n k (byteAt bytesOf k p) ≡ true →
+  pub putLeaf-sound : (k p lo : ℕ) (cs : Children) → lo ≤ byteAt bytesOf k p → packable b n k (byteAt bytesOf k p) ≡ true →
       soundFrom bytesOf b n len k lo cs ≡ true → soundFrom bytesOf b n len k lo (putLeaf (byteAt bytesOf k p) p cs) ≡ true
   unfolding putLeaf
-  put-sound k p lo none l e h = sound-last bytesOf b n len k lo (byteAt bytesOf k p) (leaf (p ∷ [])) l (leaf-below k p e)
-  put-sound k p lo (child c t cs) l e h =
+  putLeaf-sound k p lo none l e h = sound-last bytesOf b n len k lo (byteAt bytesOf k p) (leaf (p ∷ [])) l (leaf-below k p e)
+  putLeaf-sound k p lo (child c t cs) l e h =
       let y : ℕ = byteAt bytesOf k p in
       let s = child-parts bytesOf b n len k lo c t cs h in
       elim (compared y c) [
         | less m q ↦ rw (q .lt) (sound-before bytesOf b n len k lo c t cs h y (leaf (p ∷ [])) l m (leaf-below k p e))
         | same m q ↦ rw (q .lt, q .eq) (sound-instead bytesOf b n len k lo c t cs h (push p t) (push-below k p c t m (s .here)))
-        | more m q ↦ rw (q .lt, q .eq) (sound-behind bytesOf b n len k lo c t cs h (putLeaf y p cs) (put-sound k p (suc c) cs m e (s .rest)))
+        | more m q ↦ rw (q .lt, q .eq) (sound-behind bytesOf b n len k lo c t cs h (putLeaf y p cs) (putLeaf-sound k p (suc c) cs m e (s .rest)))
       ]
 
   pub split-sound : (k : ℕ) (ps : List ℕ) (cs : Children) → k < len → all (packs bytesOf b n len) ps ≡ true →
@@ -76,7 +81,7 @@ module _ (bytesOf : ℕ → List ℕ) (b n len : ℕ) where
   split-sound k [] cs l e h = h
   split-sound k (p ∷ ps) cs l e h =
       split-sound k ps (putLeaf (byteAt bytesOf k p) p cs) l (and-second (packs bytesOf b n len p) (all (packs bytesOf b n len) ps) e)
-      (put-sound k p 0 cs (omega arith) (packs-at p k (and-first (packs bytesOf b n len p) (all (packs bytesOf b n len) ps) e) l) h)
+      (putLeaf-sound k p 0 cs (omega arith) (packs-at p k (and-first (packs bytesOf b n len p) (all (packs bytesOf b n len) ps) e) l) h)
 
   -- ---- an insertion
   module _ (thresholds : List ℕ) where

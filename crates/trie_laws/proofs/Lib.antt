@@ -10,5 +10,7 @@ pub mod Back
 pub mod Kids
 pub mod Path
 pub mod Reach
+pub mod Walk
 pub mod Forest
 pub mod Block
+pub mod Example

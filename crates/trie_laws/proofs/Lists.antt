@@ -189,3 +189,18 @@ all-from q j (suc n) h i l u = elim (compared j i) [
 pub upto-all : (q : ℕ → Bool) (n : ℕ) → all q (upto n) ≡ true → (i : ℕ) → i < n → q i ≡ true
 unfolding upto
 upto-all q n h i l = all-from q 0 n h i (omega arith) (omega arith)
+
+-- at most n numbers below n pass
+count-from : (f : ℕ → Bool) (j m : ℕ) → count f (from j m) ≤ m
+unfolding count from
+count-from f j zero = omega arith
+count-from f j (suc m) =
+    let h : count f (from (suc j) m) ≤ m = count-from f (suc j) m in
+    elim (truth (f j)) [
+      | holds e ↦ rw e (omega arith)
+      | fails e ↦ rw e (omega arith)
+    ]
+
+pub count-upto : (f : ℕ → Bool) (n : ℕ) → count f (upto n) ≤ n
+unfolding upto
+count-upto f n = count-from f 0 n

@@ -1,5 +1,5 @@
 -- How many nodes a trie has after an insertion, and after a removal.
-use Prim.Native.Nat.{ℕ, zero, suc, _+_}
+use Prim.Native.Nat.{ℕ, zero, suc, _+_, _<_}
 use native.Mathlib.Omega.{arith}
 use mathlib.Core.Path.{_≡_, refl, sym, _∙_, fun-ext}
 use mathlib.Core.Bool.{Bool, true, false, cond, _&&_, _||_}
@@ -15,30 +15,35 @@ use Rattle.trie_laws.proofs.Distinct.{distinct-one}
 use Rattle.trie_laws.proofs.Leaf.{add-splits, add-stays}
 use Rattle.trie_laws.proofs.Lists.{less, same, more, compared, holds, fails, truth}
 
+pub nodes-some : (t : Tree) → 0 < nodes t
+unfolding nodes
+nodes-some (leaf ps) = omega arith
+nodes-some (inner cs) = omega arith
+
 -- a page put into the child leaf of its byte makes a node where the byte is new
 push-nodes : (p : ℕ) (t : Tree) → nodes (push p t) ≡ nodes t
 unfolding push nodes
 push-nodes p (leaf ps) = refl
 push-nodes p (inner cs) = refl
 
-pub put-nodes : (b p : ℕ) (cs : Children) → nodesIn (putLeaf b p cs) ≡ cond (has b cs) 0 1 + nodesIn cs
+pub putLeaf-nodes : (b p : ℕ) (cs : Children) → nodesIn (putLeaf b p cs) ≡ cond (has b cs) 0 1 + nodesIn cs
 unfolding putLeaf nodes has
-put-nodes b p none = refl
-put-nodes b p (child c t cs) = elim (compared b c) [
+putLeaf-nodes b p none = refl
+putLeaf-nodes b p (child c t cs) = elim (compared b c) [
   | less l s ↦ rw (s .lt, s .gt, s .qe) refl
   | same l s ↦ rw (s .lt, s .gt, s .eq, s .qe) (omega (arith, push-nodes p t))
-  | more l s ↦ rw (s .lt, s .gt, s .eq) (omega (arith, put-nodes b p cs))
+  | more l s ↦ rw (s .lt, s .gt, s .eq) (omega (arith, putLeaf-nodes b p cs))
 ]
 
 -- and the byte is among the children's then
-pub put-has : (x b p : ℕ) (cs : Children) → has x (putLeaf b p cs) ≡ eqb x b || has x cs
+pub putLeaf-has : (x b p : ℕ) (cs : Children) → has x (putLeaf b p cs) ≡ eqb x b || has x cs
 unfolding putLeaf has
-put-has x b p none = elim (compared x b) [
+putLeaf-has x b p none = elim (compared x b) [
   | less l s ↦ rw (s .gt, s .eq, s .qe) refl
   | same l s ↦ rw (s .gt, s .eq, s .qe) refl
   | more l s ↦ rw (s .gt, s .eq) refl
 ]
-put-has x b p (child c t cs) = elim (compared b c) [
+putLeaf-has x b p (child c t cs) = elim (compared b c) [
   | less l s ↦ rw (s .lt) (elim (compared x b) [
     | less m q ↦ rw (q .gt, q .eq, q .qe, le-ltb c x (omega arith), ne-eqb c x (omega arith)) refl
     | same m q ↦ rw (q .gt, q .eq, q .qe) refl
@@ -49,7 +54,7 @@ put-has x b p (child c t cs) = elim (compared b c) [
     | same m q ↦ rw (q .eq, le-ltb c x (omega arith), eq-eqb c x (omega arith)) refl
     | more m q ↦ rw (q .eq) refl
   ])
-  | more l s ↦ rw (s .lt, s .eq, put-has x b p cs) (elim (compared x b) [
+  | more l s ↦ rw (s .lt, s .eq, putLeaf-has x b p cs) (elim (compared x b) [
     | less m q ↦ rw (q .eq) refl
     | same m q ↦ rw (q .eq, lt-ltb c x (omega arith)) refl
     | more m q ↦ rw (q .eq) refl
@@ -62,7 +67,7 @@ unfolding split distinctFrom
 split-nodes bytesOf k [] cs = omega arith
 split-nodes bytesOf k (p ∷ ps) cs =
     split-nodes bytesOf k ps (putLeaf (byteAt bytesOf k p) p cs)
-    ∙ rw (fun-ext (λ y. put-has y (byteAt bytesOf k p) p cs)) (omega (arith, put-nodes (byteAt bytesOf k p) p cs))
+    ∙ rw (fun-ext (λ y. putLeaf-has y (byteAt bytesOf k p) p cs)) (omega (arith, putLeaf-nodes (byteAt bytesOf k p) p cs))
 
 -- ---- an insertion
 module _ (bytesOf : ℕ → List ℕ) (len : ℕ) (thresholds : List ℕ) where

@@ -1,5 +1,5 @@
 -- The pages of a trie after an insertion, and after a removal: no page is lost or doubled.
-use Prim.Native.Nat.{ℕ, suc, _+_, _<_}
+use Prim.Native.Nat.{ℕ, suc, _+_, _≤_, _<_}
 use native.Mathlib.Omega.{arith}
 use native.Mathlib.Nat.{zero-add}
 use mathlib.Core.Path.{_≡_, refl, sym, ap, _∙_, fun-ext}
@@ -8,12 +8,13 @@ use mathlib.Core.List.{List, [], _∷_}
 use lib.Dec.{ltb, eqb}
 use lib.ListN.{length}
 use borrow.Author.Tests.{eqb-true, lt-ltb, ne-eqb}
-use Rattle.meaning.specs.Lists.{all, any, count}
+use Rattle.meaning.specs.Lists.{all, any, count, upto}
 use Rattle.meaning.specs.Trie.{Tree, leaf, inner, Children, none, child, without, push, putLeaf, prune, byteAt, split, remove, removeIn, addLeaf, insert, insertIn}
 use Rattle.trie_laws.specs.Sound.{pagesIn, pagesAmong, soundTrie, soundFrom, Stands, withPage, withoutPage}
 use Rattle.trie_laws.specs.Needed.{splits}
 use Rattle.trie_laws.specs.Path.{isLeaf, leaves}
 use Rattle.trie_laws.proofs.Lists.{less, same, more, compared, holds, fails, truth, and-first, and-second, or-none, not-so, eqb-comm, any-append, count-append, any-count, all-count, count-none, all-any, each-all}
+use Rattle.trie_laws.proofs.Distinct.{distinct-once, distinct-count}
 use Rattle.trie_laws.proofs.Leaf.{add-splits, add-stays}
 use Rattle.trie_laws.proofs.Sound.{inner-parts, child-parts}
 
@@ -23,19 +24,19 @@ unfolding push isLeaf
 push-leaf p (leaf ps) = refl
 push-leaf p (inner cs) = refl
 
-pub put-leaves : (b p : ℕ) (cs : Children) → leaves (putLeaf b p cs) ≡ leaves cs
+pub putLeaf-leaves : (b p : ℕ) (cs : Children) → leaves (putLeaf b p cs) ≡ leaves cs
 unfolding putLeaf leaves isLeaf
-put-leaves b p none = refl
-put-leaves b p (child c t cs) = elim (compared b c) [
+putLeaf-leaves b p none = refl
+putLeaf-leaves b p (child c t cs) = elim (compared b c) [
   | less l s ↦ rw (s .lt) refl
   | same l s ↦ rw (s .lt, s .eq, push-leaf p t) refl
-  | more l s ↦ rw (s .lt, s .eq, put-leaves b p cs) refl
+  | more l s ↦ rw (s .lt, s .eq, putLeaf-leaves b p cs) refl
 ]
 
 pub split-leaves : (bytesOf : ℕ → List ℕ) (k : ℕ) (ps : List ℕ) (cs : Children) → leaves (split bytesOf k ps cs) ≡ leaves cs
 unfolding split
 split-leaves bytesOf k [] cs = refl
-split-leaves bytesOf k (p ∷ ps) cs = split-leaves bytesOf k ps (putLeaf (byteAt bytesOf k p) p cs) ∙ put-leaves (byteAt bytesOf k p) p cs
+split-leaves bytesOf k (p ∷ ps) cs = split-leaves bytesOf k ps (putLeaf (byteAt bytesOf k p) p cs) ∙ putLeaf-leaves (byteAt bytesOf k p) p cs
 
 -- ---- how many pages pass a test
 module _ (q : ℕ → Bool) where
@@ -44,13 +45,13 @@ module _ (q : ℕ → Bool) where
   push-count p (leaf ps) h = refl
   push-count p (inner cs) h = absurd (false≢true h)
 
-  pub put-count : (b p : ℕ) (cs : Children) → leaves cs ≡ true → count q (pagesAmong (putLeaf b p cs)) ≡ cond (q p) 1 0 + count q (pagesAmong cs)
+  pub putLeaf-count : (b p : ℕ) (cs : Children) → leaves cs ≡ true → count q (pagesAmong (putLeaf b p cs)) ≡ cond (q p) 1 0 + count q (pagesAmong cs)
   unfolding putLeaf pagesIn leaves count
-  put-count b p none h = refl
-  put-count b p (child c t cs) h = elim (compared b c) [
+  putLeaf-count b p none h = refl
+  putLeaf-count b p (child c t cs) h = elim (compared b c) [
     | less l s ↦ rw (s .lt) refl
     | same l s ↦ simp (s .lt, s .eq, count-append q) (omega (arith, push-count p t (and-first (isLeaf t) (leaves cs) h)))
-    | more l s ↦ simp (s .lt, s .eq, count-append q) (omega (arith, put-count b p cs (and-second (isLeaf t) (leaves cs) h)))
+    | more l s ↦ simp (s .lt, s .eq, count-append q) (omega (arith, putLeaf-count b p cs (and-second (isLeaf t) (leaves cs) h)))
   ]
 
   pub split-count : (bytesOf : ℕ → List ℕ) (k : ℕ) (ps : List ℕ) (cs : Children) → leaves cs ≡ true →
@@ -59,7 +60,7 @@ module _ (q : ℕ → Bool) where
   split-count bytesOf k [] cs h = omega arith
   split-count bytesOf k (p ∷ ps) cs h =
       let b : ℕ = byteAt bytesOf k p in
-      omega (arith, split-count bytesOf k ps (putLeaf b p cs) (put-leaves b p cs ∙ h), put-count b p cs h)
+      omega (arith, split-count bytesOf k ps (putLeaf b p cs) (putLeaf-leaves b p cs ∙ h), putLeaf-count b p cs h)
 
   module _ (bytesOf : ℕ → List ℕ) (len : ℕ) (thresholds : List ℕ) where
     add-count : (k p : ℕ) (ps : List ℕ) → count q (pagesIn (addLeaf bytesOf len thresholds k p ps)) ≡ cond (q p) 1 0 + count q ps
@@ -109,18 +110,19 @@ module _ (q : ℕ → Bool) (p : ℕ) where
   prune-count c (inner ds) cs = count-append q (pagesAmong ds) (pagesAmong cs)
 
 -- a page stands nowhere but below its own byte
-module _ (bytesOf : ℕ → List ℕ) (b n len : ℕ) where
-  pub off-byte : (k p c : ℕ) (xs : List ℕ) → all (λ x. eqb (byteAt bytesOf k x) c) xs ≡ true → eqb (byteAt bytesOf k p) c ≡ false → any (eqb p) xs ≡ false
-  off-byte k p c xs h e =
-      all-any (λ x. eqb (byteAt bytesOf k x) c) (eqb p) xs h
-      (λ x m. not-so (eqb p x) (λ z. true≢false (sym m ∙ rw (← (eqb-true p x z)) e)))
+pub off-byte : (bytesOf : ℕ → List ℕ) (k p c : ℕ) (xs : List ℕ) →
+    all (λ x. eqb (byteAt bytesOf k x) c) xs ≡ true → eqb (byteAt bytesOf k p) c ≡ false → any (eqb p) xs ≡ false
+off-byte bytesOf k p c xs h e =
+    all-any (λ x. eqb (byteAt bytesOf k x) c) (eqb p) xs h
+    (λ x m. not-so (eqb p x) (λ z. true≢false (sym m ∙ rw (← (eqb-true p x z)) e)))
 
+module _ (bytesOf : ℕ → List ℕ) (b n len : ℕ) where
   pub off-bytes : (k p lo : ℕ) (cs : Children) → soundFrom bytesOf b n len k lo cs ≡ true → byteAt bytesOf k p < lo → any (eqb p) (pagesAmong cs) ≡ false
   unfolding pagesIn any
   off-bytes k p lo none h l = refl
   off-bytes k p lo (child c t cs) h l =
       let s = child-parts bytesOf b n len k lo c t cs h in
-      rw (any-append (eqb p) (pagesIn t) (pagesAmong cs), off-byte k p c (pagesIn t) (s .here .path) (ne-eqb (byteAt bytesOf k p) c (omega (arith, s .rising))))
+      rw (any-append (eqb p) (pagesIn t) (pagesAmong cs), off-byte bytesOf k p c (pagesIn t) (s .here .path) (ne-eqb (byteAt bytesOf k p) c (omega (arith, s .rising))))
       (off-bytes k p (suc c) cs (s .rest) (omega (arith, s .rising)))
 
   module _ (q : ℕ → Bool) where
@@ -142,7 +144,7 @@ module _ (bytesOf : ℕ → List ℕ) (b n len : ℕ) where
                 simp (e, count-append) (omega (arith, prune-count q p c (remove bytesOf (suc k) p t) cs, remove-count (suc k) p t (s .here .sub), absent-count q p (pagesAmong cs) away))
             | fails e ↦
                 simp (e, count-append)
-                (omega (arith, removeIn-count k p (suc c) cs (s .rest), absent-count q p (pagesIn t) (off-byte k p c (pagesIn t) (s .here .path) e)))
+                (omega (arith, removeIn-count k p (suc c) cs (s .rest), absent-count q p (pagesIn t) (off-byte bytesOf k p c (pagesIn t) (s .here .path) e)))
           ]
 
 -- ---- some page passes a test, or all
@@ -222,6 +224,19 @@ module _ (live : ℕ → Bool) (t : Tree) (h : Stands live t) where
   -- what holds of each live page holds of each page that stands
   pub stands-all : (q : ℕ → Bool) → ((x : ℕ) → live x ≡ true → q x ≡ true) → all q (pagesIn t) ≡ true
   stands-all q e = each-all q (pagesIn t) (λ x m. e x (sym (stands-any x) ∙ m))
+
+  -- as many as there are live pages
+  pub stands-length : (m : ℕ) → ((x : ℕ) → live x ≡ true → x < m) → length (pagesIn t) ≡ count live (upto m)
+  unfolding Stands
+  stands-length m l =
+      let b : all (λ x. ltb x m) (pagesIn t) ≡ true = stands-all (λ x. ltb x m) (λ x e. lt-ltb x m (l x e)) in
+      sym (distinct-once (λ y. false) (pagesIn t) (λ x. rw (h x) (at-most (live x))))
+      ∙ distinct-count m (λ y. false) (pagesIn t) b
+      ∙ ap (λ (f : ℕ → Bool). count f (upto m)) (fun-ext stands-any)
+    where
+      at-most : (q : Bool) → cond q 1 0 + 0 ≤ 1
+      at-most true = omega arith
+      at-most false = omega arith
 
   pub insert-stands : (bytesOf : ℕ → List ℕ) (len : ℕ) (thresholds : List ℕ) (k p : ℕ) → live p ≡ false →
       Stands (withPage p live) (insert bytesOf len thresholds k p t)

@@ -9,13 +9,13 @@ use lib.Dec.{ltb, eqb}
 use lib.ListN.{length}
 use borrow.Author.Tests.{eqb-true, eq-eqb, ltb-true, ltb-false, ne-eqb}
 use Rattle.meaning.specs.Lists.{all, any, count}
-use Rattle.meaning.specs.Trie.{Tree, leaf, inner, Children, none, child, fresh, byteAt}
+use Rattle.meaning.specs.Trie.{Tree, leaf, inner, Children, none, child, fresh, byteAt, nodes, nodesIn}
 use Rattle.trie_laws.specs.Sound.{pagesIn, pagesAmong, soundTrie, soundFrom}
 use Rattle.trie_laws.specs.Path.{has, kid, hasBelow, below, hasPath, subtree, pathOf, follows, depth, depthIn}
 use Rattle.trie_laws.proofs.Lists.{holds, fails, truth, eqb-comm, and-intro, and-first, and-second, any-append, any-count, any-none, count-append, all-append, all-both, all-true}
 use Rattle.trie_laws.proofs.Sound.{SoundBelow, inner-parts, child-parts}
 use Rattle.trie_laws.proofs.Pages.{off-byte, off-bytes}
-use Rattle.trie_laws.proofs.Kids.{kid-sound}
+use Rattle.trie_laws.proofs.Kids.{dropKid-nodes, dropKid-count, kid-sound}
 use Rattle.trie_laws.proofs.Path.{path-parts, shift}
 
 -- ---- the longest path of a page's bytes
@@ -114,12 +114,45 @@ module _ (q : ℕ → Bool) where
   subtree-all [] t h = h
   subtree-all (y ∷ ys) t h = subtree-all ys (below y t) (below-all y t h)
 
+-- ---- a subtree has no more nodes, and no more pages
+kid-nodes : (y : ℕ) (cs : Children) → has y cs ≡ true → nodes (kid y cs) ≤ nodesIn cs
+kid-nodes y cs h = omega (arith, dropKid-nodes y cs h)
+
+below-nodes : (y : ℕ) (t : Tree) → hasBelow y t ≡ true → suc (nodes (below y t)) ≤ nodes t
+unfolding hasBelow below nodes
+below-nodes y (leaf ps) h = absurd (false≢true h)
+below-nodes y (inner cs) h = omega (arith, kid-nodes y cs h)
+
+pub subtree-nodes : (ys : List ℕ) (t : Tree) → hasPath ys t ≡ true → length ys + nodes (subtree ys t) ≤ nodes t
+unfolding subtree
+subtree-nodes [] t h = omega arith
+subtree-nodes (y ∷ ys) t h =
+    let i = path-parts y ys t h in
+    omega (arith, below-nodes y t (i .0), subtree-nodes ys (below y t) (i .1))
+
+below-count : (q : ℕ → Bool) (y : ℕ) (t : Tree) → hasBelow y t ≡ true → count q (pagesIn (below y t)) ≤ count q (pagesIn t)
+unfolding hasBelow below pagesIn
+below-count q y (leaf ps) h = absurd (false≢true h)
+below-count q y (inner cs) h = omega (arith, dropKid-count y q cs h)
+
+pub subtree-count : (q : ℕ → Bool) (ys : List ℕ) (t : Tree) → hasPath ys t ≡ true → count q (pagesIn (subtree ys t)) ≤ count q (pagesIn t)
+unfolding subtree
+subtree-count q [] t h = omega arith
+subtree-count q (y ∷ ys) t h =
+    let i = path-parts y ys t h in
+    omega (arith, below-count q y t (i .0), subtree-count q ys (below y t) (i .1))
+
 -- ---- in a sound trie
 module _ (bytesOf : ℕ → List ℕ) (b n len : ℕ) where
   below-sound : (k y : ℕ) (t : Tree) → soundTrie bytesOf b n len k t ≡ true → hasBelow y t ≡ true → SoundBelow bytesOf b n len k y (below y t)
   unfolding hasBelow below
   below-sound k y (leaf ps) h e = absurd (false≢true e)
   below-sound k y (inner cs) h e = kid-sound bytesOf b n len k 0 y cs (inner-parts bytesOf b n len k cs h .kids) e
+
+  below-level : (k y : ℕ) (t : Tree) → soundTrie bytesOf b n len k t ≡ true → hasBelow y t ≡ true → k < len
+  unfolding hasBelow
+  below-level k y (leaf ps) h e = absurd (false≢true e)
+  below-level k y (inner cs) h e = inner-parts bytesOf b n len k cs h .level
 
   -- the subtree is sound
   pub subtree-sound : (k : ℕ) (ys : List ℕ) (t : Tree) → soundTrie bytesOf b n len k t ≡ true → hasPath ys t ≡ true →
@@ -142,6 +175,13 @@ module _ (bytesOf : ℕ → List ℕ) (b n len : ℕ) where
       (subtree-all (λ x. eqb (byteAt bytesOf k x) y) ys (below y t) (s .path))
       (subtree-follows (suc k) ys (below y t) (s .sub) (i .1))
 
+  -- a path is at most as long as the packed bytes
+  pub path-short : (k : ℕ) (ys : List ℕ) (t : Tree) → soundTrie bytesOf b n len k t ≡ true → hasPath ys t ≡ true → k ≤ len → k + length ys ≤ len
+  path-short k [] t h e l = omega arith
+  path-short k (y ∷ ys) t h e l =
+      let i = path-parts y ys t e in
+      omega (arith, path-short (suc k) ys (below y t) (below-sound k y t h (i .0) .sub) (i .1) (below-level k y t h (i .0)))
+
   -- a page stands nowhere but on its path: where the path goes on it stands below, and where it ends at a gap it does not stand
   module _ (p : ℕ) where
     kid-times : (k lo : ℕ) (cs : Children) → soundFrom bytesOf b n len k lo cs ≡ true → has (byteAt bytesOf k p) cs ≡ true →
@@ -158,7 +198,7 @@ module _ (bytesOf : ℕ → List ℕ) (b n len : ℕ) where
               (omega (
                 arith,
                 kid-times k (suc c) cs (s .rest) (rw l at e),
-                any-none (eqb p) (pagesIn t) (off-byte bytesOf b n len k p c (pagesIn t) (s .here .path) (ne-eqb y c (omega arith))),
+                any-none (eqb p) (pagesIn t) (off-byte bytesOf k p c (pagesIn t) (s .here .path) (ne-eqb y c (omega arith))),
               ))
           | fails l ↦
               simp (l, count-append)
@@ -179,11 +219,11 @@ module _ (bytesOf : ℕ → List ℕ) (b n len : ℕ) where
         elim (truth (ltb c y)) [
           | holds l ↦
               let m : c < y = ltb-true c y l in
-              rw (any-append (eqb p) (pagesIn t) (pagesAmong cs), off-byte bytesOf b n len k p c (pagesIn t) (s .here .path) (ne-eqb y c (omega arith)))
+              rw (any-append (eqb p) (pagesIn t) (pagesAmong cs), off-byte bytesOf k p c (pagesIn t) (s .here .path) (ne-eqb y c (omega arith)))
               (gap-any k (suc c) cs (s .rest) (rw l at e))
           | fails l ↦
               let m : y ≤ c = ltb-false c y l in
-              rw (any-append (eqb p) (pagesIn t) (pagesAmong cs), off-byte bytesOf b n len k p c (pagesIn t) (s .here .path) (eqb-comm y c ∙ (rw l at e)))
+              rw (any-append (eqb p) (pagesIn t) (pagesAmong cs), off-byte bytesOf k p c (pagesIn t) (s .here .path) (eqb-comm y c ∙ (rw l at e)))
               (off-bytes bytesOf b n len k p (suc c) cs (s .rest) (omega arith))
         ]
 
