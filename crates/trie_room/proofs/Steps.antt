@@ -12,10 +12,10 @@ use lib.Seq.{getD-set-same, getD-set-other}
 use Rattle.trie_laws.specs.Needed.{distinctFrom}
 use Rattle.trie_room.specs.declared.chain.AtLeast.{AtLeast}
 use Rattle.trie_room.specs.declared.chain.AtLeast.the-variants.{Yes, No, Broken}
-use Rattle.trie_room.specs.declared.split.Distinct.{Distinct}
-use Rattle.trie_room.specs.declared.split.Distinct.the-variants.{Bytes, Broken as Lost}
+use Rattle.trie_room.specs.declared.needed.Needed.{Needed}
+use Rattle.trie_room.specs.declared.needed.Needed.the-variants.{Nodes, Broken as Lost}
 use Rattle.trie_room.specs.Chains.{nextLink, atLeast, Chained, whole, broken, ahead, chainFrom}
-use Rattle.trie_room.specs.Splits.{counted, bytesIn}
+use Rattle.trie_room.specs.Needs.{bytesWith}
 
 suc-pred : (f : ℕ) → 0 < f → suc (f - 1) ≡ f
 suc-pred f h = omega arith
@@ -66,6 +66,11 @@ module _ (T : List ℕ) (cap base link : ℕ) where
 abbrev pub flagged : List Bool → ℕ → Bool
 flagged seen y = getD seen y false
 
+-- n bytes, and those of a chain that have no flag
+abbrev pub counted : (ℕ → ℕ) → List Bool → ℕ → Chained → Needed
+counted byteOf seen n (whole ps) = Nodes (n + distinctFrom (flagged seen) (map byteOf ps))
+counted byteOf seen n broken = Lost
+
 flag-set : (seen : List Bool) (v : ℕ) → v < length seen → (y : ℕ) → flagged (set seen v true) y ≡ eqb y v || flagged seen y
 flag-set seen v h y = go (eqb y v) refl
   where
@@ -79,12 +84,12 @@ flag-most false = omega arith
 
 -- one page more
 count-ahead : (byteOf : ℕ → ℕ) (seen : List Bool) (n x : ℕ) (c : Chained) → byteOf x < length seen →
-    counted byteOf (flagged seen) n (ahead x c) ≡
-    counted byteOf (flagged (set seen (byteOf x) true)) (n + boolByte (not (flagged seen (byteOf x)))) c
+    counted byteOf seen n (ahead x c) ≡
+    counted byteOf (set seen (byteOf x) true) (n + boolByte (not (flagged seen (byteOf x)))) c
 unfolding distinctFrom
 count-ahead byteOf seen n x broken h = refl
 count-ahead byteOf seen n x (whole ps) h =
-    rw (fun-ext (flag-set seen (byteOf x) h)) (ap Bytes (go (flagged seen (byteOf x))))
+    rw (fun-ext (flag-set seen (byteOf x) h)) (ap Nodes (go (flagged seen (byteOf x))))
   where
     rest : ℕ
     rest = distinctFrom (λ y. eqb y (byteOf x) || flagged seen y) (map byteOf ps)
@@ -100,18 +105,18 @@ no-flags (suc n) zero = refl
 no-flags (suc n) (suc y) = no-flags n y
 
 pub count-start : (byteOf : ℕ → ℕ) (byte : ℕ) (seen : List Bool) (c : Chained) → byte < length seen → ((y : ℕ) → flagged seen y ≡ false) →
-    counted byteOf (flagged (set seen byte true)) 1 c ≡ bytesIn byteOf byte c
+    counted byteOf (set seen byte true) 1 c ≡ bytesWith byteOf byte c
 unfolding distinctFrom
 count-start byteOf byte seen broken h none = refl
 count-start byteOf byte seen (whole ps) h none =
     rw (fun-ext (λ y. flag-set seen byte h y ∙ ap (λ (q : Bool). eqb y byte || q) (none y))) refl
 
--- `distinctBytes`
-module _ (T : List ℕ) (cap base : ℕ) (byteOf : ℕ → ℕ) (seen : List Bool) (n link f : ℕ) (R : Distinct)
-    (inv : counted byteOf (flagged seen) n (chainFrom T cap base link f) ≡ R) where
-  pub bytes-done : link ≡ 0 → Bytes n ≡ R
+-- `distinctNodes`
+module _ (T : List ℕ) (cap base : ℕ) (byteOf : ℕ → ℕ) (seen : List Bool) (n link f : ℕ) (R : Needed)
+    (inv : counted byteOf seen n (chainFrom T cap base link f) ≡ R) where
+  pub bytes-done : link ≡ 0 → Nodes n ≡ R
   unfolding distinctFrom
-  bytes-done e = let z : n ≡ n + 0 = omega arith in ap Bytes z ∙ (rw (chain-none T cap base link f e) at inv)
+  bytes-done e = let z : n ≡ n + 0 = omega arith in ap Nodes z ∙ (rw (chain-none T cap base link f e) at inv)
 
   module _ (e : link ≡ 0 → ⊥) where
     pub bytes-long : f ≡ 0 → Lost ≡ R
@@ -122,9 +127,9 @@ module _ (T : List ℕ) (cap base : ℕ) (byteOf : ℕ → ℕ) (seen : List Boo
       bytes-wild l = rw (chain-wild T cap base link f e h l) at inv
 
       pub bytes-next : link ≤ cap → (v : ℕ) → v ≡ byteOf (link - 1) → v < length seen →
-          counted byteOf (flagged (set seen v true)) (n + boolByte (not (flagged seen v))) (chainFrom T cap base (nextLink T base link) (f - 1)) ≡ R
+          counted byteOf (set seen v true) (n + boolByte (not (flagged seen v))) (chainFrom T cap base (nextLink T base link) (f - 1)) ≡ R
       bytes-next l v q s =
           rw q
           (sym (count-ahead byteOf seen n (link - 1) (chainFrom T cap base (nextLink T base link) (f - 1)) (omega (arith, q)))
-          ∙ ap (counted byteOf (flagged seen) n) (sym (chain-next T cap base link f e h l))
+          ∙ ap (counted byteOf seen n) (sym (chain-next T cap base link f e h l))
           ∙ inv)

@@ -1,4 +1,4 @@
 // How many nodes an add needs in one block, and whether so many are free: question 12, decided before anything is written.
 pub mod chain;
-pub mod row;
-pub mod split;
+pub mod level;
+pub mod needed;

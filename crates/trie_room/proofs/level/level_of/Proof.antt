@@ -7,8 +7,8 @@ use Rattle.sketch.proofs.Width.{byte-begins}
 use Rattle.sketch.proofs.BlockEnds.{block-ends}
 use Rattle.trie_room.specs.Rows.{levelOf}
 use borrow.Author.Needs.{needs}
-use Rattle.trie_room.proofs.row.level_of.Statement.{statement}
-use Rattle.trie_room.proofs.row.level_of.Tie as tie
+use Rattle.trie_room.proofs.level.level_of.Statement.{statement}
+use Rattle.trie_room.proofs.level.level_of.Tie as tie
 
 block-length-requires : tie.Need-block-length-requires
 block-length-requires c κs = search needs
