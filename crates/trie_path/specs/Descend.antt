@@ -30,8 +30,8 @@ descend N cap Y n s k (suc f) = atNode N cap n s k (onward (λ c s. descend N ca
 unfoldable pub descendTo : List ℕ → ℕ → ℕ → List ℕ → Reach
 descendTo N cap root Y = descend N cap Y root 0 0 (length Y)
 
--- numbers inside the tables and the bytes
-abbrev pub Inside : ℕ → ℕ → Reach → Type 0
-Inside cap len (Leaf n s k) = (n < cap) × (s < 10 * cap) × (k ≤ len)
-Inside cap len (Gap n s k) = (n < cap) × (s < 10 * cap) × (k < len)
-Inside cap len Broken = Unit {0}
+-- numbers inside the tables and the bytes, and a leaf that is one
+abbrev pub Inside : List ℕ → ℕ → ℕ → Reach → Type 0
+Inside N cap len (Leaf n s k) = (n < cap) × (s < 10 * cap) × (k ≤ len) × (innerState < getD N (stateAt cap n) 0)
+Inside N cap len (Gap n s k) = (n < cap) × (s < 10 * cap) × (k < len)
+Inside N cap len Broken = Unit {0}

@@ -19,7 +19,7 @@ pub fn descend_to(nodes: &[u32], cap: usize, root: usize, bytes: &[u8]) -> Reach
     requires { ⌜ NodeTable cap (now nodes) ⌝ }
     requires { ⌜ root < cap ⌝ }
     ensures { λ r. ⌜ r ≡ descendTo (now (nodes .entry)) cap root (now (bytes .entry)) ⌝ }
-    ensures inside { λ r. ⌜ Inside cap (length (now (bytes .entry))) r ⌝ }
+    ensures inside { λ r. ⌜ Inside (now (nodes .entry)) cap (length (now (bytes .entry))) r ⌝ }
 {
     let mut n = root;
     let mut slot = 0;
