@@ -4,7 +4,7 @@ use mathlib.Core.Path.{_≡_, refl, ap, _∙_, sym}
 use mathlib.Core.List.{List}
 use mathlib.Core.Bool.{Bool, true, false, cond}
 use native.Mathlib.Omega.{arith}
-use borrow.Author.Tests.{le-ltb, lt-ltb, eq-eqb, ne-eqb}
+use borrow.Author.Tests.{le-ltb, lt-ltb, eq-eqb, ne-eqb, ltb-true, ltb-false}
 use lib.Dec.{ltb, eqb}
 use lib.ListN.{getD}
 use Rattle.meaning.specs.Trie.{child}
@@ -12,9 +12,15 @@ use Rattle.layout.specs.Nodes.{stateAt}
 use Rattle.trie.specs.declared.Got.{Got}
 use Rattle.trie.specs.declared.Got.the-variants.{Node, Full, Bad}
 use Rattle.trie.specs.declared.Level.{Level}
+use Rattle.trie.specs.declared.Rows.{Rows}
+use Rattle.trie.specs.declared.Span.{Span}
+use Rattle.trie.specs.declared.Span.the-variants.{Enough, Short, Wild}
 use Rattle.trie.specs.declared.Place.{Place}
 use Rattle.trie.specs.declared.Place.the-variants.{Found, Missing, Broken}
-use Rattle.trie.specs.Model.{Inside, linkAt, childAt, byteIn, placeFrom, findPlace, linkLeaf, nodeIn, freshLeaf, childLeaf, pushNodes, pushPages, pushPage, After, putLeafM, pageByte, onPut, splitFrom, made, pushed, after}
+use Rattle.trie.specs.Tables.{RowTable}
+use Rattle.trie.specs.Model.{Inside, linkAt, childAt, byteIn, placeFrom, findPlace, linkLeaf, nodeIn, freshLeaf, childLeaf, pushNodes, pushPages, pushPage, After, putLeafM, pageByte, onPut, splitFrom, spanFrom, openLeaf, levelAt, tooLong, splitLeaf, growSpan, growInto, growLeaf, made, pushed, after}
+use mir.Val.{Fits}
+use mir.Syntax.{w32, w64}
 
 pub suc-pred : (f : ℕ) → (f ≡ 0 → ⊥) → f ≡ suc (f - 1)
 suc-pred f h = omega arith
@@ -157,3 +163,76 @@ module _ (S : List ℕ) (v : Level) (cap pcap base n : ℕ) (N P : List ℕ) (l 
 
         pub split-bad : g ≡ Bad → after ns ps Bad ≡ R
         split-bad q = rw q at split-go
+
+-- `spanFrom` at each way out of a turn. R is what the walk comes to in the end
+module _ (T : List ℕ) (base cap l f : ℕ) (R : Span) (inv : spanFrom T base cap l f ≡ R) where
+  pub span-out : f ≡ 0 → Enough ≡ R
+  unfolding spanFrom
+  span-out e = rw e at inv
+
+  module _ (h : f ≡ 0 → ⊥) where
+    span-step : cond (eqb l 0) Short (cond (ltb cap l) Wild (spanFrom T base cap (getD T (base + (l - 1)) 0) (f - 1))) ≡ R
+    unfolding spanFrom
+    span-step = ap (spanFrom T base cap l) (sym (suc-pred f h)) ∙ inv
+
+    pub span-end : l ≡ 0 → Short ≡ R
+    span-end e = rw (eq-eqb l 0 e) at span-step
+
+    module _ (e : l ≡ 0 → ⊥) where
+      pub span-wild : cap < l → Wild ≡ R
+      span-wild m = rw (ne-eqb l 0 e, lt-ltb cap l m) at span-step
+
+      pub span-next : l ≤ cap → spanFrom T base cap (getD T (base + (l - 1)) 0) (f - 1) ≡ R
+      span-next m = rw (ne-eqb l 0 e, le-ltb cap l m) at span-step
+
+-- `tooLong`, by each way
+module _ (τ : List ℕ) (r : Rows) (pcap base : ℕ) (P : List ℕ) (k l : ℕ) where
+  pub long-deep : r .bytes ≤ k → Short ≡ tooLong τ r pcap base P k l
+  unfolding tooLong
+  long-deep h = rw (le-ltb k (r .bytes) h) refl
+
+  pub long-span : k < r .bytes → (g : Span) → g ≡ spanFrom P base pcap l (getD τ k 0 + 1) → g ≡ tooLong τ r pcap base P k l
+  unfolding tooLong
+  long-span h g e = rw (lt-ltb k (r .bytes) h) e
+
+  pub long-below : (S : List ℕ) (g : Span) → g ≡ tooLong τ r pcap base P k l → g ≡ Enough → RowTable pcap r S → k < 64
+  long-below S g e q t = go (ltb k (r .bytes)) refl
+    where
+      short : Enough ≡ Short → k < 64
+      short z = let x : _≡_ {A = ℕ} 0 1 = cc in absurd (omega arith)
+
+      go : (b : Bool) → ltb k (r .bytes) ≡ b → k < 64
+      go true h = omega (arith, ltb-true k (r .bytes) h, t .short)
+      go false h = short (sym q ∙ e ∙ sym (long-deep (ltb-false k (r .bytes) h)))
+
+-- `growLeaf`, by each way
+module _ (S τ : List ℕ) (r : Rows) (cap pcap base : ℕ) (N P : List ℕ) (k n p free : ℕ) (ns ps : List ℕ) (done : Bool) (e : pushed ns ps done ≡ pushPage N P cap base n p) where
+  grow-step : growInto S τ r cap pcap base k n p free (pushed ns ps done) ≡ growLeaf S τ r cap pcap base N P k n p free
+  unfolding growLeaf
+  grow-step = ap (growInto S τ r cap pcap base k n p free) e
+
+  pub grow-none : done ≡ false → after ns ps Bad ≡ growLeaf S τ r cap pcap base N P k n p free
+  grow-none d = rw d at grow-step
+
+  module _ (d : done ≡ true) (g : Span) (q : g ≡ tooLong τ r pcap base ps k (p + 1)) where
+    grow-span : growSpan S τ r cap pcap base ns ps k n p free g ≡ growLeaf S τ r cap pcap base N P k n p free
+    grow-span = ap (growSpan S τ r cap pcap base ns ps k n p free) q ∙ rw d at grow-step
+
+    pub grow-short : g ≡ Short → after ns ps (Node n free) ≡ growLeaf S τ r cap pcap base N P k n p free
+    grow-short z = rw z at grow-span
+
+    pub grow-wild : g ≡ Wild → after ns ps Bad ≡ growLeaf S τ r cap pcap base N P k n p free
+    grow-wild z = rw z at grow-span
+
+    pub grow-split : g ≡ Enough → (ns' ps' : List ℕ) (a : Got) → after ns' ps' a ≡ splitLeaf S r cap pcap base ns ps k n (p + 1) free → after ns' ps' a ≡ growLeaf S τ r cap pcap base N P k n p free
+    grow-split z ns' ps' a u = u ∙ rw z at grow-span
+
+-- one more than a word fits a usize
+pub word-more : {n : ℕ} → Fits w32 n → Fits w64 (n + 1)
+word-more f = record { fits = omega (arith, f .fits) }
+
+-- `splitLeaf`, from its parts
+pub split-leaf : (S : List ℕ) (r : Rows) (cap pcap base : ℕ) (N P : List ℕ) (k n l free : ℕ) (v : Level) (ns ns' ps' : List ℕ) (a : Got) →
+    v ≡ levelAt r k → ns ≡ openLeaf N cap n → after ns' ps' a ≡ splitFrom S v cap pcap base n ns P l free (pcap + 1) → after ns' ps' a ≡ splitLeaf S r cap pcap base N P k n l free
+unfolding splitLeaf
+split-leaf S r cap pcap base N P k n l free v ns ns' ps' a e o u = rw (← e, ← o) u
