@@ -3,64 +3,49 @@ use Prim.Native.Nat.{ℕ, zero, suc, _+_, _-_, _<_, _≤_}
 use mathlib.Core.Path.{_≡_, refl, ap, _∙_, sym, fun-ext}
 use mathlib.Core.List.{List, [], map}
 use mathlib.Core.Bool.{Bool, true, false, cond, not, _||_}
+use native.Mathlib.Numerals.{add-one}
 use native.Mathlib.Omega.{arith}
 use borrow.Author.Tests.{le-ltb, lt-ltb, eq-eqb, ne-eqb, eqb-true, eqb-false}
 use mir.Val.{boolByte}
 use lib.Dec.{ltb, eqb}
 use lib.ListN.{length, getD, set, replicate}
 use lib.Seq.{getD-set-same, getD-set-other}
+use Rattle.layout.specs.Nodes.{stateAt}
+use Rattle.trie.specs.declared.Level.{Level}
+use Rattle.trie.specs.declared.Rows.{Rows}
+use Rattle.trie.specs.declared.Span.{Span}
+use Rattle.trie.specs.declared.Span.the-variants.{Enough, Short, Wild}
+use Rattle.trie.specs.Model.{spanFrom, levelAt}
+use Rattle.trie.proofs.Steps.{suc-pred}
+use Rattle.trie_path.specs.declared.Reach.{Reach}
+use Rattle.trie_path.specs.declared.Reach.the-variants.{Leaf, Gap, Broken as Lost}
+use Rattle.trie_path.specs.Descend.{Inside}
 use Rattle.trie_laws.specs.Needed.{distinctFrom}
-use Rattle.trie_room.specs.declared.chain.AtLeast.{AtLeast}
-use Rattle.trie_room.specs.declared.chain.AtLeast.the-variants.{Yes, No, Broken}
 use Rattle.trie_room.specs.declared.needed.Needed.{Needed}
-use Rattle.trie_room.specs.declared.needed.Needed.the-variants.{Nodes, Broken as Lost}
-use Rattle.trie_room.specs.Chains.{nextLink, atLeast, Chained, whole, broken, ahead, chainFrom}
-use Rattle.trie_room.specs.Needs.{bytesWith}
-
-suc-pred : (f : ℕ) → 0 < f → suc (f - 1) ≡ f
-suc-pred f h = omega arith
-
--- `atLeast`
-module _ (T : List ℕ) (cap base link n : ℕ) (R : AtLeast) (inv : atLeast T cap base link n ≡ R) where
-  pub least-done : n ≤ 0 → Yes ≡ R
-  unfolding atLeast
-  least-done h = let e : n ≡ 0 = omega arith in rw e at inv
-
-  module _ (h : 0 < n) where
-    least-step : cond (eqb link 0) No (cond (ltb cap link) Broken (atLeast T cap base (nextLink T base link) (n - 1))) ≡ R
-    unfolding atLeast
-    least-step = ap (atLeast T cap base link) (suc-pred n h) ∙ inv
-
-    pub least-none : link ≡ 0 → No ≡ R
-    least-none e = rw (eq-eqb _ _ e) at least-step
-
-    module _ (e : link ≡ 0 → ⊥) where
-      pub least-wild : cap < link → Broken ≡ R
-      least-wild l = rw (ne-eqb _ _ e, lt-ltb _ _ l) at least-step
-
-      pub least-next : link ≤ cap → atLeast T cap base (nextLink T base link) (n - 1) ≡ R
-      least-next l = rw (ne-eqb _ _ e, le-ltb _ _ l) at least-step
+use Rattle.trie_room.specs.declared.needed.Needed.the-variants.{Nodes, Broken}
+use Rattle.trie_room.specs.Chains.{nextLink, Chained, whole, broken, ahead, chainFrom}
+use Rattle.trie_room.specs.Needs.{bytesWith, distinctBytes, gapNeeds, leafNeeds, neededAt}
 
 -- `chainFrom`
-module _ (T : List ℕ) (cap base link : ℕ) where
-  pub chain-none : (f : ℕ) → link ≡ 0 → chainFrom T cap base link f ≡ whole []
+module _ (T : List ℕ) (base cap link : ℕ) where
+  pub chain-none : (f : ℕ) → link ≡ 0 → chainFrom T base cap link f ≡ whole []
   unfolding chainFrom
   chain-none zero e = rw (eq-eqb link 0 e) refl
   chain-none (suc f) e = rw (eq-eqb link 0 e) refl
 
   module _ (f : ℕ) (e : link ≡ 0 → ⊥) where
-    pub chain-long : f ≡ 0 → chainFrom T cap base link f ≡ broken
+    pub chain-long : f ≡ 0 → chainFrom T base cap link f ≡ broken
     unfolding chainFrom
     chain-long z = rw (z, ne-eqb link 0 e) refl
 
     module _ (h : f ≡ 0 → ⊥) where
-      pub chain-wild : cap < link → chainFrom T cap base link f ≡ broken
+      pub chain-wild : cap < link → chainFrom T base cap link f ≡ broken
       unfolding chainFrom
-      chain-wild l = ap (chainFrom T cap base link) (sym (suc-pred f (omega arith))) ∙ rw (ne-eqb link 0 e, lt-ltb cap link l) refl
+      chain-wild l = ap (chainFrom T base cap link) (suc-pred f h) ∙ rw (ne-eqb link 0 e, lt-ltb cap link l) refl
 
-      pub chain-next : link ≤ cap → chainFrom T cap base link f ≡ ahead (link - 1) (chainFrom T cap base (nextLink T base link) (f - 1))
+      pub chain-next : link ≤ cap → chainFrom T base cap link f ≡ ahead (link - 1) (chainFrom T base cap (nextLink T base link) (f - 1))
       unfolding chainFrom
-      chain-next l = ap (chainFrom T cap base link) (sym (suc-pred f (omega arith))) ∙ rw (ne-eqb link 0 e, le-ltb cap link l) refl
+      chain-next l = ap (chainFrom T base cap link) (suc-pred f h) ∙ rw (ne-eqb link 0 e, le-ltb cap link l) refl
 
 -- the bytes that a table of 256 flags has
 abbrev pub flagged : List Bool → ℕ → Bool
@@ -69,7 +54,7 @@ flagged seen y = getD seen y false
 -- n bytes, and those of a chain that have no flag
 abbrev pub counted : (ℕ → ℕ) → List Bool → ℕ → Chained → Needed
 counted byteOf seen n (whole ps) = Nodes (n + distinctFrom (flagged seen) (map byteOf ps))
-counted byteOf seen n broken = Lost
+counted byteOf seen n broken = Broken
 
 flag-set : (seen : List Bool) (v : ℕ) → v < length seen → (y : ℕ) → flagged (set seen v true) y ≡ eqb y v || flagged seen y
 flag-set seen v h y = go (eqb y v) refl
@@ -112,24 +97,71 @@ count-start byteOf byte seen (whole ps) h none =
     rw (fun-ext (λ y. flag-set seen byte h y ∙ ap (λ (q : Bool). eqb y byte || q) (none y))) refl
 
 -- `distinctNodes`
-module _ (T : List ℕ) (cap base : ℕ) (byteOf : ℕ → ℕ) (seen : List Bool) (n link f : ℕ) (R : Needed)
-    (inv : counted byteOf seen n (chainFrom T cap base link f) ≡ R) where
+module _ (T : List ℕ) (base cap : ℕ) (byteOf : ℕ → ℕ) (seen : List Bool) (n link f : ℕ) (R : Needed)
+    (inv : counted byteOf seen n (chainFrom T base cap link f) ≡ R) where
   pub bytes-done : link ≡ 0 → Nodes n ≡ R
   unfolding distinctFrom
-  bytes-done e = let z : n ≡ n + 0 = omega arith in ap Nodes z ∙ (rw (chain-none T cap base link f e) at inv)
+  bytes-done e = let z : n ≡ n + 0 = omega arith in ap Nodes z ∙ (rw (chain-none T base cap link f e) at inv)
 
   module _ (e : link ≡ 0 → ⊥) where
-    pub bytes-long : f ≡ 0 → Lost ≡ R
-    bytes-long z = rw (chain-long T cap base link f e z) at inv
+    pub bytes-long : f ≡ 0 → Broken ≡ R
+    bytes-long z = rw (chain-long T base cap link f e z) at inv
 
     module _ (h : f ≡ 0 → ⊥) where
-      pub bytes-wild : cap < link → Lost ≡ R
-      bytes-wild l = rw (chain-wild T cap base link f e h l) at inv
+      pub bytes-wild : cap < link → Broken ≡ R
+      bytes-wild l = rw (chain-wild T base cap link f e h l) at inv
 
       pub bytes-next : link ≤ cap → (v : ℕ) → v ≡ byteOf (link - 1) → v < length seen →
-          counted byteOf (set seen v true) (n + boolByte (not (flagged seen v))) (chainFrom T cap base (nextLink T base link) (f - 1)) ≡ R
+          counted byteOf (set seen v true) (n + boolByte (not (flagged seen v))) (chainFrom T base cap (nextLink T base link) (f - 1)) ≡ R
       bytes-next l v q s =
           rw q
-          (sym (count-ahead byteOf seen n (link - 1) (chainFrom T cap base (nextLink T base link) (f - 1)) (omega (arith, q)))
-          ∙ ap (counted byteOf seen n) (sym (chain-next T cap base link f e h l))
+          (sym (count-ahead byteOf seen n (link - 1) (chainFrom T base cap (nextLink T base link) (f - 1)) (omega (arith, q)))
+          ∙ ap (counted byteOf seen n) (sym (chain-next T base cap link f e h l))
           ∙ inv)
+
+-- `gapNeeds`, by each way
+module _ (τ : List ℕ) (len k : ℕ) where
+  pub gap-deep : len ≤ k → 1 ≡ gapNeeds τ len k
+  unfolding gapNeeds
+  gap-deep l = rw (le-ltb k len l) refl
+
+  module _ (l : k < len) where
+    pub gap-splits : getD τ k 0 ≡ 0 → 2 ≡ gapNeeds τ len k
+    unfolding gapNeeds
+    gap-splits e = rw (lt-ltb k len l, eq-eqb (getD τ k 0) 0 e) refl
+
+    pub gap-stays : (getD τ k 0 ≡ 0 → ⊥) → 1 ≡ gapNeeds τ len k
+    unfolding gapNeeds
+    gap-stays e = rw (lt-ltb k len l, ne-eqb (getD τ k 0) 0 e) refl
+
+-- `leafNeeds`, by each way
+module _ (P S τ : List ℕ) (pcap base : ℕ) (r : Rows) (k link byte : ℕ) (q : Span) (e : q ≡ spanFrom P base pcap link (getD τ k 0)) where
+  pub leaf-splits : q ≡ Enough → (v : Level) → v ≡ levelAt r k → (x : Needed) → x ≡ distinctBytes P S pcap base v link byte → x ≡ leafNeeds P S τ pcap base r k link byte
+  unfolding leafNeeds
+  leaf-splits z v w x u = rw (sym e ∙ z, ← w) u
+
+  pub leaf-stays : q ≡ Short → Nodes 0 ≡ leafNeeds P S τ pcap base r k link byte
+  unfolding leafNeeds
+  leaf-stays z = rw (sym e ∙ z) refl
+
+  pub leaf-wild : q ≡ Wild → Broken ≡ leafNeeds P S τ pcap base r k link byte
+  unfolding leafNeeds
+  leaf-wild z = rw (sym e ∙ z) refl
+
+-- `neededAt`, by each way
+module _ (P S τ : List ℕ) (pcap base : ℕ) (r : Rows) (Y N : List ℕ) (cap : ℕ) (g : Reach) where
+  module _ (n s k : ℕ) (q : g ≡ Leaf n s k) where
+    pub at-end : length Y ≤ k → Nodes 0 ≡ neededAt P S τ pcap base r Y N cap g
+    at-end l = rw (q, le-ltb k (length Y) l) refl
+
+    pub at-leaf : k < length Y → (x : Needed) → x ≡ leafNeeds P S τ pcap base r k (getD N (stateAt cap n) 0 - 2) (getD Y k 0) → x ≡ neededAt P S τ pcap base r Y N cap g
+    at-leaf l x e = rw (q, lt-ltb k (length Y) l) e
+
+    pub leaf-in : (len : ℕ) → Inside N cap len g → (n < cap) × (1 < getD N (stateAt cap n) 0)
+    leaf-in len h = let i : Inside N cap len (Leaf n s k) = rw q at h in (i .0, i .3)
+
+  pub at-gap : (n s k : ℕ) → g ≡ Gap n s k → (x : ℕ) → x ≡ gapNeeds τ (length Y) (k + 1) → Nodes x ≡ neededAt P S τ pcap base r Y N cap g
+  at-gap n s k q x e = rw q (ap Nodes (e ∙ ap (gapNeeds τ (length Y)) (add-one k)))
+
+  pub at-none : g ≡ Lost → Broken ≡ neededAt P S τ pcap base r Y N cap g
+  at-none q = rw q refl

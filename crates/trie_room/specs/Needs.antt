@@ -6,16 +6,17 @@ use lib.Dec.{ltb, eqb}
 use lib.ListN.{length, getD}
 use Rattle.layout.specs.Nodes.{stateAt}
 use Rattle.trie.specs.declared.Level.{Level}
-use Rattle.trie.specs.Model.{pageByte}
+use Rattle.trie.specs.declared.Rows.{Rows}
+use Rattle.trie.specs.declared.Span.{Span}
+use Rattle.trie.specs.declared.Span.the-variants.{Enough, Short, Wild}
+use Rattle.trie.specs.Model.{pageByte, spanFrom, levelAt}
 use Rattle.trie_laws.specs.Needed.{distinctFrom}
 use Rattle.trie_path.specs.declared.Reach.{Reach}
 use Rattle.trie_path.specs.declared.Reach.the-variants.{Leaf, Gap, Broken as Lost}
 use Rattle.trie_path.specs.Descend.{descendTo}
-use Rattle.trie_room.specs.declared.chain.AtLeast.{AtLeast}
-use Rattle.trie_room.specs.declared.chain.AtLeast.the-variants.{Yes, No, Broken as Wild}
 use Rattle.trie_room.specs.declared.needed.Needed.{Needed}
 use Rattle.trie_room.specs.declared.needed.Needed.the-variants.{Nodes, Broken}
-use Rattle.trie_room.specs.Chains.{atLeast, Chained, whole, broken, chainFrom}
+use Rattle.trie_room.specs.Chains.{Chained, whole, broken, chainFrom}
 
 -- how many different bytes a byte and those of the pages of a chain are
 abbrev pub bytesWith : (ℕ → ℕ) → ℕ → Chained → Needed
@@ -23,29 +24,29 @@ bytesWith byteOf byte (whole ps) = Nodes (distinctFrom (λ y. false) (byte ∷ m
 bytesWith byteOf byte broken = Broken
 
 unfoldable pub distinctBytes : List ℕ → List ℕ → ℕ → ℕ → Level → ℕ → ℕ → Needed
-distinctBytes P S pcap base level first byte = bytesWith (pageByte S level) byte (chainFrom P pcap base first pcap)
+distinctBytes P S pcap base v first byte = bytesWith (pageByte S v) byte (chainFrom P base pcap first pcap)
 
-abbrev pub whereLong : AtLeast → Needed → Needed
-whereLong Yes r = r
-whereLong No r = Nodes 0
-whereLong Wild r = Broken
+-- what is needed where a chain is long enough
+abbrev pub whereLong : Needed → Span → Needed
+whereLong r Enough = r
+whereLong r Short = Nodes 0
+whereLong r Wild = Broken
 
--- τ are the thresholds by level, Y the bytes of the new page
-module _ (P S τ : List ℕ) (pcap base : ℕ) (level : ℕ → Level) (Y : List ℕ) where
-  -- a leaf at level k with its first page at a link: one node for each byte where it splits
-  unfoldable pub leafNeeds : ℕ → ℕ → Needed
-  leafNeeds k first =
-      cond (ltb k (length Y)) (whereLong (atLeast P pcap base first (getD τ k 0)) (distinctBytes P S pcap base (level k) first (getD Y k 0))) (Nodes 0)
+-- a new leaf at level k of len levels with a byte: one node, and one more where it splits at once
+unfoldable pub gapNeeds : List ℕ → ℕ → ℕ → ℕ
+gapNeeds τ len k = cond (ltb k len && eqb (getD τ k 0) 0) 2 1
 
-  -- a new leaf at level k: one node, and one more where the leaf splits at once
-  unfoldable pub gapNeeds : ℕ → ℕ
-  gapNeeds k = cond (ltb k (length Y) && eqb (getD τ k 0) 0) 2 1
+-- τ are the thresholds by level
+module _ (P S τ : List ℕ) (pcap base : ℕ) (r : Rows) where
+  -- a leaf at level k, its first page at a link, that takes a page with a byte there: a node for each byte where it splits
+  unfoldable pub leafNeeds : ℕ → ℕ → ℕ → Needed
+  leafNeeds k first byte = whereLong (distinctBytes P S pcap base (levelAt r k) first byte) (spanFrom P base pcap first (getD τ k 0))
 
-  -- where the bytes lead
-  abbrev pub neededAt : List ℕ → ℕ → Reach → Needed
-  neededAt N cap (Leaf n s k) = leafNeeds k (getD N (stateAt cap n) 0 - 2)
-  neededAt N cap (Gap n s k) = Nodes (gapNeeds (suc k))
-  neededAt N cap Lost = Broken
+  -- where the bytes Y of the page lead
+  abbrev pub neededAt : List ℕ → List ℕ → ℕ → Reach → Needed
+  neededAt Y N cap (Leaf n s k) = cond (ltb k (length Y)) (leafNeeds k (getD N (stateAt cap n) 0 - 2) (getD Y k 0)) (Nodes 0)
+  neededAt Y N cap (Gap n s k) = Nodes (gapNeeds τ (length Y) (suc k))
+  neededAt Y N cap Lost = Broken
 
-  unfoldable pub nodesNeeded : List ℕ → ℕ → ℕ → Needed
-  nodesNeeded N cap root = neededAt N cap (descendTo N cap root Y)
+  unfoldable pub nodesNeeded : List ℕ → List ℕ → ℕ → ℕ → Needed
+  nodesNeeded Y N cap root = neededAt Y N cap (descendTo N cap root Y)

@@ -14,7 +14,7 @@ use Rattle.trie_room.proofs.needed.distinct_bytes.Tie as tie
 
 abbrev Inv-loop : tie.InvT-loop
 Inv-loop pages sketches block level first byte seen₀ n₀ link₀ left₀ seen n link left =
-    (counted (pageByte sketches level) seen n (chainFrom pages (block .pages) (block .base) link left)
+    (counted (pageByte sketches level) seen n (chainFrom pages (block .base) (block .pages) link left)
     ≡ distinctBytes pages sketches (block .pages) (block .base) level first byte)
     × (length seen ≡ 256)
     × (n + left ≤ block .pages + 1)
@@ -30,7 +30,7 @@ unfolding distinctBytes
 loop-holds c =
     let args = c .before .before .args in (
       count-start (pageByte (args .sketches .now) (args .level)) (args .byte) (replicate 256 false)
-          (chainFrom (args .pages .now) (args .block .pages) (args .block .base) (args .first) (args .block .pages)) (c .before .before .pre .1 .1) (no-flags 256),
+          (chainFrom (args .pages .now) (args .block .base) (args .block .pages) (args .first) (args .block .pages)) (c .before .before .pre .1 .1) (no-flags 256),
       length-set (replicate 256 false) (args .byte) true,
       omega arith,
     )

@@ -4,8 +4,8 @@ use mathlib.Core.Logic.{by-cases}
 use mathlib.Core.Bool.{true}
 use mathlib.Core.List.{List, [], _∷_, map}
 use Prim.Native.Nat.{ℕ, zero, suc, _+_, _-_, _*_, _%_, _^_, _<_, _≤_, min}
-use native.Mathlib.Nat.{mod-lt, mod-eq-of-lt, zero-mod, mul-zero, le-of-suc-le-suc}
-use native.Mathlib.Decide.{decLt}
+use native.Mathlib.Nat.{mod-lt, mod-eq-of-lt, zero-mod}
+use native.Mathlib.Decide.{decLt, decLe}
 use native.Mathlib.Omega.{arith}
 use lib.Dec.{ltb}
 use lib.Pow.{pow-pos}
@@ -13,20 +13,20 @@ use lib.ListN.{length, getD, take, drop, drop-of-length-le, List·getD-eq-defaul
 use lib.Seq.{drop-drop, drop-cons, take-nil}
 use borrow.Author.Tests.{ltb-true}
 use Rattle.meaning.specs.Lists.{all}
-use Rattle.meaning.specs.Sketch.{inRange, perByte, packByte, packedLength, pack, symbolsAt, block, blockStart, blockLength}
+use Rattle.meaning.specs.Sketch.{inRange, perByte, packByte, block, blockStart, blockLength}
 use Rattle.meaning.specs.Trie.{byteAt}
 use Rattle.meaning.specs.Ledger.{Settings}
-use Rattle.meaning.specs.Forest.{bytesOfSketch}
+use Rattle.meaning.specs.Forest.{blockBytes, bytesOfSketch}
 use Rattle.layout.specs.Pages.{rowOf}
 use Rattle.sketch.specs.Settings.{Bits}
 use Rattle.sketch.proofs.Lists.{window}
 use Rattle.sketch.proofs.BlockEnds.{block-ends}
-use Rattle.sketch.proofs.Width.{byte-begins, bits-within}
-use Rattle.sketch_laws.proofs.Packing.{pack-at, range-of}
+use Rattle.sketch.proofs.Width.{z-most, z-fits}
+use Rattle.sketch_laws.proofs.Packing.{pack-at, packed-most, range-of}
 use Rattle.sketch_laws.proofs.Lists.{and-first, and-second}
-use Rattle.trie.specs.Tables.{SketchTable}
-use Rattle.trie.specs.Model.{rowByte, pageByte}
-use Rattle.trie_room.specs.Rows.{reduced, rowBytes, levelOf}
+use Rattle.trie.specs.Tables.{RowTable}
+use Rattle.trie.specs.Model.{rowByte, pageByte, levelAt}
+use Rattle.trie_room.specs.RowBytes.{reduced, rowBytes, rowsOf}
 
 module _ (b : ℕ) where
   -- symbols in range stay as they are
@@ -71,34 +71,55 @@ module _ (b : ℕ) where
 
 -- the bytes of the sketch itself, where its symbols are in range
 pub row-same : (s : Settings) (j : ℕ) (S : List ℕ) (p : ℕ) → inRange (s .bits) (rowOf (s .symbols) S p) ≡ true →
-    rowBytes (s .bits) (s .symbols) (s .blocks) j S p ≡ bytesOfSketch s j (rowOf (s .symbols) S p)
-unfolding rowBytes bytesOfSketch
+    rowBytes s j S p ≡ bytesOfSketch s j (rowOf (s .symbols) S p)
+unfolding rowBytes
 row-same s j S p r = rw (reduced-same (s .bits) (rowOf (s .symbols) S p) r)
 
--- ---- level k of block j
-module _ (b m q j k : ℕ) (h : j < q) where
-  -- the byte of a page there
-  pub level-at : (S : List ℕ) (p : ℕ) → byteAt (rowBytes b m q j S) k p ≡ pageByte S (levelOf b m q j k) p
-  unfolding rowBytes levelOf pageByte byteAt rowOf block symbolsAt
-  level-at S p =
+-- ---- block j
+-- the symbols of byte k of a block of len symbols, as far as it has them
+part : (z len k : ℕ) (xs : List ℕ) → take (min z (len - k * z)) (drop (k * z) xs) ≡ take (min z (len - k * z)) (drop (min (k * z) len) xs)
+part z len k xs =
+    by-cases (decLe (k * z) len)
+    (λ l. let e : min (k * z) len ≡ k * z = omega arith in rw e)
+    (λ l. let e : min z (len - k * z) ≡ 0 = omega arith in rw e)
+
+module _ (s : Settings) (j : ℕ) (h : j < s .blocks) where
+  abbrev start : ℕ
+  start = blockStart (s .symbols) (s .blocks) j
+
+  abbrev len : ℕ
+  len = blockLength (s .symbols) (s .blocks) j
+
+  ends : start + len ≤ s .symbols
+  ends = block-ends (s .symbols) (s .blocks) j h
+
+  -- the byte of a page at level k
+  pub level-byte : (S : List ℕ) (k p : ℕ) → byteAt (rowBytes s j S) k p ≡ pageByte S (levelAt (rowsOf s j) k) p
+  unfolding rowBytes bytesOfSketch rowsOf levelAt pageByte byteAt rowOf block
+  level-byte S k p =
+      let b : ℕ = s .bits in
+      let m : ℕ = s .symbols in
       let z : ℕ = perByte b in
+      let n : ℕ = min z (len - k * z) in
+      let from : ℕ = start + min (k * z) len in
       let row : List ℕ = take m (drop (p * m) S) in
-      let from : ℕ = blockStart m q j + k * z in
-      let n : ℕ = min z (blockLength m q j - k * z) in
-      let inside : min n (m - from) ≡ n = omega (arith, block-ends m q j h) in
-      pack-at b k (block m q j (reduced b row))
+      let inside : min n (m - from) ≡ n = omega (arith, ends) in
+      pack-at b k (take len (drop start (reduced b row)))
       ∙ ap (packByte b)
-      (window z (k * z) (blockLength m q j) (drop (blockStart m q j) (reduced b row))
-      ∙ rw (drop-drop (k * z) (blockStart m q j) (reduced b row), reduced-drop b from row, reduced-take b n (drop from row))
+      (window z (k * z) len (drop start (reduced b row))
+      ∙ part z len k (drop start (reduced b row))
+      ∙ rw (drop-drop (min (k * z) len) start (reduced b row), reduced-drop b from row, reduced-take b n (drop from row))
       (ap (reduced b) (window n from m (drop (p * m) S) ∙ rw (inside, drop-drop from (p * m) S))))
       ∙ sym (row-packs b S (p * m + from) n)
 
-  pub level-table : (pcap : ℕ) (S : List ℕ) → Bits b → k < packedLength b (blockLength m q j) → pcap * m ≤ length S → SketchTable pcap (levelOf b m q j k) S
-  unfolding levelOf symbolsAt
-  level-table pcap S w l long =
+  pub rows-table : (pcap : ℕ) (S : List ℕ) → Bits (s .bits) → s .symbols ≤ 64 → pcap * s .symbols ≤ length S → RowTable pcap (rowsOf s j) S
+  unfolding rowsOf blockBytes
+  rows-table pcap S b m long =
       record {
         long = long;
-        inside = omega (arith, byte-begins b (blockLength m q j) k w l, block-ends m q j h);
-        narrow = w .1;
-        fits = bits-within b (symbolsAt b (blockLength m q j) k) (omega arith);
+        inside = ends;
+        narrow = b .1;
+        few = z-most (s .bits);
+        short = omega (arith, ends, packed-most (s .bits) len);
+        fits = z-fits (s .bits);
       }
