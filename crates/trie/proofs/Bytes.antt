@@ -16,7 +16,7 @@ use Rattle.meaning.specs.Sketch.{packByte, inRange}
 use Rattle.trie.specs.declared.Level.{Level}
 use Rattle.trie.specs.declared.Rows.{Rows}
 use Rattle.trie.specs.Tables.{SketchTable, RowTable}
-use Rattle.trie.specs.Model.{rowByte, levelAt}
+use Rattle.trie.specs.Model.{rowByte, pageByte, levelAt}
 use Rattle.trie.proofs.Context.{inside}
 
 pub shifted : (k : ℕ) → k ≤ 8 → 1 * 2 ^ k % 2 ^ 32 ≡ 2 ^ k
@@ -124,3 +124,7 @@ level-table pcap r S k t =
 
 pub level-path : (pcap : ℕ) (r : Rows) (v : Level) (S : List ℕ) (k : ℕ) → v ≡ levelAt r k → RowTable pcap r S → SketchTable pcap v S
 level-path pcap r v S k e t = rw e (level-table pcap r S k t)
+
+pub byte-small : (pcap : ℕ) (v : Level) (S : List ℕ) (p : ℕ) → SketchTable pcap v S → pageByte S v p < 256
+unfolding pageByte
+byte-small pcap v S p t = row-small (v .bits) S (p * v .symbols + v .from) (v .count) (t .fits)

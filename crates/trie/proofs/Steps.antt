@@ -1,24 +1,26 @@
 -- The models, one step at a time.
-use Prim.Native.Nat.{ℕ, suc, _+_, _*_, _-_, _<_, _≤_}
+use Prim.Native.Nat.{ℕ, zero, suc, _+_, _*_, _-_, _<_, _≤_}
 use mathlib.Core.Path.{_≡_, refl, ap, _∙_, sym}
 use mathlib.Core.List.{List}
 use mathlib.Core.Bool.{Bool, true, false, cond}
 use native.Mathlib.Omega.{arith}
-use borrow.Author.Tests.{le-ltb, lt-ltb, eq-eqb, ne-eqb, ltb-true, ltb-false}
-use lib.Dec.{ltb, eqb}
+use borrow.Author.Tests.{le-ltb, lt-ltb, eq-eqb, ne-eqb, le-leb, lt-leb, ltb-true, ltb-false}
+use lib.Dec.{ltb, leb, eqb}
 use lib.ListN.{getD}
 use Rattle.meaning.specs.Trie.{child}
 use Rattle.layout.specs.Nodes.{stateAt}
 use Rattle.trie.specs.declared.Got.{Got}
 use Rattle.trie.specs.declared.Got.the-variants.{Node, Full, Bad}
 use Rattle.trie.specs.declared.Level.{Level}
+use Rattle.trie.specs.declared.Reach.{Reach}
+use Rattle.trie.specs.declared.Reach.the-variants.{Leaf, Gap, Lost}
 use Rattle.trie.specs.declared.Rows.{Rows}
 use Rattle.trie.specs.declared.Span.{Span}
 use Rattle.trie.specs.declared.Span.the-variants.{Enough, Short, Wild}
 use Rattle.trie.specs.declared.Place.{Place}
 use Rattle.trie.specs.declared.Place.the-variants.{Found, Missing, Broken}
 use Rattle.trie.specs.Tables.{RowTable}
-use Rattle.trie.specs.Model.{Inside, linkAt, childAt, byteIn, placeFrom, findPlace, linkLeaf, nodeIn, freshLeaf, childLeaf, pushNodes, pushPages, pushPage, After, putLeafM, pageByte, onPut, splitFrom, spanFrom, openLeaf, levelAt, tooLong, splitLeaf, growSpan, growInto, growLeaf, made, pushed, after}
+use Rattle.trie.specs.Model.{Inside, linkAt, childAt, byteIn, placeFrom, findPlace, linkLeaf, nodeIn, freshLeaf, childLeaf, pushNodes, pushPages, pushPage, After, putLeafM, pageByte, onPut, splitFrom, spanFrom, openLeaf, levelAt, tooLong, splitLeaf, growSpan, growInto, growLeaf, onward, descend, made, pushed, after}
 use mir.Val.{Fits}
 use mir.Syntax.{w32, w64}
 
@@ -76,6 +78,9 @@ module _ (N : List ℕ) (cap s b free : ℕ) where
 -- the bounds that a match tells
 pub found-in : (cap : ℕ) (r : Place) (s c : ℕ) → r ≡ Found s c → Inside cap r → c < cap
 found-in cap r s c e h = rw e at (h .child)
+
+pub found-slot : (cap : ℕ) (r : Place) (s c : ℕ) → r ≡ Found s c → Inside cap r → s < 10 * cap
+found-slot cap r s c e h = rw e at (h .slot)
 
 pub missing-in : (cap : ℕ) (r : Place) (s : ℕ) → r ≡ Missing s → Inside cap r → s < 10 * cap
 missing-in cap r s e h = rw e at (h .slot)
@@ -236,3 +241,42 @@ pub split-leaf : (S : List ℕ) (r : Rows) (cap pcap base : ℕ) (N P : List ℕ
     v ≡ levelAt r k → ns ≡ openLeaf N cap n → after ns' ps' a ≡ splitFrom S v cap pcap base n ns P l free (pcap + 1) → after ns' ps' a ≡ splitLeaf S r cap pcap base N P k n l free
 unfolding splitLeaf
 split-leaf S r cap pcap base N P k n l free v ns ns' ps' a e o u = rw (← e, ← o) u
+
+-- `descend` begins with no level passed
+pub reach-start : (N : List ℕ) (cap : ℕ) (Y : List ℕ) (s n len : ℕ) → descend N cap Y s n 0 (len - 0) ≡ descend N cap Y s n 0 len
+reach-start N cap Y s n len = let z : len - 0 ≡ len = omega arith in rw z refl
+
+-- `descend` at each way out of a turn. R is what the walk comes to in the end
+descend-zero : (N : List ℕ) (cap : ℕ) (Y : List ℕ) (s n k : ℕ) → descend N cap Y s n k 0 ≡ cond (leb 2 (getD N (stateAt cap n) 0)) (Leaf s n k) Lost
+unfolding descend
+descend-zero N cap Y s n k = refl
+
+descend-suc : (N : List ℕ) (cap : ℕ) (Y : List ℕ) (s n k f : ℕ) → descend N cap Y s n k (suc f) ≡
+    cond (leb 2 (getD N (stateAt cap n) 0)) (Leaf s n k) (onward (λ s' c. descend N cap Y s' c (k + 1) f) k (findPlace N cap n (getD Y k 0)))
+unfolding descend
+descend-suc N cap Y s n k f = refl
+
+module _ (N : List ℕ) (cap : ℕ) (Y : List ℕ) (s n k len : ℕ) (R : Reach) (inv : descend N cap Y s n k (len - k) ≡ R) where
+  pub reach-leaf : 2 ≤ getD N (stateAt cap n) 0 → Leaf s n k ≡ R
+  reach-leaf l = go (len - k) inv
+    where
+      go : (f : ℕ) → descend N cap Y s n k f ≡ R → Leaf s n k ≡ R
+      go zero e = rw (descend-zero N cap Y s n k, le-leb _ _ l) at e
+      go (suc f) e = rw (descend-suc N cap Y s n k f, le-leb _ _ l) at e
+
+  module _ (l : getD N (stateAt cap n) 0 < 2) where
+    pub reach-out : len ≤ k → Lost ≡ R
+    reach-out m = let z : len - k ≡ 0 = omega arith in rw (z, descend-zero N cap Y s n k, lt-leb _ _ l) at inv
+
+    module _ (m : k < len) (r : Place) (e : r ≡ findPlace N cap n (getD Y k 0)) where
+      reach-on : onward (λ s' c. descend N cap Y s' c (k + 1) (len - (k + 1))) k r ≡ R
+      reach-on = let z : len - k ≡ suc (len - (k + 1)) = omega arith in ap (onward (λ s' c. descend N cap Y s' c (k + 1) (len - (k + 1))) k) e ∙ rw (z, descend-suc N cap Y s n k (len - (k + 1)), lt-leb _ _ l) at inv
+
+      pub reach-next : (s' c : ℕ) → r ≡ Found s' c → descend N cap Y s' c (k + 1) (len - (k + 1)) ≡ R
+      reach-next s' c q = rw q at reach-on
+
+      pub reach-gap : (s' : ℕ) → r ≡ Missing s' → Gap s' k ≡ R
+      reach-gap s' q = rw q at reach-on
+
+      pub reach-lost : r ≡ Broken → Lost ≡ R
+      reach-lost q = rw q at reach-on

@@ -1,14 +1,16 @@
 -- What the code computes, as definitions on the tables: N the node table, P the page table, cap and pcap the capacities.
-use Prim.Native.Nat.{ℕ, zero, suc, _+_, _*_, _-_, _/_, _%_, _^_, _<_, min}
+use Prim.Native.Nat.{ℕ, zero, suc, _+_, _*_, _-_, _/_, _%_, _^_, _<_, _≤_, min}
 use mathlib.Core.List.{List}
 use mathlib.Core.Bool.{Bool, true, false, cond}
-use lib.Dec.{ltb, eqb}
+use lib.Dec.{ltb, leb, eqb}
 use lib.ListN.{length, getD, set}
 use Rattle.meaning.specs.Trie.{child}
 use Rattle.layout.specs.Nodes.{linkOf, byteOf, chainWord, withLink, stateAt, headAt, innerState, leafState}
 use Rattle.trie.specs.declared.Got.{Got}
 use Rattle.trie.specs.declared.Got.the-variants.{Node, Full, Bad}
 use Rattle.trie.specs.declared.Level.{Level}
+use Rattle.trie.specs.declared.Reach.{Reach}
+use Rattle.trie.specs.declared.Reach.the-variants.{Leaf, Gap, Lost}
 use Rattle.trie.specs.declared.Rows.{Rows}
 use Rattle.trie.specs.declared.Span.{Span}
 use Rattle.trie.specs.declared.Span.the-variants.{Enough, Short, Wild}
@@ -176,3 +178,20 @@ module _ (S τ : List ℕ) (r : Rows) (cap pcap base : ℕ) where
 
   unfoldable pub growLeaf : List ℕ → List ℕ → ℕ → ℕ → ℕ → ℕ → After
   growLeaf N P k n p free = growInto k n p free (pushPage N P cap base n p)
+
+-- what was reached lies inside the table
+abbrev pub Reached : ℕ → ℕ → Reach → Type 0
+Reached cap len (Leaf s n k) = (s < 10 * cap) × (n < cap) × (k ≤ len)
+Reached cap len (Gap s k) = (s < 10 * cap) × (k < len)
+Reached cap len Lost = Unit {0}
+
+abbrev pub onward : (ℕ → ℕ → Reach) → ℕ → Place → Reach
+onward go k (Found s c) = go s c
+onward go k (Missing s) = Gap s k
+onward go k Broken = Lost
+
+-- down from node n, which slot s links to, at level k, by the bytes Y, at most f levels
+unfoldable pub descend : List ℕ → ℕ → List ℕ → ℕ → ℕ → ℕ → ℕ → Reach
+descend N cap Y s n k zero = cond (leb 2 (getD N (stateAt cap n) 0)) (Leaf s n k) Lost
+descend N cap Y s n k (suc f) =
+    cond (leb 2 (getD N (stateAt cap n) 0)) (Leaf s n k) (onward (λ s' c. descend N cap Y s' c (k + 1) f) k (findPlace N cap n (getD Y k 0)))

@@ -4,7 +4,7 @@ ghost use Prim.Native.Nat.{ℕ, _+_, _*_, _<_, _≤_, _-_};
 ghost use lib.ListN.{length, getD, set};
 ghost use Rattle.layout.specs.Nodes.{withLink};
 ghost use Rattle.trie.specs.Tables.{NodeTable, PageTable, SketchTable, RowTable};
-ghost use Rattle.trie.specs.Model.{Inside, findPlace, linkLeaf, made, freshLeaf, childLeaf, nodeIn, pushed, pushPage, after, putLeafM, rowByte, pageByte, splitFrom, spanFrom, openLeaf, levelAt, tooLong, splitLeaf, growLeaf};
+ghost use Rattle.trie.specs.Model.{Inside, findPlace, linkLeaf, made, freshLeaf, childLeaf, nodeIn, pushed, pushPage, after, putLeafM, rowByte, pageByte, splitFrom, spanFrom, openLeaf, levelAt, tooLong, splitLeaf, growLeaf, descend, Reached};
 
 // A chain word is a link and, times this, a byte.
 const LINKS: u32 = 524288;
@@ -415,5 +415,46 @@ pub fn grow_leaf(
         Span::Enough => split_leaf(nodes, pages, sketches, block, rows, k, n, first, free),
         Span::Short => Got::Node(n, free),
         Span::Wild => Got::Bad,
+    }
+}
+
+// Where bytes lead: to a leaf, with the slot that links to it and its level, or to the slot that lacks the next byte's child.
+// The root has no slot: its own number stands for it.
+pub enum Reach {
+    Leaf(usize, usize, usize),
+    Gap(usize, usize),
+    Lost,
+}
+
+pub fn descend_to(nodes: &[u32], cap: usize, bytes: &[u8], root: usize) -> Reach
+    requires { ⌜ NodeTable cap (now nodes) ⌝ }
+    requires { ⌜ root < cap ⌝ }
+    ensures { λ r. ⌜ r ≡ descend (now (nodes .entry)) cap (now (bytes .entry)) root root 0 (length (now (bytes .entry))) ⌝ }
+    ensures inside { λ r. ⌜ Reached cap (length (now (bytes .entry))) r ⌝ }
+{
+    let mut slot = root;
+    let mut n = root;
+    let mut k = 0;
+    loop {
+        if nodes[cap + n] >= 2 {
+            return Reach::Leaf(slot, n, k);
+        }
+        if k >= bytes.len() {
+            return Reach::Lost;
+        }
+        let place = find_place(nodes, cap, n, bytes[k] as u32);
+        match place {
+            Place::Found(s, child) => {
+                slot = s;
+                n = child;
+                k += 1;
+            }
+            Place::Missing(s) => {
+                return Reach::Gap(s, k);
+            }
+            Place::Broken => {
+                return Reach::Lost;
+            }
+        }
     }
 }
