@@ -33,7 +33,7 @@ use Rattle.trie_path.proofs.Way.{Way}
 use Rattle.trie_path.proofs.Arrival.{Leads, AtLeaf, AtGap, Arrives, arrives}
 use Rattle.trie_room.specs.declared.needed.Needed.the-variants.{Nodes}
 use Rattle.trie_room.specs.Needs.{distinctBytes, whereLong, leafNeeds, gapNeeds, neededAt, nodesNeeded}
-use Rattle.trie_room.proofs.Spans.{Linked, spanOf, span-right, pages-linked, pages-most}
+use Rattle.trie.proofs.Spans.{Linked, spanOf, span-right, pages-linked, pages-most}
 use Rattle.trie_room.proofs.Distinct.{distinct-right}
 
 module _ (bytesOf : ℕ → List ℕ) (P S τ : List ℕ) (pcap base : ℕ) (r : Rows) (Y : List ℕ) (p : ℕ) (bytes : (k : ℕ) → k < length Y → byteAt bytesOf k p ≡ getD Y k 0) where

@@ -6,7 +6,7 @@ use native.Mathlib.Omega.{arith}
 use lib.ListN.{length}
 use Rattle.trie.specs.Phys.{first, Below}
 use Rattle.trie_room.specs.Chains.{whole, ahead, chainFrom}
-use Rattle.trie_room.proofs.Spans.{Linked}
+use Rattle.trie.proofs.Spans.{Linked}
 use Rattle.trie_room.proofs.Steps.{chain-none, chain-next}
 
 pub chain-whole : (T : List ℕ) (base cap : ℕ) (xs : List ℕ) (f : ℕ) → Linked T base xs → Below cap xs → length xs ≤ f → chainFrom T base cap (first xs) f ≡ whole xs

@@ -15,7 +15,7 @@ use Rattle.trie_laws.specs.Needed.{distinct}
 use Rattle.trie_laws.proofs.Lists.{or-first, or-second}
 use Rattle.trie_room.specs.declared.needed.Needed.the-variants.{Nodes}
 use Rattle.trie_room.specs.Needs.{bytesWith, distinctBytes}
-use Rattle.trie_room.proofs.Spans.{Linked}
+use Rattle.trie.proofs.Spans.{Linked}
 use Rattle.trie_room.proofs.Chains.{chain-whole}
 
 -- two readings that agree on the pages

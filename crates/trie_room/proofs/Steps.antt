@@ -148,6 +148,13 @@ module _ (P S τ : List ℕ) (pcap base : ℕ) (r : Rows) (k link byte : ℕ) (q
   unfolding leafNeeds
   leaf-wild z = rw (sym e ∙ z) refl
 
+-- what a match tells of a leaf
+pub leaf-in : (N : List ℕ) (cap len : ℕ) (g : Reach) (n s k : ℕ) → g ≡ Leaf n s k → Inside N cap len g → (n < cap) × (1 < getD N (stateAt cap n) 0)
+leaf-in N cap len g n s k q h = let i : Inside N cap len (Leaf n s k) = rw q at h in (i .0, i .3)
+
+pub gap-in : (N : List ℕ) (cap len : ℕ) (g : Reach) (n s k : ℕ) → g ≡ Gap n s k → Inside N cap len g → k < len
+gap-in N cap len g n s k q h = let i : Inside N cap len (Gap n s k) = rw q at h in i .2
+
 -- `neededAt`, by each way
 module _ (P S τ : List ℕ) (pcap base : ℕ) (r : Rows) (Y N : List ℕ) (cap : ℕ) (g : Reach) where
   module _ (n s k : ℕ) (q : g ≡ Leaf n s k) where
@@ -156,9 +163,6 @@ module _ (P S τ : List ℕ) (pcap base : ℕ) (r : Rows) (Y N : List ℕ) (cap 
 
     pub at-leaf : k < length Y → (x : Needed) → x ≡ leafNeeds P S τ pcap base r k (getD N (stateAt cap n) 0 - 2) (getD Y k 0) → x ≡ neededAt P S τ pcap base r Y N cap g
     at-leaf l x e = rw (q, lt-ltb k (length Y) l) e
-
-    pub leaf-in : (len : ℕ) → Inside N cap len g → (n < cap) × (1 < getD N (stateAt cap n) 0)
-    leaf-in len h = let i : Inside N cap len (Leaf n s k) = rw q at h in (i .0, i .3)
 
   pub at-gap : (n s k : ℕ) → g ≡ Gap n s k → (x : ℕ) → x ≡ gapNeeds τ (length Y) (k + 1) → Nodes x ≡ neededAt P S τ pcap base r Y N cap g
   at-gap n s k q x e = rw q (ap Nodes (e ∙ ap (gapNeeds τ (length Y)) (add-one k)))

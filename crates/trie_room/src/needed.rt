@@ -76,7 +76,13 @@ fn leaf_needs(
     requires { ⌜ byte < 256 ⌝ }
     ensures { λ r. ⌜ r ≡ leafNeeds (now (pages .entry)) (now (sketches .entry)) (now (thresholds .entry)) (block .pages) (block .base) rows k first byte ⌝ }
 {
-    let span = at_least(pages, block.base, block.pages, first, thresholds[k] as usize);
+    let span = at_least(
+        pages,
+        block.base,
+        block.pages,
+        first,
+        thresholds[k] as usize,
+    );
     match span {
         Span::Enough => {
             let level = level_at(rows, k);
@@ -126,7 +132,16 @@ pub fn needed_at(
                 return Needed::Nodes(0);
             }
             let first = nodes[block.nodes + n] - 2;
-            leaf_needs(pages, sketches, thresholds, block, rows, k, first, bytes[k] as u32)
+            leaf_needs(
+                pages,
+                sketches,
+                thresholds,
+                block,
+                rows,
+                k,
+                first,
+                bytes[k] as u32,
+            )
         }
         Reach::Gap(_, _, k) => Needed::Nodes(gap_needs(thresholds, bytes.len(), k + 1)),
         Reach::Broken => Needed::Broken,
@@ -153,7 +168,16 @@ pub fn nodes_needed(
     ensures { λ r. ⌜ r ≡ nodesNeeded (now (pages .entry)) (now (sketches .entry)) (now (thresholds .entry)) (block .pages) (block .base) rows (now (bytes .entry)) (now (nodes .entry)) (block .nodes) root ⌝ }
 {
     let reach = descend_to(nodes, block.nodes, root, bytes);
-    needed_at(nodes, pages, sketches, thresholds, block, rows, bytes, reach)
+    needed_at(
+        nodes,
+        pages,
+        sketches,
+        thresholds,
+        block,
+        rows,
+        bytes,
+        reach,
+    )
 }
 
 // Are at least n nodes free? Their chain begins at a link and goes on in the chain words.
