@@ -8,7 +8,7 @@ use mathlib.Core.List.{List, [], _∷_}
 use lib.Dec.{ltb, leb, eqb}
 use lib.ListN.{length, getD}
 use borrow.Author.Tests.{ltb-true, lt-ltb, le-ltb, leb-true, leb-false}
-use Rattle.meaning.specs.Lists.{any}
+use Rattle.meaning.specs.Lists.{any, count}
 use Rattle.meaning.specs.Trie.{Tree, leaf, inner, byteAt}
 use Rattle.layout.specs.Nodes.{stateAt, leafState}
 use Rattle.trie.specs.declared.Level.{Level}
@@ -33,7 +33,8 @@ use Rattle.trie_path.proofs.Way.{Way}
 use Rattle.trie_path.proofs.Arrival.{Leads, AtLeaf, AtGap, Arrives, arrives}
 use Rattle.trie_room.specs.declared.needed.Needed.the-variants.{Nodes}
 use Rattle.trie_room.specs.Needs.{distinctBytes, whereLong, leafNeeds, gapNeeds, neededAt, nodesNeeded}
-use Rattle.trie.proofs.Spans.{Linked, spanOf, span-right, pages-linked, pages-most}
+use Rattle.trie.proofs.Spans.{Linked, span-right, pages-linked}
+use Rattle.trie.proofs.Grow.{leaf-most}
 use Rattle.trie_room.proofs.Distinct.{distinct-right}
 
 module _ (bytesOf : ℕ → List ℕ) (P S τ : List ℕ) (pcap base : ℕ) (r : Rows) (Y : List ℕ) (p : ℕ) (bytes : (k : ℕ) → k < length Y → byteAt bytesOf k p ≡ getD Y k 0) where
@@ -56,3 +57,44 @@ module _ (bytesOf : ℕ → List ℕ) (P S τ : List ℕ) (pcap base : ℕ) (r :
           rw (long true z, span-right P base pcap ps (first ps) (getD τ k 0) h b refl, z, ← (bytes k (ltb-true k (length Y) y)))
           (distinct-right bytesOf P S pcap base k p (levelAt r k) ps h b l e)
       go true y false z = rw (long false z, span-right P base pcap ps (first ps) (getD τ k 0) h b refl, z) refl
+
+-- a gap
+gap-right : (bytesOf : ℕ → List ℕ) (τ : List ℕ) (len p k : ℕ) → gapNeeds τ len k ≡ suc (splitNodes bytesOf len τ k (p ∷ []))
+unfolding gapNeeds
+gap-right bytesOf τ len p k = sym (gap-nodes bytesOf len τ k p)
+
+module _ {cap pcap base : ℕ} (small : cap ≤ 262144) (bytesOf : ℕ → List ℕ) (p : ℕ) {N P : List ℕ} {free : ℕ} {t : Phys} {fs : List ℕ} {G : Cells}
+    (st : State cap pcap base N P free t fs G) where
+  -- a subtree lies in the tables too
+  part : {k : ℕ} {u : Phys} (w : Way cap pcap base small bytesOf p t k u) → State cap pcap base N P free u fs (w .context .rest ⊕ G)
+  part {u = u} w =
+      enter cap pcap base small (λ j. byteAt bytesOf j p) (w .context) u refl
+      (subst (λ (x : Phys). State cap pcap base N P free x fs G) (sym (w .is)) st) (w .sound)
+
+  -- a leaf's pages are pages of the trie
+  inside : {k n : ℕ} {ps : List ℕ} → Way cap pcap base small bytesOf p t k (leafP n ps) → (x : ℕ) → any (eqb x) ps ≡ true → any (eqb x) (pagesIn (tree t)) ≡ true
+  unfolding pagesIn
+  inside {k} {n} {ps} w x m =
+      let some : 0 < count (eqb x) ps = ltb-true 0 (count (eqb x) ps) (sym (any-count (eqb x) ps) ∙ m) in
+      let most : count (eqb x) ps ≤ count (eqb x) (pagesIn (tree t)) = rw (w .sub) at (subtree-count (eqb x) (pathOf bytesOf 0 p k) (tree t) (w .path)) in
+      any-count (eqb x) (pagesIn (tree t)) ∙ lt-ltb 0 (count (eqb x) (pagesIn (tree t))) (omega arith)
+
+  module _ {Y : List ℕ} (y : Leads bytesOf p (tree t) Y) (S τ : List ℕ) (r : Rows)
+      (reads : (k x : ℕ) → any (eqb x) (pagesIn (tree t)) ≡ true → byteAt bytesOf k x ≡ pageByte S (levelAt r k) x) where
+    at-right : (g : Reach) → Arrives cap pcap base small bytesOf p t g → neededAt P S τ pcap base r Y N cap g ≡ Nodes (needed bytesOf (length Y) τ 0 p (tree t))
+    at-right (Leaf n s k) a =
+        let ps : List ℕ = a .pages in
+        let u = part (a .way) in
+        let link : getD N (stateAt cap n) 0 - 2 ≡ first ps = omega (arith, u .heap .holds .0 .0) in
+        rw (link, needed-at-leaf bytesOf (length Y) τ p k 0 (tree t) (a .way .path) ps (a .way .sub), zero-add k)
+        (leaf-right bytesOf P S τ pcap base r Y p (y .bytes) k ps (pages-linked N P base ps (u .heap .holds .0 .1 .1)) (u .sound .1) (leaf-most u)
+        (λ x m. reads k x (inside (a .way) x m)))
+    at-right (Gap n s k) a =
+        rw (needed-at-gap bytesOf (length Y) τ p k 0 (tree t) (a .way .path) (kids (a .buckets)) (a .way .sub) (rw (zero-add k) (spot-none cap pcap base small (a .spot) (a .gap))), zero-add k)
+        (ap Nodes (gap-right bytesOf τ (length Y) p (suc k)))
+    at-right Broken a = absurd a
+
+    -- the law of `nodes_needed`
+    pub needed-right : nodesNeeded P S τ pcap base r Y N cap (root t) ≡ Nodes (needed bytesOf (length Y) τ 0 p (tree t))
+    unfolding nodesNeeded
+    needed-right = at-right (descendTo N cap (root t) Y) (arrives cap pcap base small bytesOf p st y)

@@ -18,6 +18,11 @@ use Rattle.trie_room.specs.declared.needed.Needed.{Needed}
 use Rattle.trie_room.specs.declared.needed.Needed.the-variants.{Nodes, Broken}
 use Rattle.trie_room.specs.Chains.{Chained, whole, broken, chainFrom}
 
+-- the number in an answer
+abbrev pub countIn : Needed → ℕ
+countIn (Nodes n) = n
+countIn Broken = 0
+
 -- how many different bytes a byte and those of the pages of a chain are
 abbrev pub bytesWith : (ℕ → ℕ) → ℕ → Chained → Needed
 bytesWith byteOf byte (whole ps) = Nodes (distinctFrom (λ y. false) (byte ∷ map byteOf ps))
