@@ -1,7 +1,7 @@
 -- On tables that hold a leaf's pages, `distinctBytes` counts the children that the leaf gets.
 use Prim.Native.Nat.{ℕ, _≤_}
-use mathlib.Core.Path.{_≡_, refl, sym, ap, _∙_}
-use mathlib.Core.Bool.{Bool, true}
+use mathlib.Core.Path.{_≡_, refl}
+use mathlib.Core.Bool.{true}
 use mathlib.Core.List.{List, [], _∷_, map}
 use lib.Dec.{eqb}
 use lib.ListN.{length}
@@ -14,7 +14,7 @@ use Rattle.trie.specs.Phys.{first, Below}
 use Rattle.trie_laws.specs.Needed.{distinct}
 use Rattle.trie_laws.proofs.Lists.{or-first, or-second}
 use Rattle.trie_room.specs.declared.needed.Needed.the-variants.{Nodes}
-use Rattle.trie_room.specs.Needs.{bytesWith, distinctBytes}
+use Rattle.trie_room.specs.Needs.{distinctBytes}
 use Rattle.trie.proofs.Spans.{Linked}
 use Rattle.trie_room.proofs.Chains.{chain-whole}
 
