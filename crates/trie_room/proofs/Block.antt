@@ -17,6 +17,8 @@ use Rattle.trie.specs.Heap.{Cells, _⊕_}
 use Rattle.trie.specs.Model.{pageByte, spanFrom, levelAt}
 use Rattle.trie.specs.Phys.{Phys, root, tree, kids, first, Below, State, leafP}
 use Rattle.trie.proofs.Context.{enter}
+use Rattle.trie.proofs.Spans.{Linked, spanOf, span-right, pages-linked, frees-linked}
+use Rattle.trie.proofs.Grow.{leaf-most}
 use Rattle.trie_laws.specs.Sound.{pagesIn, Agree}
 use Rattle.trie_laws.specs.Path.{pathOf, subtree}
 use Rattle.trie_laws.specs.Needed.{distinct, splits, splitNodes, needed}
@@ -33,8 +35,6 @@ use Rattle.trie_path.proofs.Arrival.{Leads, Arrives, arrives}
 use Rattle.trie_room.specs.declared.needed.Needed.the-variants.{Nodes}
 use Rattle.trie_room.specs.RowBytes.{rowBytes, rowsOf}
 use Rattle.trie_room.specs.Needs.{distinctBytes, whereLong, leafNeeds, gapNeeds, neededAt, nodesNeeded}
-use Rattle.trie.proofs.Spans.{Linked, spanOf, span-right, pages-linked, frees-linked}
-use Rattle.trie.proofs.Grow.{leaf-most}
 use Rattle.trie_room.proofs.RowBytes.{level-byte}
 use Rattle.trie_room.proofs.Distinct.{distinct-right}
 
@@ -82,7 +82,8 @@ module _ {cap pcap base : ℕ} (small : cap ≤ 262144) (bytesOf : ℕ → List 
 
   module _ {Y : List ℕ} (y : Leads bytesOf p (tree t) Y) (S τ : List ℕ) (r : Rows)
       (reads : (k x : ℕ) → any (eqb x) (pagesIn (tree t)) ≡ true → byteAt bytesOf k x ≡ pageByte S (levelAt r k) x) where
-    at-right : (g : Reach) → Arrives cap pcap base small bytesOf p t g → neededAt P S τ pcap base r Y N cap g ≡ Nodes (needed bytesOf (length Y) τ 0 p (tree t))
+    -- where a descent has arrived
+    pub at-right : (g : Reach) → Arrives cap pcap base small bytesOf p t g → neededAt P S τ pcap base r Y N cap g ≡ Nodes (needed bytesOf (length Y) τ 0 p (tree t))
     at-right (Leaf n s k) a =
         let ps : List ℕ = a .pages in
         let u = part (a .way) in
@@ -95,16 +96,17 @@ module _ {cap pcap base : ℕ} (small : cap ≤ 262144) (bytesOf : ℕ → List 
         (ap Nodes (gap-right bytesOf τ (length Y) p (suc k)))
     at-right Broken a = absurd a
 
-    -- the law of `nodes_needed`
     pub needed-right : nodesNeeded P S τ pcap base r Y N cap (root t) ≡ Nodes (needed bytesOf (length Y) τ 0 p (tree t))
     unfolding nodesNeeded
     needed-right = at-right (descendTo N cap (root t) Y) (arrives cap pcap base small bytesOf p st y)
 
-  -- the same, where the bytes of the trie's pages are those of their rows in block j
-  pub needed-block : {Y : List ℕ} → Leads bytesOf p (tree t) Y → (S τ : List ℕ) (s : Settings) (j : ℕ) → j < s .blocks → Agree bytesOf (rowBytes s j S) (pagesIn (tree t)) →
-      nodesNeeded P S τ pcap base (rowsOf s j) Y N cap (root t) ≡ Nodes (needed bytesOf (length Y) τ 0 p (tree t))
+module _ {cap pcap base : ℕ} {N P : List ℕ} {free : ℕ} {t : Phys} {fs : List ℕ} {G : Cells} (st : State cap pcap base N P free t fs G) where
+  -- the law of `nodes_needed` in block j: the trie's pages have the bytes of their rows there
+  pub needed-block : (bytesOf : ℕ → List ℕ) (p : ℕ) {Y : List ℕ} → Leads bytesOf p (tree t) Y → (S τ : List ℕ) (s : Settings) (j : ℕ) → j < s .blocks →
+      Agree bytesOf (rowBytes s j S) (pagesIn (tree t)) → nodesNeeded P S τ pcap base (rowsOf s j) Y N cap (root t) ≡ Nodes (needed bytesOf (length Y) τ 0 p (tree t))
   unfolding byteAt
-  needed-block y S τ s j h e = needed-right y S τ (rowsOf s j) (λ k x m. ap (λ (ys : List ℕ). getD ys k 0) (e x m) ∙ level-byte s j h S k x)
+  needed-block bytesOf p y S τ s j h e =
+      needed-right (st .nodeTable .small) bytesOf p st y S τ (rowsOf s j) (λ k x m. ap (λ (ys : List ℕ). getD ys k 0) (e x m) ∙ level-byte s j h S k x)
 
   -- the law of `enough_free`
   pub free-right : (n : ℕ) → spanFrom N 0 cap free n ≡ spanOf n (length fs)

@@ -1,7 +1,7 @@
 -- `leaf_needs` is `leafNeeds`.
 use native.Mathlib.Omega.{arith}
 use Rattle.trie.proofs.Bytes.{level-path}
-use Rattle.trie_room.proofs.Steps.{leaf-splits, leaf-stays, leaf-wild}
+use Rattle.trie_room.proofs.Ways.{leaf-splits, leaf-stays, leaf-wild}
 use borrow.Author.Needs.{needs}
 use Rattle.trie_room.proofs.needed.leaf_needs.Statement.{statement}
 use Rattle.trie_room.proofs.needed.leaf_needs.Tie as tie
