@@ -1,5 +1,5 @@
 -- The packed byte of a page's symbols.
-use Prim.Native.Nat.{ℕ, zero, suc, _+_, _*_, _-_, _%_, _^_, _<_, _≤_}
+use Prim.Native.Nat.{ℕ, zero, suc, _+_, _*_, _-_, _%_, _^_, _<_, _≤_, min}
 use mathlib.Core.Path.{_≡_, refl, _∙_}
 use mathlib.Core.List.{List, _∷_}
 use mathlib.Core.Bool.{Bool, true, false, _&&_, false≢true}
@@ -14,8 +14,9 @@ use lib.Seq.{drop-cons}
 use Rattle.meaning.specs.Lists.{all}
 use Rattle.meaning.specs.Sketch.{packByte, inRange}
 use Rattle.trie.specs.declared.Level.{Level}
-use Rattle.trie.specs.Tables.{SketchTable}
-use Rattle.trie.specs.Model.{rowByte}
+use Rattle.trie.specs.declared.Rows.{Rows}
+use Rattle.trie.specs.Tables.{SketchTable, RowTable}
+use Rattle.trie.specs.Model.{rowByte, pageByte, levelAt}
 use Rattle.trie.proofs.Context.{inside}
 
 pub shifted : (k : ℕ) → k ≤ 8 → 1 * 2 ^ k % 2 ^ 32 ≡ 2 ^ k
@@ -87,3 +88,43 @@ row-pack b S i (suc n) l h =
 -- a level's symbols of a page lie in the table
 pub row-in : (pcap p : ℕ) (v : Level) (S : List ℕ) → p < pcap → SketchTable pcap v S → p * v .symbols + v .from + v .count ≤ length S
 row-in pcap p v S l t = omega (arith, t .long, t .inside, mul-le-mul-right (v .symbols) l)
+
+-- a level of a block
+pub level-small : (k per : ℕ) → k < 64 → per ≤ 8 → k * per < 2 ^ 64
+level-small k per l m = omega (arith, mul-le-mul-left k m)
+
+module _ (r : Rows) (k : ℕ) where
+  level-is : (f c : ℕ) → f ≡ r .start + min (k * r .per) (r .length) → c ≡ min (r .per) (r .length - k * r .per) →
+      _≡_ {A = Level} (record { bits = r .bits; symbols = r .symbols; from = f; count = c }) (levelAt r k)
+  unfolding levelAt
+  level-is f c e q = λ i. record { bits = r .bits; symbols = r .symbols; from = e i; count = q i }
+
+  pub level-none : r .length ≤ k * r .per → _≡_ {A = Level} (record { bits = r .bits; symbols = r .symbols; from = r .start + r .length; count = 0 }) (levelAt r k)
+  level-none l = level-is (r .start + r .length) 0 (omega arith) (omega arith)
+
+  module _ (l : k * r .per < r .length) where
+    pub level-last : r .length - k * r .per < r .per →
+        _≡_ {A = Level} (record { bits = r .bits; symbols = r .symbols; from = r .start + k * r .per; count = r .length - k * r .per }) (levelAt r k)
+    level-last m = level-is (r .start + k * r .per) (r .length - k * r .per) (omega arith) (omega arith)
+
+    pub level-full : r .per ≤ r .length - k * r .per →
+        _≡_ {A = Level} (record { bits = r .bits; symbols = r .symbols; from = r .start + k * r .per; count = r .per }) (levelAt r k)
+    level-full m = level-is (r .start + k * r .per) (r .per) (omega arith) (omega arith)
+
+pub level-table : (pcap : ℕ) (r : Rows) (S : List ℕ) (k : ℕ) → RowTable pcap r S → SketchTable pcap (levelAt r k) S
+unfolding levelAt
+level-table pcap r S k t =
+    let c : min (r .per) (r .length - k * r .per) ≤ r .per = omega arith in
+    record {
+      long = t .long;
+      inside = omega (arith, t .inside);
+      narrow = t .narrow;
+      fits = le-trans (mul-le-mul-left (r .bits) c) (t .fits);
+    }
+
+pub level-path : (pcap : ℕ) (r : Rows) (v : Level) (S : List ℕ) (k : ℕ) → v ≡ levelAt r k → RowTable pcap r S → SketchTable pcap v S
+level-path pcap r v S k e t = rw e (level-table pcap r S k t)
+
+pub byte-small : (pcap : ℕ) (v : Level) (S : List ℕ) (p : ℕ) → SketchTable pcap v S → pageByte S v p < 256
+unfolding pageByte
+byte-small pcap v S p t = row-small (v .bits) S (p * v .symbols + v .from) (v .count) (t .fits)

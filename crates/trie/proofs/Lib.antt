@@ -8,3 +8,7 @@ pub mod Push
 pub mod Put
 pub mod Bytes
 pub mod Split
+pub mod Spans
+pub mod Grow
+pub mod Ways
+pub mod Insert
