@@ -1,0 +1,5 @@
+pub mod Words
+pub mod Next
+pub mod Changed
+pub mod Pages
+pub mod Listed
