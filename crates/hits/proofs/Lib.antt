@@ -1,3 +1,4 @@
+pub mod Hit
 pub mod Words
 pub mod Next
 pub mod Changed
