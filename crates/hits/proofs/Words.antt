@@ -6,11 +6,12 @@ use Prim.Native.Nat.{ℕ, zero, suc, _+_, _*_, _%_, _^_, _≤_, _<_}
 use native.Mathlib.Nat.{pow-suc, one-mul, zero-mul, zero-mod}
 use native.Mathlib.Omega.{arith}
 use lib.Dec.{eqb}
-use lib.Bits.{bitOr, or-zero-l}
+use lib.Bits.{bitOr, or-zero-l, or-lt}
+use mir.Val.{boolByte}
 use lib.Pow.{shl-exact}
 use borrow.Author.Tests.{eqb-true, eqb-false}
 use Rattle.words.specs.Bits.{bit, withBit, lowest}
-use Rattle.words.proofs.Bits.{bit-zero, bit-or, bit-with, with-or, with-lt, same-word, zero-word, lowest-lt, lowest-set}
+use Rattle.words.proofs.Bits.{bit-zero, bit-or, bit-with, with-or, with-lt, same-word, zero-word, lowest-lt, lowest-set, cut-lt}
 use Rattle.hits.specs.Marks.{wordOf, keptWord}
 
 word-lt : (p : ℕ → Bool) (n : ℕ) → wordOf p n < 2 ^ n
@@ -45,7 +46,7 @@ kept-zero hit first = sym (kept-same hit first 0 0 (omega arith) (λ k h. rw (bi
 -- ---- found one by one
 
 -- a bit shifted to place j
-bit-shifted : (v : Bool) (j k : ℕ) → j < 32 → bit (cond v 1 0 * 2 ^ j % 2 ^ 32) k ≡ v && eqb k j
+bit-shifted : (v : Bool) (j k : ℕ) → j < 32 → bit (boolByte v * 2 ^ j % 2 ^ 32) k ≡ v && eqb k j
 bit-shifted true j k h =
     let e : 2 ^ j ≡ withBit 0 j true = sym (or-zero-l (2 ^ j)) ∙ with-or 0 j in
     rw (shl-exact {a = 1} 1 j 32 (omega arith) (omega arith), one-mul (2 ^ j), e, bit-with 0 j true k, bit-zero k) (go (eqb k j))
@@ -56,23 +57,31 @@ bit-shifted true j k h =
 bit-shifted false j k h = rw (zero-mul (2 ^ j)) (bit-zero k)
 
 -- the bits of `kept`, and of those that are left the ones that pass, are the bits of `word` that pass
-abbrev pub Found : (ℕ → Bool) → ℕ → ℕ → ℕ → ℕ → Type 0
-Found hit first word left kept = (k : ℕ) → bit kept k || bit left k && hit (first + k) ≡ bit word k && hit (first + k)
+pub record Found (hit : ℕ → Bool) (first word left kept : ℕ) : Type 0 where
+  pub left-fits : left < 2 ^ 32
+  pub kept-fits : kept < 2 ^ 32
+  pub bits : (k : ℕ) → bit kept k || bit left k && hit (first + k) ≡ bit word k && hit (first + k)
 
 module _ (hit : ℕ → Bool) (first word : ℕ) where
-  pub found-none : Found hit first word word 0
-  found-none k = rw (bit-zero k)
+  pub found-none : word < 2 ^ 32 → Found hit first word word 0
+  found-none fits = record { left-fits = fits; kept-fits = omega arith; bits = λ k. rw (bit-zero k) }
 
-  pub found-more : (left kept : ℕ) → left ≢ 0 → left < 2 ^ 32 → Found hit first word left kept
-      → Found hit first word (withBit left (lowest left) false) (bitOr kept (cond (hit (first + lowest left)) 1 0 * 2 ^ lowest left % 2 ^ 32))
-  found-more left kept some fits inv k =
-      rw (
-        bit-or kept (cond (hit (first + lowest left)) 1 0 * 2 ^ lowest left % 2 ^ 32) k,
-        bit-shifted (hit (first + lowest left)) (lowest left) k (lowest-lt left some fits),
-        bit-with left (lowest left) false k,
-      )
-      (go (eqb k (lowest left)) refl) ∙ inv k
+  pub found-more : (left kept : ℕ) → left ≢ 0 → Found hit first word left kept
+      → Found hit first word (withBit left (lowest left) false) (bitOr kept (boolByte (hit (first + lowest left)) * 2 ^ lowest left % 2 ^ 32))
+  found-more left kept some inv = record {
+    left-fits = omega (arith, cut-lt left some (inv .left-fits), inv .left-fits);
+    kept-fits = or-lt 32 kept (boolByte v * 2 ^ j % 2 ^ 32) (inv .kept-fits) (omega arith);
+    bits = λ k.
+      rw (bit-or kept (boolByte v * 2 ^ j % 2 ^ 32) k, bit-shifted v j k (lowest-lt left some (inv .left-fits)), bit-with left j false k)
+      (go k (eqb k j) refl) ∙ inv .bits k;
+  }
     where
+      j : ℕ
+      j = lowest left
+
+      v : Bool
+      v = hit (first + j)
+
       set : (a v : Bool) → (a || v && true) || false && v ≡ a || true && v
       set true v = refl
       set false true = refl
@@ -83,15 +92,14 @@ module _ (hit : ℕ → Bool) (first word : ℕ) where
       clear false true b = refl
       clear false false b = refl
 
-      go : (t : Bool) → eqb k (lowest left) ≡ t
-          → (bit kept k || hit (first + lowest left) && t) || cond t false (bit left k) && hit (first + k) ≡ bit kept k || bit left k && hit (first + k)
-      go true e =
-          let s : k ≡ lowest left = eqb-true k (lowest left) e in
-          rw (s, lowest-set left some fits) (set (bit kept (lowest left)) (hit (first + lowest left)))
-      go false e = clear (bit kept k) (hit (first + lowest left)) (bit left k && hit (first + k))
+      go : (k : ℕ) (t : Bool) → eqb k j ≡ t
+          → (bit kept k || v && t) || cond t false (bit left k) && hit (first + k) ≡ bit kept k || bit left k && hit (first + k)
+      go k true e = rw (eqb-true k j e, lowest-set left some (inv .left-fits)) (set (bit kept j) v)
+      go k false e = clear (bit kept k) v (bit left k && hit (first + k))
 
-  pub found-all : (kept : ℕ) → kept < 2 ^ 32 → Found hit first word 0 kept → kept ≡ keptWord hit first word
-  found-all kept fits inv = kept-same hit first word kept fits (λ k h. sym (none (bit kept k)) ∙ rw (bit-zero k) at (inv k))
+  pub found-all : (kept : ℕ) → Found hit first word 0 kept → kept ≡ keptWord hit first word
+  found-all kept inv =
+      kept-same hit first word kept (inv .kept-fits) (λ k h. sym (none (bit kept k)) ∙ rw (bit-zero k) at (inv .bits k))
     where
       none : (a : Bool) → a || false ≡ a
       none true = refl
