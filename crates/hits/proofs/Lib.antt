@@ -4,3 +4,5 @@ pub mod Next
 pub mod Changed
 pub mod Pages
 pub mod Listed
+pub mod Pass
+pub mod Keep

@@ -35,10 +35,13 @@ module _ (hit : ℕ → Bool) (first w : ℕ) where
   unfolding keptWord
   kept-bit k h = word-bit (λ k. bit w k && hit (first + k)) 32 k h
 
-  kept-same : (v : ℕ) → v < 2 ^ 32 → ((k : ℕ) → k < 32 → bit v k ≡ bit w k && hit (first + k)) → v ≡ keptWord hit first w
+  pub kept-lt : keptWord hit first w < 2 ^ 32
   unfolding keptWord
+  kept-lt = word-lt (λ k. bit w k && hit (first + k)) 32
+
+  kept-same : (v : ℕ) → v < 2 ^ 32 → ((k : ℕ) → k < 32 → bit v k ≡ bit w k && hit (first + k)) → v ≡ keptWord hit first w
   kept-same v fits same =
-      same-word 32 v (keptWord hit first w) fits (word-lt (λ k. bit w k && hit (first + k)) 32) (λ k h. same k h ∙ sym (kept-bit k h))
+      same-word 32 v (keptWord hit first w) fits kept-lt (λ k h. same k h ∙ sym (kept-bit k h))
 
 pub kept-zero : (hit : ℕ → Bool) (first : ℕ) → keptWord hit first 0 ≡ 0
 kept-zero hit first = sym (kept-same hit first 0 0 (omega arith) (λ k h. rw (bit-zero k)))
