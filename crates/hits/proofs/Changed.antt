@@ -67,8 +67,8 @@ module _ (f : ℕ → ℕ → ℕ) (none : (i : ℕ) → f i 0 ≡ 0) (marks : L
       let x : Next marks words n (nextWord marks words n) = next-word marks words n inside in
       let e : nextWord marks words n ≡ n + (nextWord marks words n - n) = omega (arith, x .from) in
       rw e (changed-over f marks n (nextWord marks words n - n) (λ k l u.
-        let z : getD marks k 0 ≡ 0 = s .skipped k (omega (arith, x .most)) (x .out k l (omega arith) (omega (arith, x .most))) in
-        rw z (none k)))
+      let z : getD marks k 0 ≡ 0 = s .skipped k (omega (arith, x .most)) (x .out k l (omega arith) (omega (arith, x .most))) in
+      rw z (none k)))
 
 -- zeros
 pub changed-zeros : (ws : List ℕ) (n : ℕ) → n ≤ length ws → changed (λ i w. 0) ws n ≡ zeroed ws 0 n

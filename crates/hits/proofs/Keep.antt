@@ -40,7 +40,7 @@ module _ (hit : ℕ → Bool) (marks₀ : List ℕ) (words : ℕ) where
         let same : v ≡ keptWord hit (i * 32) (getD marks₀ i 0) = e ∙ rw (pass-word p) in
         rw (ones-found v (rw e (kept-lt hit (i * 32) (getD marks i 0))))
         (pass-next keeps stays marks₀ words (λ i. kept-zero hit (i * 32)) only s marks i n p more v (λ k h.
-          rw (flag-bit marks₀ 0 i k h, zero-add i, same) (sym (kept-bit hit (i * 32) (getD marks₀ i 0) k h))) v r e g)
+        rw (flag-bit marks₀ 0 i k h, zero-add i, same) (sym (kept-bit hit (i * 32) (getD marks₀ i 0) k h))) v r e g)
 
   module _ {marks : List ℕ} {i n : ℕ} (p : Kept marks i n) (end : words ≤ i) where
     pub keep-holds : marks ≡ keptMap hit marks₀ words

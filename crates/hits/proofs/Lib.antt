@@ -6,3 +6,4 @@ pub mod Pages
 pub mod Listed
 pub mod Pass
 pub mod Keep
+pub mod Write

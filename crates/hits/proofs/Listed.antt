@@ -41,8 +41,8 @@ module _ (hit : ℕ → Bool) (marks : List ℕ) (words : ℕ) (long : words ≤
   unfolding keptMap
   kept-summarised s = record {
     skipped = λ i h e.
-      let z : getD marks i 0 ≡ 0 = s .skipped i h (sym (flag-behind (λ i w. keptWord hit (i * 32) w) (λ i. kept-zero hit (i * 32)) marks words words (omega arith) i) ∙ e) in
-      word-changed (λ i w. keptWord hit (i * 32) w) marks words i h long ∙ rw z (kept-zero hit (i * 32));
+        let z : getD marks i 0 ≡ 0 = s .skipped i h (sym (flag-behind (λ i w. keptWord hit (i * 32) w) (λ i. kept-zero hit (i * 32)) marks words words (omega arith) i) ∙ e) in
+        word-changed (λ i w. keptWord hit (i * 32) w) marks words i h long ∙ rw z (kept-zero hit (i * 32));
   }
 
   pub list-kept : listOf (keptMap hit marks words) words ≡ rising (λ p. flag marks 0 p && hit p) 0 (words * 32)

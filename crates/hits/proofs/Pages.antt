@@ -7,8 +7,8 @@ use Prim.Native.Nat.{ℕ, zero, suc, _+_, _-_, _*_, _/_, _%_, _^_, _≤_, _<_}
 use native.Mathlib.Nat.{add-zero, add-suc, zero-add}
 use native.Mathlib.Numerals.{add-one}
 use native.Mathlib.Omega.{arith}
-use lib.ListN.{length, getD, set, take, drop, length-append, length-map, length-drop}
-use lib.Seq.{take-append-seam, drop-append-seam, drop-drop, drop-cons, take-length, paste, paste-zero, paste-suc, length-paste}
+use lib.ListN.{length, getD, set, take, drop, length-append, length-map, length-drop, drop-of-length-le}
+use lib.Seq.{take-append-seam, drop-append-seam, drop-drop, drop-cons, take-length, take-all, paste, paste-zero, paste-suc, length-paste}
 use Rattle.meaning.specs.Lists.{onto, keep, from, upto}
 use Rattle.words.specs.Bits.{bit, withBit, rising, bitsOf, lowest, ones, flag}
 use Rattle.words.proofs.Bits.{bit-zero, bits-step, bits-of-zero, ones-bits, cut-lt}
@@ -71,10 +71,22 @@ module _ (q : ℕ → Bool) where
 
 -- ---- written to a table
 
-pub onto-append : (xs ys table : List ℕ) → take (length xs) (onto xs table) ++ onto ys (drop (length xs) (onto xs table)) ≡ onto (xs ++ ys) table
+pub length-onto : (xs table : List ℕ) → length xs ≤ length table → length (onto xs table) ≡ length table
+unfolding onto
+length-onto xs table h = omega (arith, length-append xs (drop (length xs) table), length-drop (length xs) table)
+
+onto-append : (xs ys table : List ℕ) → take (length xs) (onto xs table) ++ onto ys (drop (length xs) (onto xs table)) ≡ onto (xs ++ ys) table
 unfolding onto
 onto-append xs ys table =
     rw (take-append-seam xs (drop (length xs) table), drop-append-seam xs (drop (length xs) table), drop-drop (length ys) (length xs) table, length-append xs ys, append-assoc xs ys (drop (length xs + length ys) table))
+
+-- more of them, to the part of the table from n on
+pub onto-part : (xs ys table₀ table part : List ℕ) (n : ℕ) → table ≡ onto xs table₀ → n ≡ length xs
+    → part ≡ onto ys (take (length table - n) (drop n table)) → take n table ++ (part ++ drop (length table - n) (drop n table)) ≡ onto (xs ++ ys) table₀
+onto-part xs ys table₀ table part n e f g =
+    let all : length (drop n table) ≤ length table - n = omega (arith, length-drop n table) in
+    rw (g, take-all (length table - n) (drop n table) all, drop-of-length-le (drop n table) all, append-nil (onto ys (drop n table)), e, f)
+    (onto-append xs ys table₀)
 
 -- the pages of a word in the first n places, where those of the bits that are left are still to come
 pub record Written (first word : ℕ) (table₀ table : List ℕ) (left n : ℕ) : Type 0 where
@@ -101,9 +113,9 @@ module _ (first word : ℕ) (table₀ : List ℕ) (room : length (pagesOf first 
         count = omega (arith, w .count);
         rest = rw add-one (cc);
         holds =
-          let place : n ≡ 0 + n = omega arith in
-          rw (w .holds, here, add-one n)
-          (ap (λ k. set (paste table₀ 0 (pagesOf first word) n) k (getD (pagesOf first word) n 0)) place ∙ paste-suc table₀ 0 (pagesOf first word) n 0 (omega arith) inside);
+            let place : n ≡ 0 + n = omega arith in
+            rw (w .holds, here, add-one n)
+            (ap (λ k. set (paste table₀ 0 (pagesOf first word) n) k (getD (pagesOf first word) n 0)) place ∙ paste-suc table₀ 0 (pagesOf first word) n 0 (omega arith) inside);
       }
 
   module _ (table : List ℕ) (left n : ℕ) (w : Written first word table₀ table left n) where

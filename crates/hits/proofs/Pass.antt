@@ -62,16 +62,20 @@ module _ (f : ℕ → ℕ → ℕ) (q : ℕ → Bool) (marks₀ : List ℕ) (wor
   pass-begin r e = rw e (reach 0 (omega arith))
 
   module _ (marks : List ℕ) (i n : ℕ) (p : Pass f q marks₀ words marks i n) (more : i < words) where
-    module _ (w : ℕ) (same : (k : ℕ) → k < 32 → q (i * 32 + k) ≡ bit w k) where
-      pub pass-next : (v r : ℕ) → v ≡ f i (getD marks i 0) → r ≡ nextWord (set marks i v) words (i + 1)
-          → Pass f q marks₀ words (set marks i v) r (n + ones w)
-      pass-next v r e g =
-          let changes : set marks i v ≡ changed f marks₀ (i + 1) = rw (e, p .holds) (changed-next f marks₀ i) in
-          let counts : n + ones w ≡ length (rising q 0 ((i + 1) * 32)) =
-          omega (arith, p .count, ap length (pages-next q i w same), length-append (rising q 0 (i * 32)) (pagesOf (i * 32) w), pages-ones (i * 32) w) in
-          let place : r ≡ nextWord marks₀ words (i + 1) = g ∙ rw changes (next-changed f none marks₀ words (i + 1) (omega arith) (i + 1)) in
-          rw (changes, counts, place) (reach (i + 1) (omega arith))
+    module _ (w : ℕ) (same : (k : ℕ) → k < 32 → q (i * 32 + k) ≡ bit w k) (v r : ℕ) (e : v ≡ f i (getD marks i 0))
+        (g : r ≡ nextWord (set marks i v) words (i + 1)) where
+      changes : set marks i v ≡ changed f marks₀ (i + 1)
+      changes = rw (e, p .holds) (changed-next f marks₀ i)
+
+      place : r ≡ nextWord marks₀ words (i + 1)
+      place = g ∙ rw changes (next-changed f none marks₀ words (i + 1) (omega arith) (i + 1))
 
       -- the pages before the next word
-      pub pass-pages : (r : ℕ) → r ≡ nextWord marks₀ words (i + 1) → rising q 0 (r * 32) ≡ rising q 0 (i * 32) ++ pagesOf (i * 32) w
-      pass-pages r e = rw e (pages-to-next q marks₀ words (i + 1) (omega arith) s only) ∙ pages-next q i w same
+      pub pass-pages : rising q 0 (r * 32) ≡ rising q 0 (i * 32) ++ pagesOf (i * 32) w
+      pass-pages = rw place (pages-to-next q marks₀ words (i + 1) (omega arith) s only) ∙ pages-next q i w same
+
+      pub pass-next : Pass f q marks₀ words (set marks i v) r (n + ones w)
+      pass-next =
+          let counts : n + ones w ≡ length (rising q 0 ((i + 1) * 32)) =
+          omega (arith, p .count, ap length (pages-next q i w same), length-append (rising q 0 (i * 32)) (pagesOf (i * 32) w), pages-ones (i * 32) w) in
+          rw (changes, counts, place) (reach (i + 1) (omega arith))

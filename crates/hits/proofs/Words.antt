@@ -75,8 +75,8 @@ module _ (hit : ℕ → Bool) (first word : ℕ) where
     left-fits = omega (arith, cut-lt left some (inv .left-fits), inv .left-fits);
     kept-fits = or-lt 32 kept (boolByte v * 2 ^ j % 2 ^ 32) (inv .kept-fits) (omega arith);
     bits = λ k.
-      rw (bit-or kept (boolByte v * 2 ^ j % 2 ^ 32) k, bit-shifted v j k (lowest-lt left some (inv .left-fits)), bit-with left j false k)
-      (go k (eqb k j) refl) ∙ inv .bits k;
+        rw (bit-or kept (boolByte v * 2 ^ j % 2 ^ 32) k, bit-shifted v j k (lowest-lt left some (inv .left-fits)), bit-with left j false k)
+        (go k (eqb k j) refl) ∙ inv .bits k;
   }
     where
       j : ℕ

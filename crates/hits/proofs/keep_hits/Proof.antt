@@ -1,3 +1,4 @@
+-- `keep_hits` leaves `keptMap`. The loop's invariant: of the pages before word i, n stay.
 use lib.ListN.{length-set}
 use borrow.Author.Needs.{needs}
 use Prim.Native.Nat.{_-_, _≤_}
@@ -10,10 +11,6 @@ use Rattle.hits.proofs.Pass.{pass-long, pass-most, pass-inside, pass-ro
 use Rattle.hits.proofs.Keep.{Kept, keep-begin, keep-next, keep-holds, keep-count, ones-most}
 use Rattle.hits.proofs.keep_hits.Statement.{statement}
 use Rattle.hits.proofs.keep_hits.Tie as tie
-use Rattle.hits.proofs.keep_hits.Reads as reads
-use Rattle.hits.proofs.keep_hits.Lts as lts
-use Rattle.hits.proofs.keep_in_word.Reads as keep-in-word-reads
-use Rattle.hits.proofs.next_word.Reads as next-word-reads
 
 abbrev Inv-loop : tie.InvT-loop
 Inv-loop map₀ words pages sketches h classes query radius n₀ i₀ map n i = Kept (isHit (test pages sketches h classes query radius)) map₀ words map i n
