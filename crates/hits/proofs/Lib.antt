@@ -7,3 +7,5 @@ pub mod Listed
 pub mod Pass
 pub mod Keep
 pub mod Write
+pub mod Summary
+pub mod Example
