@@ -1,15 +1,14 @@
 -- Laws of a table whose first n words are changed.
 use mathlib.Core.Path.{_≡_, refl, sym, _∙_}
-use mathlib.Core.Bool.{Bool, true, false}
 use mathlib.Core.List.{List}
-use Prim.Native.Nat.{ℕ, zero, suc, _+_, _-_, _*_, _/_, _%_, _≤_, _<_}
+use Prim.Native.Nat.{ℕ, zero, suc, _+_, _-_, _/_, _≤_, _<_}
 use native.Mathlib.Nat.{add-zero, zero-add, add-suc}
 use native.Mathlib.Numerals.{add-one}
 use native.Mathlib.Omega.{arith}
 use native.Mathlib.Decide.{ℕ-discrete}
 use lib.ListN.{length, getD, set, length-set}
 use lib.Seq.{getD-set-same, getD-set-other, set-getD}
-use Rattle.words.specs.Bits.{rising, flag, zeroed}
+use Rattle.words.specs.Bits.{flag, zeroed}
 use Rattle.words.proofs.Rising.{rising-same}
 use Rattle.words.proofs.Flags.{zeroed-none, zeroed-next, length-zeroed}
 use Rattle.hits.specs.Marks.{Summarised, nextWord, changed}
@@ -52,7 +51,7 @@ module _ (f : ℕ → ℕ → ℕ) (ws : List ℕ) where
       (changed-over n d (λ k l u. stays k l (omega arith)))
 
 -- a map is changed from word to word of those that the second map has
-module _ (f : ℕ → ℕ → ℕ) (none : (i : ℕ) → f i 0 ≡ 0) (marks : List ℕ) (words n : ℕ) (inside : n ≤ words) where
+module _ (f : ℕ → ℕ → ℕ) (marks : List ℕ) (words n : ℕ) (inside : n ≤ words) where
   -- the second map stays
   pub flag-behind : (k : ℕ) → flag (changed f marks n) words k ≡ flag marks words k
   unfolding flag
@@ -62,8 +61,8 @@ module _ (f : ℕ → ℕ → ℕ) (none : (i : ℕ) → f i 0 ≡ 0) (marks : L
   unfolding nextWord
   next-changed i = rw (rising-same (flag (changed f marks n) words) (flag marks words) i (words - i) (λ k l h. flag-behind k))
 
-  pub changed-to-next : Summarised marks words → changed f marks (nextWord marks words n) ≡ changed f marks n
-  changed-to-next s =
+  pub changed-to-next : ((i : ℕ) → f i 0 ≡ 0) → Summarised marks words → changed f marks (nextWord marks words n) ≡ changed f marks n
+  changed-to-next none s =
       let x : Next marks words n (nextWord marks words n) = next-word marks words n inside in
       let e : nextWord marks words n ≡ n + (nextWord marks words n - n) = omega (arith, x .from) in
       rw e (changed-over f marks n (nextWord marks words n - n) (λ k l u.

@@ -1,5 +1,5 @@
 -- What is listed: the marked pages that are hits. Where every page that a search is to list is marked, these are all of them.
-use mathlib.Core.Path.{_≡_, refl, sym, ap, _∙_}
+use mathlib.Core.Path.{_≡_, refl, sym, _∙_}
 use mathlib.Core.Bool.{Bool, true, false, _&&_, and-false}
 use mathlib.Core.List.{List}
 use Prim.Native.Nat.{ℕ, _+_, _*_, _/_, _%_, _≤_, _<_}
@@ -17,7 +17,7 @@ use Rattle.rights.specs.Open.{openClasses}
 use Rattle.rights.proofs.Open.{is-open-opens}
 use Rattle.promises.specs.Tables.{Tables, given, pageClass, pageRow, isShown, scan}
 use Rattle.hits.specs.Hit.{Test, test, isHit}
-use Rattle.hits.specs.Marks.{keptWord, Summarised, listOf, changed, keptMap}
+use Rattle.hits.specs.Marks.{keptWord, Summarised, listOf, keptMap}
 use Rattle.hits.proofs.Words.{kept-bit, kept-zero}
 use Rattle.hits.proofs.Changed.{word-behind, word-changed, flag-behind}
 use Rattle.hits.proofs.Pages.{rising-over, rising-keep}
@@ -41,7 +41,7 @@ module _ (hit : ℕ → Bool) (marks : List ℕ) (words : ℕ) (long : words ≤
   unfolding keptMap
   kept-summarised s = record {
     skipped = λ i h e.
-        let z : getD marks i 0 ≡ 0 = s .skipped i h (sym (flag-behind (λ i w. keptWord hit (i * 32) w) (λ i. kept-zero hit (i * 32)) marks words words (omega arith) i) ∙ e) in
+        let z : getD marks i 0 ≡ 0 = s .skipped i h (sym (flag-behind (λ i w. keptWord hit (i * 32) w) marks words words (omega arith) i) ∙ e) in
         word-changed (λ i w. keptWord hit (i * 32) w) marks words i h long ∙ rw z (kept-zero hit (i * 32));
   }
 
@@ -77,17 +77,20 @@ module _ (T : Tables) (reader radius : ℕ) (x : List ℕ) where
   unfolding isHit isShown pageClass pageRow
   hit-wanted p h = rw (lt-ltb p (given T .pages) h, is-open-opens)
 
-  pub list-scan : (marks : List ℕ) (words : ℕ) → words ≤ length marks → given T .pages ≤ words * 32
-      → ((p : ℕ) → p < given T .pages → wanted p ≡ true → flag marks 0 p ≡ true)
-      → listOf (keptMap (isHit testOf) marks words) words ≡ scan T reader radius x
-  unfolding scan
-  list-scan marks words long room complete =
-      list-hits testOf marks words long room ∙ keep-same (λ p. flag marks 0 p && isHit testOf p) wanted (given T .pages) same
-    where
-      go : (s t : Bool) → (t ≡ true → s ≡ true) → s && t ≡ t
-      go true t e = refl
-      go false true e = e refl
-      go false false e = refl
+  module _ (marks : List ℕ) (words : ℕ) (long : words ≤ length marks) (room : given T .pages ≤ words * 32) where
+    pub list-wanted : listOf (keptMap (isHit testOf) marks words) words ≡ keep (λ p. flag marks 0 p && wanted p) (upto (given T .pages))
+    list-wanted =
+        list-hits testOf marks words long room
+        ∙ keep-same (λ p. flag marks 0 p && isHit testOf p) (λ p. flag marks 0 p && wanted p) (given T .pages) (λ p h. rw (hit-wanted p h))
 
-      same : (p : ℕ) → p < given T .pages → flag marks 0 p && isHit testOf p ≡ wanted p
-      same p h = rw (hit-wanted p h) (go (flag marks 0 p) (wanted p) (complete p h))
+    -- all of them, where they are marked
+    pub list-scan : ((p : ℕ) → p < given T .pages → wanted p ≡ true → flag marks 0 p ≡ true)
+        → listOf (keptMap (isHit testOf) marks words) words ≡ scan T reader radius x
+    unfolding scan
+    list-scan complete =
+        list-wanted ∙ keep-same (λ p. flag marks 0 p && wanted p) wanted (given T .pages) (λ p h. go (flag marks 0 p) (wanted p) (complete p h))
+      where
+        go : (s t : Bool) → (t ≡ true → s ≡ true) → s && t ≡ t
+        go true t e = refl
+        go false true e = e refl
+        go false false e = refl

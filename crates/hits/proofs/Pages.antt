@@ -1,18 +1,18 @@
 -- The marked pages that pass a test, rising: word by word, and as they are written to a table.
 use mathlib.Core.Path.{_≡_, refl, sym, ap, _∙_}
-use mathlib.Core.Bool.{Bool, true, false, cond, _&&_}
+use mathlib.Core.Bool.{Bool, true, false, cond}
 use mathlib.Core.Logic.{_≢_}
-use mathlib.Core.List.{List, [], _∷_, _++_, map, append-assoc, append-nil}
+use mathlib.Core.List.{List, [], _∷_, _++_, append-assoc, append-nil}
 use Prim.Native.Nat.{ℕ, zero, suc, _+_, _-_, _*_, _/_, _%_, _^_, _≤_, _<_}
 use native.Mathlib.Nat.{add-zero, add-suc, zero-add}
 use native.Mathlib.Numerals.{add-one}
 use native.Mathlib.Omega.{arith}
 use lib.ListN.{length, getD, set, take, drop, length-append, length-map, length-drop, drop-of-length-le}
 use lib.Seq.{take-append-seam, drop-append-seam, drop-drop, drop-cons, take-length, take-all, paste, paste-zero, paste-suc, length-paste}
-use Rattle.meaning.specs.Lists.{onto, keep, from, upto}
+use Rattle.meaning.specs.Lists.{onto, keep, from}
 use Rattle.words.specs.Bits.{bit, withBit, rising, bitsOf, lowest, ones, flag}
 use Rattle.words.proofs.Bits.{bit-zero, bits-step, bits-of-zero, ones-bits, cut-lt}
-use Rattle.words.proofs.Rising.{rising-same, rising-add, rising-map}
+use Rattle.words.proofs.Rising.{rising-add, rising-map}
 use Rattle.hits.specs.Marks.{pagesOf, Summarised, nextWord}
 use Rattle.hits.proofs.Next.{Next, next-word}
 

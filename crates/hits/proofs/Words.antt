@@ -2,8 +2,8 @@
 use mathlib.Core.Path.{_≡_, refl, sym, _∙_}
 use mathlib.Core.Bool.{Bool, true, false, cond, _&&_, _||_}
 use mathlib.Core.Logic.{_≢_}
-use Prim.Native.Nat.{ℕ, zero, suc, _+_, _*_, _%_, _^_, _≤_, _<_}
-use native.Mathlib.Nat.{pow-suc, one-mul, zero-mul, zero-mod}
+use Prim.Native.Nat.{ℕ, zero, suc, _+_, _*_, _%_, _^_, _<_}
+use native.Mathlib.Nat.{pow-suc, one-mul, zero-mul}
 use native.Mathlib.Omega.{arith}
 use lib.Dec.{eqb}
 use lib.Bits.{bitOr, or-zero-l, or-lt}
@@ -11,7 +11,7 @@ use mir.Val.{boolByte}
 use lib.Pow.{shl-exact}
 use borrow.Author.Tests.{eqb-true, eqb-false}
 use Rattle.words.specs.Bits.{bit, withBit, lowest}
-use Rattle.words.proofs.Bits.{bit-zero, bit-or, bit-with, with-or, with-lt, same-word, zero-word, lowest-lt, lowest-set, cut-lt}
+use Rattle.words.proofs.Bits.{bit-zero, bit-or, bit-with, with-or, with-lt, same-word, lowest-lt, lowest-set, cut-lt}
 use Rattle.hits.specs.Marks.{wordOf, keptWord}
 
 word-lt : (p : ℕ → Bool) (n : ℕ) → wordOf p n < 2 ^ n

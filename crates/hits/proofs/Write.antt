@@ -1,18 +1,17 @@
 -- The pass that writes the marked pages to a table and clears their words.
 use mathlib.Core.Path.{_≡_, refl, sym, ap, _∙_}
-use mathlib.Core.Bool.{false}
-use mathlib.Core.List.{List, [], _++_}
+use mathlib.Core.List.{List, _++_}
 use Prim.Native.Nat.{ℕ, _+_, _-_, _*_, _≤_, _<_}
 use native.Mathlib.Nat.{zero-add}
 use native.Mathlib.Omega.{arith}
 use lib.ListN.{length, getD, set, take, drop, length-append, length-take, length-drop}
 use Rattle.meaning.specs.Lists.{onto}
-use Rattle.words.specs.Bits.{bit, rising, ones, flag, zeroed}
+use Rattle.words.specs.Bits.{bit, rising, flag, zeroed}
 use Rattle.words.proofs.Flags.{flag-bit}
 use Rattle.hits.specs.Marks.{pagesOf, summaryOf, Room, Summarised, nextWord, listOf}
 use Rattle.hits.proofs.Changed.{changed-zeros, zeroed-zeroed}
-use Rattle.hits.proofs.Pages.{pages-ones, pages-next, pages-to-next, rising-most, length-onto, onto-part}
-use Rattle.hits.proofs.Pass.{Pass, pass-word, pass-holds, pass-begin, pass-next, pass-pages}
+use Rattle.hits.proofs.Pages.{pages-ones, pages-next, rising-most, length-onto, onto-part}
+use Rattle.hits.proofs.Pass.{Pass, pass-word, pass-holds, Passable, pass-begin, pages-begin, pass-next, pages-more}
 
 module _ (marks₀ : List ℕ) (words : ℕ) (out₀ : List ℕ) where
   -- the n pages before word i are written
@@ -45,36 +44,33 @@ module _ (marks₀ : List ℕ) (words : ℕ) (out₀ : List ℕ) where
           (zeroed-zeroed marks₀ words (summaryOf words) (room .long))
 
   module _ (s : Summarised marks₀ words) where
-    only : (p : ℕ) → flag marks₀ 0 p ≡ false → flag marks₀ 0 p ≡ false
-    only p e = e
+    passable : Passable (λ i w. 0) (flag marks₀ 0) marks₀ words
+    passable = record { none = λ i. refl; only = λ p e. e; summarised = s }
 
     pub write-begin : (r : ℕ) → r ≡ nextWord marks₀ words 0 → Wrote marks₀ out₀ r 0
-    unfolding rising onto
-    write-begin r e = record {
-      pass = pass-begin (λ i w. 0) (flag marks₀ 0) marks₀ words (λ i. refl) only s r e;
-      holds = rw (e, pages-to-next (flag marks₀ 0) marks₀ words 0 (omega arith) s only);
-    }
+    unfolding onto
+    write-begin r e = record { pass = pass-begin passable r e; holds = rw (pages-begin passable r e) }
 
     module _ {marks out : List ℕ} {i n : ℕ} (w : Wrote marks out i n) (more : i < words) where
       same : (k : ℕ) → k < 32 → flag marks₀ 0 (i * 32 + k) ≡ bit (getD marks i 0) k
       same k h = rw (flag-bit marks₀ 0 i k h, zero-add i, pass-word (w .pass))
 
-      pub write-next : (c r : ℕ) (part : List ℕ) → c ≡ length (pagesOf (i * 32) (getD marks i 0))
-          → part ≡ onto (pagesOf (i * 32) (getD marks i 0)) (take (length out - n) (drop n out)) → r ≡ nextWord (set marks i 0) words (i + 1)
+      abbrev new : List ℕ
+      new = pagesOf (i * 32) (getD marks i 0)
+
+      pub write-next : (c : ℕ) (part : List ℕ) → c ≡ length new → part ≡ onto new (take (length out - n) (drop n out))
+          → (r : ℕ) → r ≡ nextWord (set marks i 0) words (i + 1)
           → Wrote (set marks i 0) (take n out ++ (part ++ drop (length out - n) (drop n out))) r (n + c)
-      write-next c r part e g h =
-          let next : Pass (λ i w. 0) (flag marks₀ 0) marks₀ words (set marks i 0) r (n + ones (getD marks i 0)) =
-          pass-next (λ i w. 0) (flag marks₀ 0) marks₀ words (λ i. refl) only s marks i n (w .pass) more (getD marks i 0) same 0 r refl h in
-          record {
-            pass = rw (e, pages-ones (i * 32) (getD marks i 0)) next;
-            holds =
-                onto-part (rising (flag marks₀ 0) 0 (i * 32)) (pagesOf (i * 32) (getD marks i 0)) out₀ out part n (w .holds) (w .pass .count) g
-                ∙ ap (λ l. onto l out₀) (sym (pass-pages (λ i w. 0) (flag marks₀ 0) marks₀ words (λ i. refl) only s marks i n (w .pass) more (getD marks i 0) same 0 r refl h));
-          }
+      write-next c part e g r h = record {
+        pass = rw (e, pages-ones (i * 32) (getD marks i 0)) (pass-next passable (w .pass) more 0 refl r h (getD marks i 0) same);
+        holds =
+            onto-part (rising (flag marks₀ 0) 0 (i * 32)) new out₀ out part n (w .holds) (w .pass .count) g
+            ∙ ap (λ l. onto l out₀) (sym (pages-more passable (w .pass) more 0 refl r h (getD marks i 0) same));
+      }
 
       -- there is room for the pages of word i
       module _ (room : length (listOf marks₀ words) ≤ length out₀) where
-        pub write-fits : length (pagesOf (i * 32) (getD marks i 0)) ≤ length (take (length out - n) (drop n out))
+        pub write-fits : length new ≤ length (take (length out - n) (drop n out))
         unfolding listOf
         write-fits =
             rw (length-take (length out - n) (drop n out), length-drop n out)
@@ -83,6 +79,6 @@ module _ (marks₀ : List ℕ) (words : ℕ) (out₀ : List ℕ) where
               w .pass .count,
               write-long w room,
               ap length (pages-next (flag marks₀ 0) i (getD marks i 0) same),
-              length-append (rising (flag marks₀ 0) 0 (i * 32)) (pagesOf (i * 32) (getD marks i 0)),
+              length-append (rising (flag marks₀ 0) 0 (i * 32)) new,
               rising-most (flag marks₀ 0) ((i + 1) * 32) (words * 32) (omega arith),
             ))

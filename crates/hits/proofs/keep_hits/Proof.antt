@@ -1,5 +1,4 @@
 -- `keep_hits` leaves `keptMap`. The loop's invariant: of the pages before word i, n stay.
-use lib.ListN.{length-set}
 use borrow.Author.Needs.{needs}
 use Prim.Native.Nat.{_-_, _≤_}
 use native.Mathlib.Omega.{arith}
@@ -74,7 +73,7 @@ loop-less c =
 loop-again : tie.Need-loop-again Inv-loop μ-loop
 loop-again c =
     let loop = c .before .before .before .before in
-    keep-next _ _ _ (start (loop .before) .pre .1 .0) (loop .before .loop .inv) (loop .loop-test .taken) _ _ (c .before .before .keep-in-word .ensures) (c .next-word2 .ensures)
+    keep-next _ _ _ (start (loop .before) .pre .1 .0) (loop .before .loop .inv) (loop .loop-test .taken) _ (c .before .before .keep-in-word .ensures) _ (c .next-word2 .ensures)
 
 same-length : tie.Need-same-length Inv-loop μ-loop
 same-length c = pass-long (c .before .loop .inv)

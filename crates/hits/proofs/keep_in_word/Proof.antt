@@ -1,7 +1,5 @@
 -- `keep_in_word` is `keptWord`. The loop's invariant: what is kept, with the hits among the bits that are left, is what is to be kept.
 -- The measure is the word of the bits that are left.
-use native.Mathlib.Omega.{arith}
-use lib.ListN.{length-set}
 use borrow.Author.Needs.{needs}
 use Prim.Native.Nat.{_<_}
 use Rattle.words.proofs.Bits.{lowest-lt, cut-lt}

@@ -1,6 +1,5 @@
 -- `write_hits` writes `listOf` and clears both maps. The loop's invariant: the pages before word i are written.
 use native.Mathlib.Omega.{arith}
-use lib.ListN.{length-set}
 use borrow.Author.Needs.{needs}
 use mathlib.Core.Path.{_∙_}
 use Prim.Native.Nat.{_-_, _*_, _≤_, _<_}
@@ -93,8 +92,8 @@ loop-again : tie.Need-loop-again Inv-loop μ-loop
 loop-again c =
     let call = c .before .before .before .before in
     let loop = call .before .before .before in
-    write-next _ _ _ (start (loop .before) .pre .1 .0) (loop .before .loop .inv) (loop .loop-test .taken) _ _ _
-    (call .write-word .ensures .1) (call .write-word .ensures .0) (c .next-word2 .ensures)
+    write-next _ _ _ (start (loop .before) .pre .1 .0) (loop .before .loop .inv) (loop .loop-test .taken) _ _
+    (call .write-word .ensures .1) (call .write-word .ensures .0) _ (c .next-word2 .ensures)
 
 add-zero-run : tie.Need-add-zero-run Inv-loop μ-loop
 add-zero-run c = search needs
