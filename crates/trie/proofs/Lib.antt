@@ -10,3 +10,5 @@ pub mod Bytes
 pub mod Split
 pub mod Spans
 pub mod Grow
+pub mod Ways
+pub mod Insert

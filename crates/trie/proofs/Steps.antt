@@ -6,7 +6,7 @@ use mathlib.Core.Bool.{Bool, true, false, cond}
 use native.Mathlib.Omega.{arith}
 use borrow.Author.Tests.{le-ltb, lt-ltb, eq-eqb, ne-eqb, le-leb, lt-leb, ltb-true, ltb-false}
 use lib.Dec.{ltb, leb, eqb}
-use lib.ListN.{getD}
+use lib.ListN.{length, getD}
 use Rattle.meaning.specs.Trie.{child}
 use Rattle.layout.specs.Nodes.{stateAt}
 use Rattle.trie.specs.declared.Got.{Got}
@@ -17,10 +17,13 @@ use Rattle.trie.specs.declared.Reach.the-variants.{Leaf, Gap, Lost}
 use Rattle.trie.specs.declared.Rows.{Rows}
 use Rattle.trie.specs.declared.Span.{Span}
 use Rattle.trie.specs.declared.Span.the-variants.{Enough, Short, Wild}
+use Rattle.trie.specs.declared.Target.{Target}
+use Rattle.trie.specs.declared.Target.the-variants.{Ready, NoRoom, Damaged}
 use Rattle.trie.specs.declared.Place.{Place}
 use Rattle.trie.specs.declared.Place.the-variants.{Found, Missing, Broken}
 use Rattle.trie.specs.Tables.{RowTable}
-use Rattle.trie.specs.Model.{Inside, linkAt, childAt, byteIn, placeFrom, findPlace, linkLeaf, nodeIn, freshLeaf, childLeaf, pushNodes, pushPages, pushPage, After, putLeafM, pageByte, onPut, splitFrom, spanFrom, openLeaf, levelAt, tooLong, splitLeaf, growSpan, growInto, growLeaf, onward, descend, made, pushed, after}
+use Rattle.trie.specs.Model.{Inside, linkAt, childAt, byteIn, placeFrom, findPlace, linkLeaf, nodeIn, freshLeaf, childLeaf, pushNodes, pushPages, pushPage, After, putLeafM, pageByte, onPut, splitFrom, spanFrom, openLeaf, levelAt, tooLong, splitLeaf, growSpan, growInto, growLeaf, Reached, onward, descend, targetIn, aimMade, aimAt, leafFor, insertAt, insertPage, made, pushed, after, aimed}
+use Rattle.trie.specs.Phys.{root}
 use mir.Val.{Fits}
 use mir.Syntax.{w32, w64}
 
@@ -280,3 +283,57 @@ module _ (N : List ℕ) (cap : ℕ) (Y : List ℕ) (s n k len : ℕ) (R : Reach)
 
       pub reach-lost : r ≡ Broken → Lost ≡ R
       reach-lost q = rw q at reach-on
+
+-- `leafFor`, by each way
+module _ (N : List ℕ) (cap : ℕ) (Y : List ℕ) (root free : ℕ) (x : Reach) (e : x ≡ descend N cap Y root root 0 (length Y)) where
+  aim-step : aimAt N cap Y free x ≡ leafFor N cap Y root free
+  unfolding leafFor
+  aim-step = ap (aimAt N cap Y free) e
+
+  pub aim-leaf : (s n k : ℕ) → x ≡ Leaf s n k → aimed N (Ready n k free) ≡ leafFor N cap Y root free
+  aim-leaf s n k q = rw q at aim-step
+
+  pub aim-lost : x ≡ Lost → aimed N Damaged ≡ leafFor N cap Y root free
+  aim-lost q = rw q at aim-step
+
+  module _ (s k : ℕ) (q : x ≡ Gap s k) (ns : List ℕ) (g : Got) (u : made ns g ≡ freshLeaf N cap s (getD Y k 0) free) where
+    aim-gap : aimMade (k + 1) (made ns g) ≡ leafFor N cap Y root free
+    aim-gap = ap (aimMade (k + 1)) u ∙ rw q at aim-step
+
+    pub aim-made : (n next : ℕ) → g ≡ Node n next → aimed ns (Ready n (k + 1) next) ≡ leafFor N cap Y root free
+    aim-made n next z = rw z at aim-gap
+
+    pub aim-full : g ≡ Full → aimed ns NoRoom ≡ leafFor N cap Y root free
+    aim-full z = rw z at aim-gap
+
+    pub aim-bad : g ≡ Bad → aimed ns Damaged ≡ leafFor N cap Y root free
+    aim-bad z = rw z at aim-gap
+
+-- the bounds that a match tells
+pub leaf-node : (cap len : ℕ) (x : Reach) (s n k : ℕ) → x ≡ Leaf s n k → Reached cap len x → n < cap
+leaf-node cap len x s n k e h = (rw e at h) .1
+
+pub gap-slot : (cap len : ℕ) (x : Reach) (s k : ℕ) → x ≡ Gap s k → Reached cap len x → s < 10 * cap
+gap-slot cap len x s k e h = (rw e at h) .0
+
+pub gap-level : (cap len : ℕ) (x : Reach) (s k : ℕ) → x ≡ Gap s k → Reached cap len x → k < len
+gap-level cap len x s k e h = (rw e at h) .1
+
+pub target-in : (cap : ℕ) (x : Target) (n k free : ℕ) → x ≡ Ready n k free → targetIn x ≤ cap → n < cap
+target-in cap x n k free e h = rw e at h
+
+-- `insertPage`, by each way
+module _ (S τ : List ℕ) (r : Rows) (cap pcap base : ℕ) (N P Y : List ℕ) (root p free : ℕ) (ns : List ℕ) (x : Target) (e : aimed ns x ≡ leafFor N cap Y root free) where
+  insert-step : insertAt S τ r cap pcap base P p (aimed ns x) ≡ insertPage S τ r cap pcap base N P Y root p free
+  unfolding insertPage
+  insert-step = ap (insertAt S τ r cap pcap base P p) e
+
+  pub insert-grow : (n k next : ℕ) → x ≡ Ready n k next → (ns' ps' : List ℕ) (a : Got) → after ns' ps' a ≡ growLeaf S τ r cap pcap base ns P k n p next →
+      after ns' ps' a ≡ insertPage S τ r cap pcap base N P Y root p free
+  insert-grow n k next q ns' ps' a u = u ∙ rw q at insert-step
+
+  pub insert-full : x ≡ NoRoom → after ns P Full ≡ insertPage S τ r cap pcap base N P Y root p free
+  insert-full q = rw q at insert-step
+
+  pub insert-bad : x ≡ Damaged → after ns P Bad ≡ insertPage S τ r cap pcap base N P Y root p free
+  insert-bad q = rw q at insert-step

@@ -14,6 +14,8 @@ use Rattle.trie.specs.declared.Reach.the-variants.{Leaf, Gap, Lost}
 use Rattle.trie.specs.declared.Rows.{Rows}
 use Rattle.trie.specs.declared.Span.{Span}
 use Rattle.trie.specs.declared.Span.the-variants.{Enough, Short, Wild}
+use Rattle.trie.specs.declared.Target.{Target}
+use Rattle.trie.specs.declared.Target.the-variants.{Ready, NoRoom, Damaged}
 use Rattle.trie.specs.declared.Place.{Place}
 use Rattle.trie.specs.declared.Place.the-variants.{Found, Missing, Broken}
 
@@ -195,3 +197,37 @@ unfoldable pub descend : List ℕ → ℕ → List ℕ → ℕ → ℕ → ℕ �
 descend N cap Y s n k zero = cond (leb 2 (getD N (stateAt cap n) 0)) (Leaf s n k) Lost
 descend N cap Y s n k (suc f) =
     cond (leb 2 (getD N (stateAt cap n) 0)) (Leaf s n k) (onward (λ s' c. descend N cap Y s' c (k + 1) f) k (findPlace N cap n (getD Y k 0)))
+
+-- the node table and the answer
+pub data Aimed : Type 0 where
+  aimed : List ℕ → Target → Aimed
+
+-- one above the node of an answer
+abbrev pub targetIn : Target → ℕ
+targetIn (Ready n k free) = suc n
+targetIn NoRoom = 0
+targetIn Damaged = 0
+
+abbrev pub aimMade : ℕ → Made → Aimed
+aimMade k (made N (Node n free)) = aimed N (Ready n k free)
+aimMade k (made N Full) = aimed N NoRoom
+aimMade k (made N Bad) = aimed N Damaged
+
+abbrev pub aimAt : List ℕ → ℕ → List ℕ → ℕ → Reach → Aimed
+aimAt N cap Y free (Leaf s n k) = aimed N (Ready n k free)
+aimAt N cap Y free (Gap s k) = aimMade (k + 1) (freshLeaf N cap s (getD Y k 0) free)
+aimAt N cap Y free Lost = aimed N Damaged
+
+-- the leaf that the bytes Y lead to from a root, which is made where it is missing
+unfoldable pub leafFor : List ℕ → ℕ → List ℕ → ℕ → ℕ → Aimed
+leafFor N cap Y root free = aimAt N cap Y free (descend N cap Y root root 0 (length Y))
+
+-- page p put into the trie with a root, along its bytes Y
+module _ (S τ : List ℕ) (r : Rows) (cap pcap base : ℕ) where
+  abbrev pub insertAt : List ℕ → ℕ → Aimed → After
+  insertAt P p (aimed N (Ready n k free)) = growLeaf S τ r cap pcap base N P k n p free
+  insertAt P p (aimed N NoRoom) = after N P Full
+  insertAt P p (aimed N Damaged) = after N P Bad
+
+  unfoldable pub insertPage : List ℕ → List ℕ → List ℕ → ℕ → ℕ → ℕ → After
+  insertPage N P Y root p free = insertAt P p (leafFor N cap Y root free)

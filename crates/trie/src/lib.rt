@@ -4,7 +4,7 @@ ghost use Prim.Native.Nat.{ℕ, _+_, _*_, _<_, _≤_, _-_};
 ghost use lib.ListN.{length, getD, set};
 ghost use Rattle.layout.specs.Nodes.{withLink};
 ghost use Rattle.trie.specs.Tables.{NodeTable, PageTable, SketchTable, RowTable};
-ghost use Rattle.trie.specs.Model.{Inside, findPlace, linkLeaf, made, freshLeaf, childLeaf, nodeIn, pushed, pushPage, after, putLeafM, rowByte, pageByte, splitFrom, spanFrom, openLeaf, levelAt, tooLong, splitLeaf, growLeaf, descend, Reached};
+ghost use Rattle.trie.specs.Model.{Inside, findPlace, linkLeaf, made, freshLeaf, childLeaf, nodeIn, pushed, pushPage, after, putLeafM, rowByte, pageByte, splitFrom, spanFrom, openLeaf, levelAt, tooLong, splitLeaf, growLeaf, descend, Reached, aimed, leafFor, targetIn, insertPage};
 
 // A chain word is a link and, times this, a byte.
 const LINKS: u32 = 524288;
@@ -456,5 +456,75 @@ pub fn descend_to(nodes: &[u32], cap: usize, bytes: &[u8], root: usize) -> Reach
                 return Reach::Lost;
             }
         }
+    }
+}
+
+// A leaf that a page belongs into, with its level and the first free link; or why there is none.
+pub enum Target {
+    Ready(usize, usize, u32),
+    NoRoom,
+    Damaged,
+}
+
+// The leaf that bytes lead to, which is made, empty, where it is missing.
+pub fn leaf_for(nodes: &mut [u32], cap: usize, bytes: &[u8], root: usize, free: u32) -> Target
+    requires { ⌜ NodeTable cap (now nodes) ⌝ }
+    requires { ⌜ root < cap ⌝ }
+    ensures { λ r. ⌜ aimed (now (nodes .exit)) r ≡ leafFor (now (nodes .entry)) cap (now (bytes .entry)) root free ⌝ }
+    ensures inside { λ r. ⌜ targetIn r ≤ cap ⌝ }
+{
+    let reach = descend_to(nodes, cap, bytes, root);
+    match reach {
+        Reach::Leaf(_, n, k) => Target::Ready(n, k, free),
+        Reach::Gap(slot, k) => {
+            let level = k + 1;
+            let got = fresh_leaf(nodes, cap, slot, bytes[k] as u32, free);
+            match got {
+                Got::Node(n, next) => Target::Ready(n, level, next),
+                Got::Full => Target::NoRoom,
+                Got::Bad => Target::Damaged,
+            }
+        }
+        Reach::Lost => Target::Damaged,
+    }
+}
+
+// A page put into the trie with a root, along its packed bytes.
+pub fn insert_page(
+    nodes: &mut [u32],
+    pages: &mut [u32],
+    sketches: &[u8],
+    thresholds: &[u32],
+    bytes: &[u8],
+    block: Block,
+    rows: Rows,
+    root: usize,
+    p: usize,
+    free: u32,
+) -> Got
+    requires { ⌜ NodeTable (block .nodes) (now nodes) ⌝ }
+    requires { ⌜ PageTable (block .pages) (block .base) (now pages) ⌝ }
+    requires { ⌜ RowTable (block .pages) rows (now sketches) ⌝ }
+    requires { ⌜ rows .bytes ≤ length (now thresholds) ⌝ }
+    requires { ⌜ root < block .nodes ⌝ }
+    requires { ⌜ p < block .pages ⌝ }
+    ensures { λ r. ⌜ after (now (nodes .exit)) (now (pages .exit)) r ≡ insertPage (now (sketches .entry)) (now (thresholds .entry)) rows (block .nodes) (block .pages) (block .base) (now (nodes .entry)) (now (pages .entry)) (now (bytes .entry)) root p free ⌝ }
+{
+    let target = leaf_for(nodes, block.nodes, bytes, root, free);
+    match target {
+        Target::Ready(n, k, next) => grow_leaf(
+            nodes,
+            pages,
+            sketches,
+            thresholds,
+            block,
+            rows,
+            k,
+            n,
+            p,
+            next,
+        ),
+        Target::NoRoom => Got::Full,
+        Target::Damaged => Got::Bad,
     }
 }
