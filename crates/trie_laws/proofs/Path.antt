@@ -11,35 +11,35 @@ use Rattle.trie_laws.specs.Sound.{pagesIn, filled}
 use Rattle.trie_laws.specs.Needed.{splitNodes, needed, frees}
 use Rattle.trie_laws.specs.Path.{has, kid, dropKid, putKid, pruneKid, hasBelow, below, setBelow, hasPath, subtree, replace, pathOf}
 use Rattle.trie_laws.proofs.Lists.{and-first, and-second}
-use Rattle.trie_laws.proofs.Kids.{has-setKid, kid-setKid, setKid-setKid, setKid-same, setKid-nodes, setKid-count, insertIn-there, insertIn-gap, neededIn-there, neededIn-gap, removeIn-there, freesIn-there}
+use Rattle.trie_laws.proofs.Kids.{has-set, kid-set, set-set, set-same, set-nodes, set-count, insert-there, insert-gap, needed-there, needed-gap, remove-there, frees-there}
 
 -- ---- one step
 module _ (y : ℕ) (u : Tree) where
   has-below : (t : Tree) → hasBelow y (setBelow y u t) ≡ hasBelow y t
   unfolding hasBelow setBelow
   has-below (leaf ps) = refl
-  has-below (inner cs) = has-setKid y u cs
+  has-below (inner cs) = has-set y u cs
 
   below-set : (t : Tree) → hasBelow y t ≡ true → below y (setBelow y u t) ≡ u
   unfolding hasBelow below setBelow
   below-set (leaf ps) h = absurd (false≢true h)
-  below-set (inner cs) h = kid-setKid y u cs h
+  below-set (inner cs) h = kid-set y u cs h
 
   set-below : (v : Tree) (t : Tree) → setBelow y u (setBelow y v t) ≡ setBelow y u t
   unfolding setBelow
   set-below v (leaf ps) = refl
-  set-below v (inner cs) = ap inner (setKid-setKid y u v cs)
+  set-below v (inner cs) = ap inner (set-set y u v cs)
 
   below-nodes : (t : Tree) → hasBelow y t ≡ true → nodes (setBelow y u t) + nodes (below y t) ≡ nodes t + nodes u
   unfolding hasBelow below setBelow nodes
   below-nodes (leaf ps) h = absurd (false≢true h)
-  below-nodes (inner cs) h = omega (arith, setKid-nodes y u cs h)
+  below-nodes (inner cs) h = omega (arith, set-nodes y u cs h)
 
   below-count : (q : ℕ → Bool) (t : Tree) → hasBelow y t ≡ true →
       count q (pagesIn (setBelow y u t)) + count q (pagesIn (below y t)) ≡ count q (pagesIn t) + count q (pagesIn u)
   unfolding hasBelow below setBelow pagesIn
   below-count q (leaf ps) h = absurd (false≢true h)
-  below-count q (inner cs) h = setKid-count y u q cs h
+  below-count q (inner cs) h = set-count y u q cs h
 
   below-filled : (t : Tree) → hasBelow y t ≡ true → filled (setBelow y u t) ≡ true
   unfolding hasBelow setBelow filled
@@ -49,7 +49,7 @@ module _ (y : ℕ) (u : Tree) where
 below-same : (y : ℕ) (t : Tree) → setBelow y (below y t) t ≡ t
 unfolding below setBelow
 below-same y (leaf ps) = refl
-below-same y (inner cs) = ap inner (setKid-same y cs)
+below-same y (inner cs) = ap inner (set-same y cs)
 
 pub path-parts : (y : ℕ) (ys : List ℕ) (t : Tree) → hasPath (y ∷ ys) t ≡ true → (hasBelow y t ≡ true) × (hasPath ys (below y t) ≡ true)
 unfolding hasPath
@@ -116,7 +116,7 @@ module _ (bytesOf : ℕ → List ℕ) (len : ℕ) (thresholds : List ℕ) (p : �
       insert bytesOf len thresholds k p t ≡ setBelow (byteAt bytesOf k p) (insert bytesOf len thresholds (suc k) p (below (byteAt bytesOf k p) t)) t
   unfolding insert hasBelow below setBelow
   insert-step k (leaf ps) h = absurd (false≢true h)
-  insert-step k (inner cs) h = ap inner (insertIn-there bytesOf len thresholds k p cs h)
+  insert-step k (inner cs) h = ap inner (insert-there bytesOf len thresholds k p cs h)
 
   -- an insertion is one at the end of a path of the page's bytes
   pub insert-path : (d k : ℕ) (t : Tree) → hasPath (pathOf bytesOf k p d) t ≡ true →
@@ -140,13 +140,13 @@ module _ (bytesOf : ℕ → List ℕ) (len : ℕ) (thresholds : List ℕ) (p : �
         insert bytesOf len thresholds k p t ≡
         replace (pathOf bytesOf k p d) t (inner (putKid (byteAt bytesOf (k + d) p) (addLeaf bytesOf len thresholds (suc (k + d)) p []) cs))
     unfolding insert
-    insert-at-gap cs e g = insert-path d k t h ∙ rw (e, insertIn-gap bytesOf len thresholds (k + d) p cs g) refl
+    insert-at-gap cs e g = insert-path d k t h ∙ rw (e, insert-gap bytesOf len thresholds (k + d) p cs g) refl
 
   needed-step : (k : ℕ) (t : Tree) → hasBelow (byteAt bytesOf k p) t ≡ true →
       needed bytesOf len thresholds k p t ≡ needed bytesOf len thresholds (suc k) p (below (byteAt bytesOf k p) t)
   unfolding needed hasBelow below
   needed-step k (leaf ps) h = absurd (false≢true h)
-  needed-step k (inner cs) h = neededIn-there bytesOf len thresholds k p cs h
+  needed-step k (inner cs) h = needed-there bytesOf len thresholds k p cs h
 
   pub needed-path : (d k : ℕ) (t : Tree) → hasPath (pathOf bytesOf k p d) t ≡ true →
       needed bytesOf len thresholds k p t ≡ needed bytesOf len thresholds (k + d) p (subtree (pathOf bytesOf k p d) t)
@@ -165,14 +165,14 @@ module _ (bytesOf : ℕ → List ℕ) (len : ℕ) (thresholds : List ℕ) (p : �
     pub needed-at-gap : (cs : Children) → subtree (pathOf bytesOf k p d) t ≡ inner cs → has (byteAt bytesOf (k + d) p) cs ≡ false →
         needed bytesOf len thresholds k p t ≡ suc (splitNodes bytesOf len thresholds (suc (k + d)) (p ∷ []))
     unfolding needed
-    needed-at-gap cs e g = needed-path d k t h ∙ rw e (neededIn-gap bytesOf len thresholds (k + d) p cs g)
+    needed-at-gap cs e g = needed-path d k t h ∙ rw e (needed-gap bytesOf len thresholds (k + d) p cs g)
 
 module _ (bytesOf : ℕ → List ℕ) (p : ℕ) where
   remove-step : (k : ℕ) (t : Tree) → hasBelow (byteAt bytesOf k p) t ≡ true → filled (remove bytesOf (suc k) p (below (byteAt bytesOf k p) t)) ≡ true →
       remove bytesOf k p t ≡ setBelow (byteAt bytesOf k p) (remove bytesOf (suc k) p (below (byteAt bytesOf k p) t)) t
   unfolding remove hasBelow below setBelow pruneKid
   remove-step k (leaf ps) h f = absurd (false≢true h)
-  remove-step k (inner cs) h f = ap inner (removeIn-there bytesOf k p cs h ∙ rw f refl)
+  remove-step k (inner cs) h f = ap inner (remove-there bytesOf k p cs h ∙ rw f refl)
 
   -- a removal is one at the end of a path of the page's bytes, where no empty leaf is left there
   pub remove-path : (d k : ℕ) (t : Tree) → hasPath (pathOf bytesOf k p d) t ≡ true →
@@ -193,7 +193,7 @@ module _ (bytesOf : ℕ → List ℕ) (p : ℕ) where
       frees bytesOf k p t ≡ frees bytesOf (suc k) p (below (byteAt bytesOf k p) t)
   unfolding frees hasBelow below
   frees-step k (leaf ps) h f = absurd (false≢true h)
-  frees-step k (inner cs) h f = freesIn-there bytesOf k p cs h ∙ rw f refl
+  frees-step k (inner cs) h f = frees-there bytesOf k p cs h ∙ rw f refl
 
   pub frees-path : (d k : ℕ) (t : Tree) → hasPath (pathOf bytesOf k p d) t ≡ true →
       filled (remove bytesOf (k + d) p (subtree (pathOf bytesOf k p d) t)) ≡ true →
@@ -233,8 +233,8 @@ module _ (bytesOf : ℕ → List ℕ) (p : ℕ) where
 
       pub remove-at-last : remove bytesOf k p t ≡ replace (pathOf bytesOf k p d) t (inner (dropKid (byteAt bytesOf (k + d) p) cs))
       unfolding remove pruneKid
-      remove-at-last = remove-path d k t h stays ∙ rw (e, removeIn-there bytesOf (k + d) p cs i, l, f) refl
+      remove-at-last = remove-path d k t h stays ∙ rw (e, remove-there bytesOf (k + d) p cs i, l, f) refl
 
       pub frees-at-last : frees bytesOf k p t ≡ true
       unfolding frees remove
-      frees-at-last = frees-path d k t h stays ∙ rw (e, freesIn-there bytesOf (k + d) p cs i, l, f) refl
+      frees-at-last = frees-path d k t h stays ∙ rw (e, frees-there bytesOf (k + d) p cs i, l, f) refl

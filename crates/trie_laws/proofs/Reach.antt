@@ -15,7 +15,7 @@ use Rattle.trie_laws.specs.Path.{has, kid, hasBelow, below, hasPath, sub
 use Rattle.trie_laws.proofs.Lists.{holds, fails, truth, eqb-comm, and-intro, and-first, and-second, any-append, any-count, any-none, count-append, all-append, all-both, all-true}
 use Rattle.trie_laws.proofs.Sound.{SoundBelow, inner-parts, child-parts}
 use Rattle.trie_laws.proofs.Pages.{off-byte, off-bytes}
-use Rattle.trie_laws.proofs.Kids.{dropKid-nodes, dropKid-count, kid-sound}
+use Rattle.trie_laws.proofs.Kids.{drop-nodes, drop-count, kid-sound}
 use Rattle.trie_laws.proofs.Path.{path-parts, shift}
 
 -- ---- the longest path of a page's bytes
@@ -116,7 +116,7 @@ module _ (q : ℕ → Bool) where
 
 -- ---- a subtree has no more nodes, and no more pages
 kid-nodes : (y : ℕ) (cs : Children) → has y cs ≡ true → nodes (kid y cs) ≤ nodesIn cs
-kid-nodes y cs h = omega (arith, dropKid-nodes y cs h)
+kid-nodes y cs h = omega (arith, drop-nodes y cs h)
 
 below-nodes : (y : ℕ) (t : Tree) → hasBelow y t ≡ true → suc (nodes (below y t)) ≤ nodes t
 unfolding hasBelow below nodes
@@ -133,7 +133,7 @@ subtree-nodes (y ∷ ys) t h =
 below-count : (q : ℕ → Bool) (y : ℕ) (t : Tree) → hasBelow y t ≡ true → count q (pagesIn (below y t)) ≤ count q (pagesIn t)
 unfolding hasBelow below pagesIn
 below-count q y (leaf ps) h = absurd (false≢true h)
-below-count q y (inner cs) h = omega (arith, dropKid-count y q cs h)
+below-count q y (inner cs) h = omega (arith, drop-count y q cs h)
 
 pub subtree-count : (q : ℕ → Bool) (ys : List ℕ) (t : Tree) → hasPath ys t ≡ true → count q (pagesIn (subtree ys t)) ≤ count q (pagesIn t)
 unfolding subtree
