@@ -1,3 +1,4 @@
+pub mod Answers
 pub mod BlockEnds
 pub mod Bytes
 pub mod Lists

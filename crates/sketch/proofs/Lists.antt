@@ -1,7 +1,7 @@
 -- Parts of lists, and tests on all of their elements.
-use mathlib.Core.Path.{_≡_, refl, sym, ap, ap₂, _∙_}
 use mathlib.Core.Bool.{Bool, true, _&&_, and-eq-true-iff}
 use mathlib.Core.List.{List, [], _∷_}
+use mathlib.Core.Path.{_≡_, refl, sym, ap, ap₂, _∙_}
 use Prim.Native.Nat.{ℕ, zero, suc, _-_, min}
 use native.Mathlib.Nat.{le-of-eq, sub-zero, zero-sub, suc-sub-suc, zero-min, min-zero, suc-min-suc}
 use lib.ListN.{length, take, drop, length-drop}

@@ -2,8 +2,8 @@
 use mathlib.Core.Path.{_≡_}
 use Prim.Native.Nat.{ℕ, _<_, _≤_}
 use borrow.Author.Tests.{le-leb, lt-leb}
-use Rattle.sketch.specs.declared.radius.Verdict.the-variants.{Within, Beyond}
 use Rattle.sketch.specs.Verdicts.{verdictOf}
+use Rattle.sketch.specs.declared.radius.Verdict.the-variants.{Within, Beyond}
 
 pub within : (d radius : ℕ) → d ≤ radius → Within ≡ verdictOf d radius
 unfolding verdictOf

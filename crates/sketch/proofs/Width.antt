@@ -1,7 +1,7 @@
 -- z symbols of b bits fit a byte.
-use mathlib.Core.Path.{_≡_, _∙_}
 use mathlib.Core.Bool.{Bool, true, false, cond, not}
 use mathlib.Core.List.{List, [], _∷_}
+use mathlib.Core.Path.{_≡_, _∙_}
 use Prim.Native.Nat.{ℕ, suc, _+_, _-_, _*_, _%_, _^_, _<_, _≤_}
 use native.Mathlib.Nat.{lt-div-mul-add, le-trans, mul-le-mul-left, div-le-self, le-div-iff-mul-le, mul-div-le, one-mul}
 use native.Mathlib.Omega.{arith}
@@ -46,6 +46,10 @@ unfolding packedLength
 bytes-cover b n h =
     let p : 0 < perByte b = z-pos b h in
     omega (arith, lt-div-mul-add {a = n + perByte b - 1} {b = perByte b} p)
+
+pub bytes-most : (b n : ℕ) → packedLength b n ≤ n + 8
+unfolding packedLength
+bytes-most b n = omega (arith, div-le-self (n + perByte b - 1) (perByte b), z-most b)
 
 pub byte-of : (b n j : ℕ) → Bits b → j * perByte b < n → j < packedLength b n
 unfolding packedLength

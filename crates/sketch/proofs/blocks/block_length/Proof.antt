@@ -1,9 +1,9 @@
 -- `block_length` is `blockLength`.
 use native.Mathlib.Nat.{div-le-self}
 use native.Mathlib.Omega.{arith}
+use borrow.Author.Needs.{needs}
 use borrow.Author.Tests.{lt-ltb, le-ltb}
 use Rattle.meaning.specs.Sketch.{blockLength}
-use borrow.Author.Needs.{needs}
 use Rattle.sketch.proofs.blocks.block_length.Statement.{statement}
 use Rattle.sketch.proofs.blocks.block_length.Tie as tie
 

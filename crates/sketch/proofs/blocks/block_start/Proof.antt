@@ -1,8 +1,8 @@
 -- `block_start` is `blockStart`.
 use native.Mathlib.Omega.{arith}
+use borrow.Author.Needs.{needs}
 use Rattle.meaning.specs.Sketch.{blockStart}
 use Rattle.sketch.proofs.BlockEnds.{whole}
-use borrow.Author.Needs.{needs}
 use Rattle.sketch.proofs.blocks.block_start.Statement.{statement}
 use Rattle.sketch.proofs.blocks.block_start.Tie as tie
 

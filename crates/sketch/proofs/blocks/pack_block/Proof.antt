@@ -1,15 +1,15 @@
 -- `pack_block` packs the block: the part from its start on goes to `pack_into`.
-use mathlib.Core.Path.{_≡_, ap, ap₂, _∙_}
 use mathlib.Core.List.{List}
+use mathlib.Core.Path.{_≡_, ap, ap₂, _∙_}
 use Prim.Native.Nat.{ℕ, _+_, _-_, _≤_}
 use native.Mathlib.Omega.{arith}
 use lib.ListN.{length, take, drop, length-drop}
+use borrow.Author.Needs.{needs}
 use Rattle.meaning.specs.Lists.{onto}
 use Rattle.meaning.specs.Sketch.{pack, block}
 use Rattle.sketch.proofs.BlockEnds.{block-ends}
 use Rattle.sketch.proofs.Lists.{rest}
 use Rattle.sketch.proofs.Places.{part-range}
-use borrow.Author.Needs.{needs}
 use Rattle.sketch.proofs.blocks.pack_block.Statement.{statement}
 use Rattle.sketch.proofs.blocks.pack_block.Tie as tie
 
@@ -21,8 +21,9 @@ ends c =
 
 -- the part that is passed
 passed : (c : tie.After-block-length) →
-    let args = c .before .before .before .before .args in
-    take (length (args .sketch .now) - c .before .block-start .result) (drop (c .before .block-start .result) (args .sketch .now)) ≡ drop (c .before .block-start .result) (args .sketch .now)
+    let sketch = c .before .before .before .before .args .sketch .now in
+    let at = c .before .block-start .result in
+    take (length sketch - at) (drop at sketch) ≡ drop at sketch
 passed c = rest (c .before .block-start .result) (c .before .before .before .before .args .sketch .now)
 
 block-start-requires : tie.Need-block-start-requires

@@ -6,8 +6,8 @@ use native.Mathlib.Omega.{arith}
 use lib.ListN.{length, getD}
 use borrow.Author.Needs.{needs}
 use Rattle.meaning.specs.Sketch.{perByte, packedLength}
-use Rattle.sketch.proofs.Places.{Counted, differ, counted-none, counted-more, counted-on, counted-all}
 use Rattle.sketch.proofs.Packed.{part-ends, part-next}
+use Rattle.sketch.proofs.Places.{Counted, differ, counted-none, counted-more, counted-on, counted-all}
 use Rattle.sketch.proofs.Verdict.{within, beyond}
 use Rattle.sketch.proofs.Width.{byte-begins, bytes-cover}
 use Rattle.sketch.proofs.radius.compare.Statement.{statement}
@@ -61,7 +61,8 @@ begins c =
 
 -- and ends there
 ends : (c : tie.After-symbols-at Inv-loop μ-loop Inv-bytes μ-bytes) →
-    c .before .before .bytes .k * c .before .before .before .before .per-byte .result + c .symbols-at .result ≤ length (c .before .before .before .before .before .before .before .args .row .now)
+    let at = c .before .before .bytes .k * c .before .before .before .before .per-byte .result in
+    at + c .symbols-at .result ≤ length (c .before .before .before .before .before .before .before .args .row .now)
 ends c = part-ends _ _ _ _ _ (c .before .before .bytes .inv .0) (c .symbols-at .ensures) (begins (c .before))
 
 -- the count after the turn
