@@ -25,6 +25,15 @@ pub word-inside : (s : Settings) {k p : ℕ} → k < 2 + s .blocks → p < s .pa
 unfolding pagesLength
 word-inside s hk hp = digits-lt hk hp
 
+pub live-inside : (s : Settings) {p : ℕ} → p < s .pages → p < pagesLength s
+live-inside s {p} h = rw (live-word (s .pages) p) at (word-inside s {k = 0} (omega arith) h)
+
+pub class-inside : (s : Settings) {p : ℕ} → p < s .pages → s .pages + p < pagesLength s
+class-inside s {p} h = rw (class-word (s .pages) p) at (word-inside s {k = 1} (omega arith) h)
+
+pub link-inside : (s : Settings) (j : ℕ) {p : ℕ} → j < s .blocks → p < s .pages → nextAt (s .pages) j + p < pagesLength s
+link-inside s j hj h = word-inside s {k = 2 + j} (omega arith) h
+
 -- a word has one field and one page
 pub word-field : (P k l : ℕ) {p r : ℕ} → p < P → r < P → wordAt P k p ≡ wordAt P l r → k ≡ l
 word-field P k l hp hr e = sym (digits-div k hp) ∙ ap (λ (w : ℕ). w / P) e ∙ digits-div l hr

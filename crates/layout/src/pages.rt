@@ -39,13 +39,14 @@ pub fn row(sketches: &[u8], m: usize, p: usize) -> &[u8]
     &sketches[start..end]
 }
 
-// Page p is live, in class c.
-pub fn write_page(pages: &mut [u32], cap: usize, p: usize, c: u32)
+// Page p is live, in this class.
+pub fn write_page(pages: &mut [u32], cap: usize, p: usize, class: u32)
     requires { ⌜ (p < cap) × (cap + p < length (now pages)) ⌝ }
-    ensures { λ r. ⌜ now (pages .exit) ≡ withPage cap (now (pages .entry)) p c ⌝ }
+    ensures { λ r. ⌜ now (pages .exit) ≡ withPage cap (now (pages .entry)) p class ⌝ }
 {
+    let class_at = cap + p;
     pages[p] = 1;
-    pages[cap + p] = c;
+    pages[class_at] = class;
 }
 
 // Page p is not live.

@@ -1,4 +1,4 @@
-// The settings table: question 4, what a call reads of an opening, the thresholds and the free link.
+// The settings table: question 4, the opening that the table shows, its thresholds, the free link, and writing an opening.
 ghost use mathlib.Core.Path.{_≡_};
 ghost use Prim.Native.Nat.{_≤_, _<_};
 ghost use lib.Dec.{ltb};
@@ -13,9 +13,10 @@ use crate::Opening;
 
 const MARK: u32 = 0x56440001;
 
-const LENGTH: usize = 391;
+// How many words the table needs.
+pub const LENGTH: usize = 391;
 
-// Where the thresholds, the memberships, the grants and the free link begin.
+// Where the thresholds, the memberships and the grants begin, and the free link.
 const THRESHOLDS: usize = 6;
 
 pub const MEMBERS: usize = 70;
@@ -24,7 +25,7 @@ pub const GRANTS: usize = 326;
 
 const FREE: usize = 390;
 
-// Question 4 of an opening with so many thresholds, each of 16 bits.
+// Question 4 of an opening that is lent so many thresholds, each of 16 bits.
 pub fn limits(b: u32, m: u32, q: u32, pages: u32, nodes: u32, thresholds: usize) -> bool
     ensures { λ r. ⌜ r ≡ limitsOf b m q pages nodes thresholds ⌝ }
 {
@@ -66,6 +67,7 @@ fn shows_opening(settings: &[u32]) -> bool
         & thresholds_fit(settings)
 }
 
+// The header of an opening: words 1 to 5.
 fn header(settings: &[u32]) -> Header
     requires { ⌜ settingsLength ≤ length (now settings) ⌝ }
     ensures { λ r. ⌜ r ≡ headerOf (settingsOf (now (settings .entry))) ⌝ }
@@ -109,6 +111,7 @@ pub fn free_link(settings: &[u32]) -> u32
     settings[FREE]
 }
 
+// Writes the link to the first free node.
 pub fn set_free_link(settings: &mut [u32], link: u32)
     requires { ⌜ settingsLength ≤ length (now settings) ⌝ }
     ensures { λ r. ⌜ now (settings .exit) ≡ set (now (settings .entry)) freeAt link ⌝ }
@@ -116,6 +119,7 @@ pub fn set_free_link(settings: &mut [u32], link: u32)
     settings[FREE] = link;
 }
 
+// Writes the thresholds to their 64 words.
 fn write_thresholds(settings: &mut [u32], thresholds: &[u16])
     requires { ⌜ settingsLength ≤ length (now settings) ⌝ }
     requires { ⌜ length (now thresholds) ≡ 64 ⌝ }
@@ -128,7 +132,7 @@ fn write_thresholds(settings: &mut [u32], thresholds: &[u16])
     }
 }
 
-// Writes an opening to the first 70 words.
+// Writes an opening: the first 70 words.
 pub fn write_header(settings: &mut [u32], h: Header, thresholds: &[u16])
     requires { ⌜ settingsLength ≤ length (now settings) ⌝ }
     requires { ⌜ HeaderLimits h ⌝ }

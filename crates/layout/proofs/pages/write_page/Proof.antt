@@ -1,18 +1,18 @@
 -- `write_page` is `withPage`.
 use mathlib.Core.Path.{refl}
-use Rattle.layout.specs.Pages.{withPage}
 use borrow.Author.Needs.{needs}
+use Rattle.layout.specs.Pages.{withPage}
 use Rattle.layout.proofs.pages.write_page.Statement.{statement}
 use Rattle.layout.proofs.pages.write_page.Tie as tie
+
+add-class-at : tie.Need-add-class-at
+add-class-at c = search needs
 
 mul-pages : tie.Need-mul-pages
 mul-pages c = search needs
 
 slice-write-pages : tie.Need-slice-write-pages
 slice-write-pages c = search needs
-
-add-pages : tie.Need-add-pages
-add-pages c = search needs
 
 mul-pages-2 : tie.Need-mul-pages-2
 mul-pages-2 c = search needs
@@ -31,9 +31,9 @@ pub write-page-spec : {M : Type 1} → statement M
 write-page-spec =
     tie.close
     (tie.spec
+    add-class-at
     mul-pages
     slice-write-pages
-    add-pages
     mul-pages-2
     slice-write-pages-2
     same-length

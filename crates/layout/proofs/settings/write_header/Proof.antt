@@ -3,7 +3,7 @@ use native.Mathlib.Omega.{arith}
 use lib.ListN.{length-set}
 use mathlib.Core.Path.{_∙_}
 use borrow.Author.Needs.{needs}
-use Rattle.layout.proofs.Openings.{header-written}
+use Rattle.layout.proofs.Written.{header-written}
 use Rattle.layout.proofs.settings.write_header.Statement.{statement}
 use Rattle.layout.proofs.settings.write_header.Tie as tie
 
