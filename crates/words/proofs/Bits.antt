@@ -107,7 +107,7 @@ same-bits a b same =
 -- ---- a word with a bit set or cleared
 
 -- the sum that settles it
-with-sum : (w k : ℕ) (v : Bool) → withBit w k v + cond (bit w k) (2 ^ k) 0 ≡ w + cond v (2 ^ k) 0
+pub with-sum : (w k : ℕ) (v : Bool) → withBit w k v + cond (bit w k) (2 ^ k) 0 ≡ w + cond v (2 ^ k) 0
 unfolding withBit
 with-sum w k v = go v (bit w k) refl
   where

@@ -1,3 +1,4 @@
 pub mod Rising
 pub mod Bits
+pub mod Flags
 pub mod Machine

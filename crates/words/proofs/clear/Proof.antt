@@ -1,3 +1,5 @@
+use lib.Bits.{and-le-l}
+use Rattle.words.proofs.Machine.{flag-cleared}
 use borrow.Author.Needs.{needs}
 use Rattle.words.proofs.clear.Statement.{statement}
 use Rattle.words.proofs.clear.Tie as tie
@@ -26,7 +28,7 @@ shl-ws c = search needs
 
 -- src/lib.rt:38:13
 sub-ws : tie.Need-sub-ws
-sub-ws c = ?
+sub-ws c = search and-le-l
 
 -- src/lib.rt:38:5
 mul-ws : tie.Need-mul-ws
@@ -42,7 +44,7 @@ same-length c = search needs
 
 -- src/lib.rt:31:1
 returns : tie.Need-returns
-returns c = ?
+returns c = flag-cleared (c .before .args .ws .now) (c .before .args .base) (c .before .args .n)
 
 pub clear-spec : {M : Type 1} → statement M
 clear-spec =

@@ -1,53 +1,73 @@
+use Rattle.words.proofs.Bits.{ones-le}
+use Rattle.words.proofs.Machine.{ones-found}
+use Rattle.words.proofs.Flags.{ones-in-none, ones-in-next, ones-in-le}
+use native.Mathlib.Omega.{arith}
+use lib.ListN.{getD}
+use borrow.Author.Needs.{needs}
+use mathlib.Core.Path.{_≡_, sym}
+use Prim.Native.Nat.{ℕ, _+_, _-_, _≤_}
+use lib.Count
+use Rattle.words.specs.Bits.{ones, onesIn}
 use Rattle.words.proofs.count.Statement.{statement}
 use Rattle.words.proofs.count.Tie as tie
 use Rattle.words.proofs.count.Reads as reads
 use Rattle.words.proofs.count.Lts as lts
 
 abbrev Inv-loop : tie.InvT-loop
-Inv-loop ws base n total₀ i₀ total i = ?
+Inv-loop ws base n total₀ i₀ total i = (i ≤ n) × (total ≡ onesIn ws base i)
 
 abbrev μ-loop : tie.MeasureT-loop
-μ-loop ws base n total₀ i₀ total i = ?
+μ-loop ws base n total₀ i₀ total i = n - i
+
+-- the word that a turn counts
+abbrev word : tie.After-shared-slice-known Inv-loop μ-loop → ℕ
+word c = getD (c .before .before .before .args .ws .now) (c .before .before .before .args .base + c .before .before .loop .i) 0
+
+counted : (c : tie.After-shared-slice-known Inv-loop μ-loop) → Count.ones (word c) ≡ ones (word c)
+counted c =
+    ones-found (word c) (c .shared-slice-known .given (c .before .before .before .args .base + c .before .before .loop .i) .fits)
 
 -- src/lib.rt:75:5
 loop-holds : tie.Need-loop-holds Inv-loop μ-loop
-loop-holds c = ?
+loop-holds c = (omega arith, sym (ones-in-none (c .args .ws .now) (c .args .base)))
 
 -- src/lib.rt:76:37
 add-total : tie.Need-add-total Inv-loop μ-loop
-add-total c = ?
+add-total c = search needs
 
 -- src/lib.rt:76:34
 mul-total : tie.Need-mul-total Inv-loop μ-loop
-mul-total c = ?
+mul-total c = search needs
 
 -- src/lib.rt:76:34
 shared-slice-read-total : tie.Need-shared-slice-read-total Inv-loop μ-loop
-shared-slice-read-total c = ?
+shared-slice-read-total c = omega arith
 
 -- src/lib.rt:76:18
 cast-total : tie.Need-cast-total Inv-loop μ-loop
-cast-total c = ?
+cast-total c = omega (arith, counted c, ones-le (word c))
 
 -- src/lib.rt:76:9
 add-total-2 : tie.Need-add-total-2 Inv-loop μ-loop
-add-total-2 c = ?
+add-total-2 c =
+    omega (arith, counted c, ones-le (word c), ones-in-le (c .before .before .before .args .ws .now) (c .before .before .before .args .base) (c .before .before .loop .i))
 
 -- src/lib.rt:77:9
 add-i : tie.Need-add-i Inv-loop μ-loop
-add-i c = ?
+add-i c = search needs
 
 -- src/lib.rt:75:5
 loop-less : tie.Need-loop-less Inv-loop μ-loop
-loop-less c = ?
+loop-less c = omega arith
 
 -- src/lib.rt:75:5
 loop-again : tie.Need-loop-again Inv-loop μ-loop
-loop-again c = ?
+loop-again c =
+    (omega arith, omega (arith, counted c, ones-in-next (c .before .before .before .args .ws .now) (c .before .before .before .args .base) (c .before .before .loop .i)))
 
 -- src/lib.rt:69:1
 returns : tie.Need-returns Inv-loop μ-loop
-returns c = ?
+returns c = let e : c .before .loop .i ≡ c .before .before .args .n = omega arith in rw (← e) (c .before .loop .inv .1)
 
 pub count-spec : {M : Type 1} → statement M
 count-spec =

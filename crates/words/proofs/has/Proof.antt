@@ -1,3 +1,5 @@
+use mathlib.Core.Path.{refl}
+use Rattle.words.specs.Bits.{flag, bit}
 use borrow.Author.Needs.{needs}
 use Rattle.words.proofs.has.Statement.{statement}
 use Rattle.words.proofs.has.Tie as tie
@@ -26,7 +28,8 @@ shr-result c = search needs
 
 -- src/lib.rt:11:1
 returns : tie.Need-returns
-returns c = ?
+unfolding flag bit
+returns c = refl
 
 pub has-spec : {M : Type 1} → statement M
 has-spec = tie.close (tie.spec add-i cast-k mul-result shared-slice-read-result shr-result returns)

@@ -1,3 +1,4 @@
+use Rattle.words.proofs.Machine.{flag-set}
 use borrow.Author.Needs.{needs}
 use Rattle.words.proofs.set.Statement.{statement}
 use Rattle.words.proofs.set.Tie as tie
@@ -38,7 +39,7 @@ same-length c = search needs
 
 -- src/lib.rt:21:1
 returns : tie.Need-returns
-returns c = ?
+returns c = flag-set (c .before .args .ws .now) (c .before .args .base) (c .before .args .n)
 
 pub set-spec : {M : Type 1} → statement M
 set-spec =
