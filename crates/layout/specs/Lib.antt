@@ -1,4 +1,6 @@
 pub mod Settings
+pub mod Limits
+pub mod Header
 pub mod Nodes
 pub mod Pages
 pub mod Working

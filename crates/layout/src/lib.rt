@@ -1,1 +1,20 @@
 // Where each thing stands in the lent tables (specs/), and the functions that read and write it.
+pub mod lengths;
+pub mod nodes;
+pub mod pages;
+pub mod settings;
+
+// What a call goes by: b, m, q and the capacities.
+pub struct Header {
+    pub b: usize,
+    pub m: usize,
+    pub q: usize,
+    pub pages: usize,
+    pub nodes: usize,
+}
+
+// What the settings table says: an opening, or the number of the question that fails, 5 or 6.
+pub enum Opening {
+    Shown(Header),
+    Refused(u32),
+}

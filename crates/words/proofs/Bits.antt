@@ -1,8 +1,8 @@
 -- Laws of the bits of a word. What holds at any width n is stated over n; a word of a table has the width 32.
-use mathlib.Core.Path.{_≡_, refl, sym, ap, _∙_, subst}
+use mathlib.Core.Path.{_≡_, refl, sym, ap, ap₂, _∙_}
 use mathlib.Core.Bool.{Bool, true, false, cond, _&&_, _||_}
 use mathlib.Core.Logic.{_≢_}
-use mathlib.Core.List.{List, [], _∷_, _++_}
+use mathlib.Core.List.{List, [], _∷_}
 use Prim.Native.Nat.{ℕ, zero, suc, _+_, _-_, _*_, _/_, _%_, _^_, _≤_, _<_, max, min, suc-le-suc}
 use native.Mathlib.Nat.{pow-suc, div-one, le-div-iff-mul-le, zero-div}
 use native.Mathlib.Omega.{arith}
@@ -24,6 +24,11 @@ digit w k = go (bit w k) refl
     go : (t : Bool) → bit w k ≡ t → w / 2 ^ k % 2 ≡ cond t 1 0
     go true e = eqb-true (w / 2 ^ k % 2) 1 e
     go false e = let n : w / 2 ^ k % 2 ≢ 1 = eqb-false (w / 2 ^ k % 2) 1 e in omega arith
+
+pub bit-digit : (w k : ℕ) (t : Bool) → w / 2 ^ k % 2 ≡ cond t 1 0 → bit w k ≡ t
+unfolding bit
+bit-digit w k true e = rw e
+bit-digit w k false e = rw e
 
 -- bit 0, and the bits above it
 pub bit-low : (w : ℕ) → bit w 0 ≡ eqb (w % 2) 1
@@ -47,35 +52,28 @@ bit-le w k h =
 
 -- ---- and, or
 
-odd-or : (p q : ℕ) → p < 2 → q < 2 → eqb (max p q) 1 ≡ (eqb p 1 || eqb q 1)
-odd-or zero zero hp hq = refl
-odd-or zero (suc zero) hp hq = refl
-odd-or (suc zero) zero hp hq = refl
-odd-or (suc zero) (suc zero) hp hq = refl
-odd-or zero (suc (suc q)) hp hq = absurd (omega arith)
-odd-or (suc zero) (suc (suc q)) hp hq = absurd (omega arith)
-odd-or (suc (suc p)) q hp hq = absurd (omega arith)
-
-odd-and : (p q : ℕ) → p < 2 → q < 2 → eqb (min p q) 1 ≡ (eqb p 1 && eqb q 1)
-odd-and zero zero hp hq = refl
-odd-and zero (suc zero) hp hq = refl
-odd-and (suc zero) zero hp hq = refl
-odd-and (suc zero) (suc zero) hp hq = refl
-odd-and zero (suc (suc q)) hp hq = absurd (omega arith)
-odd-and (suc zero) (suc (suc q)) hp hq = absurd (omega arith)
-odd-and (suc (suc p)) q hp hq = absurd (omega arith)
+-- by an operation on digits that acts as one on bits
+bit-by : (f : ℕ → ℕ → ℕ) (g : Bool → Bool → Bool) → ((s t : Bool) → f (cond s 1 0) (cond t 1 0) ≡ cond (g s t) 1 0)
+    → (w a b k : ℕ) → w / 2 ^ k % 2 ≡ f (a / 2 ^ k % 2) (b / 2 ^ k % 2) → bit w k ≡ g (bit a k) (bit b k)
+bit-by f g acts w a b k e = bit-digit w k (g (bit a k) (bit b k)) (e ∙ ap₂ f (digit a k) (digit b k) ∙ acts (bit a k) (bit b k))
 
 pub bit-or : (a b k : ℕ) → bit (bitOr a b) k ≡ (bit a k || bit b k)
-unfolding bit
-bit-or a b k =
-    let e : bitOr a b / 2 ^ k % 2 ≡ max (a / 2 ^ k % 2) (b / 2 ^ k % 2) = omega (arith, or-shr a b k, or-step (a / 2 ^ k) (b / 2 ^ k)) in
-    rw e (odd-or (a / 2 ^ k % 2) (b / 2 ^ k % 2) (omega arith) (omega arith))
+bit-or a b k = bit-by max (_||_) acts (bitOr a b) a b k (omega (arith, or-shr a b k, or-step (a / 2 ^ k) (b / 2 ^ k)))
+  where
+    acts : (s t : Bool) → max (cond s 1 0) (cond t 1 0) ≡ cond (s || t) 1 0
+    acts true true = refl
+    acts true false = refl
+    acts false true = refl
+    acts false false = refl
 
 pub bit-and : (a b k : ℕ) → bit (bitAnd a b) k ≡ (bit a k && bit b k)
-unfolding bit
-bit-and a b k =
-    let e : bitAnd a b / 2 ^ k % 2 ≡ min (a / 2 ^ k % 2) (b / 2 ^ k % 2) = omega (arith, and-shr a b k, and-step (a / 2 ^ k) (b / 2 ^ k)) in
-    rw e (odd-and (a / 2 ^ k % 2) (b / 2 ^ k % 2) (omega arith) (omega arith))
+bit-and a b k = bit-by min (_&&_) acts (bitAnd a b) a b k (omega (arith, and-shr a b k, and-step (a / 2 ^ k) (b / 2 ^ k)))
+  where
+    acts : (s t : Bool) → min (cond s 1 0) (cond t 1 0) ≡ cond (s && t) 1 0
+    acts true true = refl
+    acts true false = refl
+    acts false true = refl
+    acts false false = refl
 
 -- ---- a word is its bits
 

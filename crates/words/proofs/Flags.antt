@@ -1,17 +1,19 @@
 -- Laws of flags in a table of words, of runs of zeros and of counts over a run.
-use mathlib.Core.Path.{_≡_, refl, sym, ap, _∙_}
+use mathlib.Core.Path.{_≡_, refl, ap, _∙_}
 use mathlib.Core.Bool.{Bool, true, false, cond}
 use mathlib.Core.Logic.{_≢_}
-use mathlib.Core.List.{List, [], _∷_, _++_, map, append-assoc}
-use Prim.Native.Nat.{ℕ, zero, suc, _+_, _-_, _*_, _/_, _%_, _^_, _≤_, _<_}
+use mathlib.Core.List.{List, _∷_, _++_, map, append-assoc}
+use Prim.Native.Nat.{ℕ, zero, suc, _+_, _-_, _*_, _/_, _%_, _≤_, _<_}
 use native.Mathlib.Nat.{add-assoc, add-zero, zero-add, add-suc, suc-mul}
 use native.Mathlib.Numerals.{add-one}
 use native.Mathlib.Omega.{arith}
 use native.Mathlib.Decide.{decLt, ℕ-discrete}
 use lib.ListN.{length, getD, set, take, drop, replicate, length-append, length-take, length-drop, length-set, length-replicate, length-map, getD-replicate, List·getD-append, take-append-drop, replicate-append-replicate}
-use lib.Seq.{getD-set-same, getD-set-other, take-set-le, take-set-lt, drop-set-lt, drop-set-add, getD-take, getD-drop, getD-append-add, length-take-le, drop-cons, set-at, set-out}
+use lib.Seq.{getD-set-same, getD-set-other, take-set-le, take-set-lt, drop-set-lt, drop-set-add, getD-take, getD-drop, getD-append-add, length-take-le, drop-cons, set-at, set-out, set-getD, set-set}
 use Rattle.words.specs.Bits.{bit, withBit, rising, bitsOf, ones, flag, withFlag, zeroed, onesIn}
-use Rattle.words.proofs.Bits.{bit-zero, bit-with-same, bit-with-other, ones-bits, ones-le}
+use borrow.Author.Tests.{eqb-true, eqb-false}
+use lib.Dec.{eqb}
+use Rattle.words.proofs.Bits.{bit-zero, with-bit, with-again, bit-with-same, bit-with-other, ones-bits, ones-le}
 use Rattle.words.proofs.Rising.{rising-add, rising-map}
 
 -- ---- a flag is a bit of a word
@@ -35,41 +37,48 @@ flag-drop m ws base n = rw (getD-drop m ws (base + n / 32) 0, add-assoc m base (
 -- ---- a table with a flag set or cleared
 
 module _ (ws : List ℕ) (base n : ℕ) (v : Bool) where
-  pub with-length : length (withFlag ws base n v) ≡ length ws
+  pub length-with : length (withFlag ws base n v) ≡ length ws
   unfolding withFlag
-  with-length = length-set ws (base + n / 32) (withBit (getD ws (base + n / 32) 0) (n % 32) v)
+  length-with = length-set ws (base + n / 32) (withBit (getD ws (base + n / 32) 0) (n % 32) v)
 
   -- beyond the table nothing is written
-  pub with-out : length ws ≤ base + n / 32 → withFlag ws base n v ≡ ws
+  pub with-beyond : length ws ≤ base + n / 32 → withFlag ws base n v ≡ ws
   unfolding withFlag
-  with-out h = set-out ws (base + n / 32) (withBit (getD ws (base + n / 32) 0) (n % 32) v) h
+  with-beyond h = set-out ws (base + n / 32) (withBit (getD ws (base + n / 32) 0) (n % 32) v) h
 
   -- its words
-  pub with-word : base + n / 32 < length ws → getD (withFlag ws base n v) (base + n / 32) 0 ≡ withBit (getD ws (base + n / 32) 0) (n % 32) v
+  pub word-with : base + n / 32 < length ws → getD (withFlag ws base n v) (base + n / 32) 0 ≡ withBit (getD ws (base + n / 32) 0) (n % 32) v
   unfolding withFlag
-  with-word h = getD-set-same ws (base + n / 32) (withBit (getD ws (base + n / 32) 0) (n % 32) v) 0 h
+  word-with h = getD-set-same ws (base + n / 32) (withBit (getD ws (base + n / 32) 0) (n % 32) v) 0 h
 
-  pub with-word-other : (i : ℕ) → i ≢ base + n / 32 → getD (withFlag ws base n v) i 0 ≡ getD ws i 0
+  pub word-with-other : (i : ℕ) → i ≢ base + n / 32 → getD (withFlag ws base n v) i 0 ≡ getD ws i 0
   unfolding withFlag
-  with-word-other i h = getD-set-other ws (base + n / 32) i (withBit (getD ws (base + n / 32) 0) (n % 32) v) 0 h
+  word-with-other i h = getD-set-other ws (base + n / 32) i (withBit (getD ws (base + n / 32) 0) (n % 32) v) 0 h
 
   -- its flags: the same one, another of the same run, one in another word
   pub flag-with-same : base + n / 32 < length ws → flag (withFlag ws base n v) base n ≡ v
   unfolding flag
-  flag-with-same h = rw (with-word h) (bit-with-same (getD ws (base + n / 32) 0) (n % 32) v)
+  flag-with-same h = rw (word-with h) (bit-with-same (getD ws (base + n / 32) 0) (n % 32) v)
 
   pub flag-with-apart : (b k : ℕ) → b + k / 32 ≢ base + n / 32 → flag (withFlag ws base n v) b k ≡ flag ws b k
   unfolding flag
-  flag-with-apart b k h = rw (with-word-other (b + k / 32) h)
+  flag-with-apart b k h = rw (word-with-other (b + k / 32) h)
 
   pub flag-with-other : (k : ℕ) → k ≢ n → flag (withFlag ws base n v) base k ≡ flag ws base k
   unfolding flag
   flag-with-other k h = go (ℕ-discrete (k / 32) (n / 32)) (decLt (base + n / 32) (length ws))
     where
       go : Dec (k / 32 ≡ n / 32) → Dec (base + n / 32 < length ws) → flag (withFlag ws base n v) base k ≡ flag ws base k
-      go (yes q) (yes l) = rw (q, with-word l) (bit-with-other (getD ws (base + n / 32) 0) (n % 32) v (k % 32) (omega arith))
-      go (yes q) (no l) = rw (with-out (omega arith))
+      go (yes q) (yes l) = rw (q, word-with l) (bit-with-other (getD ws (base + n / 32) 0) (n % 32) v (k % 32) (omega arith))
+      go (yes q) (no l) = rw (with-beyond (omega arith))
       go (no q) l = flag-with-apart base k (λ e. q (omega arith))
+
+  pub flag-with : base + n / 32 < length ws → (k : ℕ) → flag (withFlag ws base n v) base k ≡ cond (eqb k n) v (flag ws base k)
+  flag-with h k = go (eqb k n) refl
+    where
+      go : (t : Bool) → eqb k n ≡ t → flag (withFlag ws base n v) base k ≡ cond t v (flag ws base k)
+      go true e = rw (eqb-true k n e) (flag-with-same h)
+      go false e = flag-with-other k (eqb-false k n e)
 
   -- its parts
   pub take-with : (m : ℕ) → m ≤ base + n / 32 → take m (withFlag ws base n v) ≡ take m ws
@@ -90,20 +99,41 @@ module _ (ws : List ℕ) (base n : ℕ) (v : Bool) where
       rw (getD-drop m ws (base + n / 32) 0, add-assoc m base (n / 32))
       (drop-set-add m ws (base + n / 32) (withBit (getD ws (m + (base + n / 32)) 0) (n % 32) v))
 
+-- nothing changes where the flag is v already
+pub with-flag : (ws : List ℕ) (base n : ℕ) → withFlag ws base n (flag ws base n) ≡ ws
+unfolding flag withFlag
+with-flag ws base n = rw (with-bit (getD ws (base + n / 32) 0) (n % 32)) (set-getD ws (base + n / 32) 0)
+
+-- the last of two writes to a flag stands
+pub with-flag-again : (ws : List ℕ) (base n : ℕ) (u v : Bool) → withFlag (withFlag ws base n u) base n v ≡ withFlag ws base n v
+unfolding withFlag
+with-flag-again ws base n u v = go (decLt i (length ws))
+  where
+    i : ℕ
+    i = base + n / 32
+
+    w : ℕ
+    w = getD ws i 0
+
+    go : Dec (i < length ws) → withFlag (withFlag ws base n u) base n v ≡ withFlag ws base n v
+    go (yes l) =
+        rw (getD-set-same ws i (withBit w (n % 32) u) 0 l, with-again w (n % 32) u v, set-set ws i (withBit w (n % 32) u) (withBit w (n % 32) v))
+    go (no l) = rw (with-beyond ws base n u (omega arith))
+
 -- ---- a run of zeros
 
 abbrev zeros : ℕ → List ℕ
 zeros n = replicate n 0
 
 module _ (ws : List ℕ) (base n : ℕ) (fits : base + n ≤ length ws) where
-  pub zeroed-length : length (zeroed ws base n) ≡ length ws
+  pub length-zeroed : length (zeroed ws base n) ≡ length ws
   unfolding zeroed
-  zeroed-length = simp (length-append, length-take, length-replicate, length-drop) (omega arith)
+  length-zeroed = simp (length-append, length-take, length-replicate, length-drop) (omega arith)
 
   -- its words
-  pub zeroed-in : (i : ℕ) → base ≤ i → i < base + n → getD (zeroed ws base n) i 0 ≡ 0
+  pub word-zeroed : (i : ℕ) → base ≤ i → i < base + n → getD (zeroed ws base n) i 0 ≡ 0
   unfolding zeroed
-  zeroed-in i l h =
+  word-zeroed i l h =
       let t : length (take base ws) ≡ base = length-take-le base ws (omega arith) in
       let e : i ≡ length (take base ws) + (i - base) = omega arith in
       let r : i - base < length (zeros n) = omega (arith, length-replicate {A = ℕ} n 0) in
@@ -112,9 +142,9 @@ module _ (ws : List ℕ) (base n : ℕ) (fits : base + n ≤ length ws) where
       ∙ List·getD-append (zeros n) (drop (base + n) ws) 0 (i - base) r
       ∙ getD-replicate n (i - base) 0 0 (omega arith)
 
-  pub zeroed-out : (i : ℕ) → (base ≤ i → i < base + n → ⊥) → getD (zeroed ws base n) i 0 ≡ getD ws i 0
+  pub word-zeroed-out : (i : ℕ) → (base ≤ i → i < base + n → ⊥) → getD (zeroed ws base n) i 0 ≡ getD ws i 0
   unfolding zeroed
-  zeroed-out i out = go (decLt i base)
+  word-zeroed-out i out = go (decLt i base)
     where
       t : length (take base ws) ≡ base
       t = length-take-le base ws (omega arith)
@@ -136,11 +166,11 @@ module _ (ws : List ℕ) (base n : ℕ) (fits : base + n ≤ length ws) where
   -- its flags
   pub flag-zeroed : (k : ℕ) → k < n * 32 → flag (zeroed ws base n) base k ≡ false
   unfolding flag
-  flag-zeroed k h = rw (zeroed-in (base + k / 32) (omega arith) (omega arith)) (bit-zero (k % 32))
+  flag-zeroed k h = rw (word-zeroed (base + k / 32) (omega arith) (omega arith)) (bit-zero (k % 32))
 
   pub flag-zeroed-out : (b k : ℕ) → (base ≤ b + k / 32 → b + k / 32 < base + n → ⊥) → flag (zeroed ws base n) b k ≡ flag ws b k
   unfolding flag
-  flag-zeroed-out b k out = rw (zeroed-out (b + k / 32) out)
+  flag-zeroed-out b k out = rw (word-zeroed-out (b + k / 32) out)
 
 -- word by word
 pub zeroed-none : (ws : List ℕ) (base : ℕ) → zeroed ws base 0 ≡ ws
@@ -165,7 +195,7 @@ pub ones-in-next : (ws : List ℕ) (base n : ℕ) → onesIn ws base (n + 1) ≡
 unfolding onesIn
 ones-in-next ws base n = rw (add-one n)
 
-pub ones-in-le : (ws : List ℕ) (base n : ℕ) → onesIn ws base n ≤ 32 * n
+pub ones-in-le : (ws : List ℕ) (base n : ℕ) → onesIn ws base n ≤ n * 32
 unfolding onesIn
 ones-in-le ws base zero = omega arith
 ones-in-le ws base (suc n) = omega (arith, ones-in-le ws base n, ones-le (getD ws (base + n) 0))

@@ -1,12 +1,12 @@
 -- What the machine's operations on words give, in the terms of the definitions.
-use mathlib.Core.Path.{_≡_, refl, sym, ap, _∙_, subst}
+use mathlib.Core.Path.{_≡_, refl, _∙_}
 use mathlib.Core.Bool.{Bool, true, false, cond}
 use mathlib.Core.Logic.{_≢_}
 use mathlib.Core.List.{List, [], _∷_, _++_, map}
-use Prim.Native.Nat.{ℕ, zero, suc, _+_, _-_, _*_, _/_, _%_, _^_, _≤_, _<_}
+use Prim.Native.Nat.{ℕ, zero, suc, _+_, _-_, _*_, _/_, _%_, _^_, _<_}
 use native.Mathlib.Nat.{pow-suc, one-mul}
 use native.Mathlib.Omega.{arith}
-use lib.Pow.{pow-pos, shl-exact}
+use lib.Pow.{shl-exact}
 use lib.Bits.{bitAnd, bitOr, and-step, and-self}
 use lib.ListN.{length, getD, set, length-map, List·getD-map}
 use lib.Count

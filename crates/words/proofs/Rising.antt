@@ -1,10 +1,10 @@
 -- Laws of the numbers of a range that pass a test, as a rising list.
-use mathlib.Core.Path.{_≡_, refl, sym, ap, _∙_}
+use mathlib.Core.Path.{_≡_, refl, sym}
 use mathlib.Core.Bool.{Bool, true, false, cond}
 use mathlib.Core.Logic.{_≢_, ⊎-elim}
 use mathlib.Core.List.{List, [], _∷_, _++_, map, append-assoc}
 use Prim.Native.Nat.{ℕ, zero, suc, _+_, _≤_, _<_}
-use native.Mathlib.Nat.{eq-or-lt-of-le, add-zero}
+use native.Mathlib.Nat.{eq-or-lt-of-le, add-zero, zero-add}
 use native.Mathlib.Omega.{arith}
 use lib.ListN.{length}
 use Rattle.words.specs.Bits.{rising}
@@ -19,7 +19,7 @@ rising-same p q k (suc n) same =
 -- of the first m numbers, and of those after them
 pub rising-add : (p : ℕ → Bool) (k m n : ℕ) → rising p k (m + n) ≡ rising p k m ++ rising p (k + m) n
 unfolding rising
-rising-add p k zero n = rw (add-zero k, native.Mathlib.Nat.zero-add n)
+rising-add p k zero n = rw (add-zero k, zero-add n)
 rising-add p k (suc m) n =
     let e : suc m + n ≡ suc (m + n) = omega arith in
     let f : k + suc m ≡ suc k + m = omega arith in

@@ -65,9 +65,9 @@ pub fn without_lowest(w: u32) -> u32
     w & (w - 1)
 }
 
-// How many bits are set in the n words from `base` on. The bits of the run must be few enough to be counted.
+// How many bits are set in the n words from `base` on. A usize must hold the number of the run's bits.
 pub fn count(ws: &[u32], base: usize, n: usize) -> usize
-    requires { ⌜ (base + n ≤ length (now ws)) × (32 * n < 2 ^ 64) ⌝ }
+    requires { ⌜ (base + n ≤ length (now ws)) × (n * 32 < 2 ^ 64) ⌝ }
     ensures { λ r. ⌜ r ≡ onesIn (now (ws .entry)) base n ⌝ }
 {
     let mut total: usize = 0;

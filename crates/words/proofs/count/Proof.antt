@@ -1,3 +1,4 @@
+-- `words::count` meets its contract. The loop's invariant: the bits of i words are counted.
 use Rattle.words.proofs.Bits.{ones-le}
 use Rattle.words.proofs.Machine.{ones-found}
 use Rattle.words.proofs.Flags.{ones-in-none, ones-in-next, ones-in-le}
@@ -10,8 +11,6 @@ use lib.Count
 use Rattle.words.specs.Bits.{ones, onesIn}
 use Rattle.words.proofs.count.Statement.{statement}
 use Rattle.words.proofs.count.Tie as tie
-use Rattle.words.proofs.count.Reads as reads
-use Rattle.words.proofs.count.Lts as lts
 
 abbrev Inv-loop : tie.InvT-loop
 Inv-loop ws base n total₀ i₀ total i = (i ≤ n) × (total ≡ onesIn ws base i)
@@ -27,45 +26,35 @@ counted : (c : tie.After-shared-slice-known Inv-loop μ-loop) → Count.ones (wo
 counted c =
     ones-found (word c) (c .shared-slice-known .given (c .before .before .before .args .base + c .before .before .loop .i) .fits)
 
--- src/lib.rt:75:5
 loop-holds : tie.Need-loop-holds Inv-loop μ-loop
 loop-holds c = (omega arith, sym (ones-in-none (c .args .ws .now) (c .args .base)))
 
--- src/lib.rt:76:37
 add-total : tie.Need-add-total Inv-loop μ-loop
 add-total c = search needs
 
--- src/lib.rt:76:34
 mul-total : tie.Need-mul-total Inv-loop μ-loop
 mul-total c = search needs
 
--- src/lib.rt:76:34
 shared-slice-read-total : tie.Need-shared-slice-read-total Inv-loop μ-loop
 shared-slice-read-total c = omega arith
 
--- src/lib.rt:76:18
 cast-total : tie.Need-cast-total Inv-loop μ-loop
 cast-total c = omega (arith, counted c, ones-le (word c))
 
--- src/lib.rt:76:9
 add-total-2 : tie.Need-add-total-2 Inv-loop μ-loop
 add-total-2 c =
     omega (arith, counted c, ones-le (word c), ones-in-le (c .before .before .before .args .ws .now) (c .before .before .before .args .base) (c .before .before .loop .i))
 
--- src/lib.rt:77:9
 add-i : tie.Need-add-i Inv-loop μ-loop
 add-i c = search needs
 
--- src/lib.rt:75:5
 loop-less : tie.Need-loop-less Inv-loop μ-loop
 loop-less c = omega arith
 
--- src/lib.rt:75:5
 loop-again : tie.Need-loop-again Inv-loop μ-loop
 loop-again c =
     (omega arith, omega (arith, counted c, ones-in-next (c .before .before .before .args .ws .now) (c .before .before .before .args .base) (c .before .before .loop .i)))
 
--- src/lib.rt:69:1
 returns : tie.Need-returns Inv-loop μ-loop
 returns c = let e : c .before .loop .i ≡ c .before .before .args .n = omega arith in rw (← e) (c .before .loop .inv .1)
 

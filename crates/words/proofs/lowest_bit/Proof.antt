@@ -1,10 +1,8 @@
+-- `words::lowest_bit` meets its contract.
 use Rattle.words.proofs.Machine.{lowest-found}
 use Rattle.words.proofs.lowest_bit.Statement.{statement}
 use Rattle.words.proofs.lowest_bit.Tie as tie
-use Rattle.words.proofs.lowest_bit.Reads as reads
-use Rattle.words.proofs.lowest_bit.Lts as lts
 
--- src/lib.rt:54:1
 returns : tie.Need-returns
 returns c = lowest-found (c .args .w)
 

@@ -1,14 +1,12 @@
-use Rattle.words.proofs.Flags.{zeroed-none, zeroed-length, zeroed-next}
+-- `words::zero_run` meets its contract. The loop's invariant: i words are 0.
+use Rattle.words.proofs.Flags.{zeroed-none, length-zeroed, zeroed-next}
 use native.Mathlib.Omega.{arith}
-use lib.ListN.{length-set}
 use borrow.Author.Needs.{needs}
 use mathlib.Core.Path.{_≡_, sym}
 use Prim.Native.Nat.{_-_, _≤_}
 use Rattle.words.specs.Bits.{zeroed}
 use Rattle.words.proofs.zero_run.Statement.{statement}
 use Rattle.words.proofs.zero_run.Tie as tie
-use Rattle.words.proofs.zero_run.Reads as reads
-use Rattle.words.proofs.zero_run.Lts as lts
 
 abbrev Inv-loop : tie.InvT-loop
 Inv-loop ws₀ base n i₀ ws i = (i ≤ n) × (ws ≡ zeroed ws₀ base i)
@@ -16,39 +14,30 @@ Inv-loop ws₀ base n i₀ ws i = (i ≤ n) × (ws ≡ zeroed ws₀ base i)
 abbrev μ-loop : tie.MeasureT-loop
 μ-loop ws₀ base n i₀ ws i = n - i
 
--- src/lib.rt:47:5
 loop-holds : tie.Need-loop-holds Inv-loop μ-loop
 loop-holds c = (omega arith, sym (zeroed-none (c .args .ws .now) (c .args .base)))
 
--- src/lib.rt:48:12
 add-ws : tie.Need-add-ws Inv-loop μ-loop
 add-ws c = search needs
 
--- src/lib.rt:48:9
 mul-ws : tie.Need-mul-ws Inv-loop μ-loop
 mul-ws c = search needs
 
--- src/lib.rt:48:9
 slice-write-ws : tie.Need-slice-write-ws Inv-loop μ-loop
-slice-write-ws c = rw (c .before .loop .inv .1, zeroed-length (c .before .before .args .ws .now) (c .before .before .args .base) (c .before .loop .i) (omega arith)) (omega arith)
+slice-write-ws c = rw (c .before .loop .inv .1, length-zeroed (c .before .before .args .ws .now) (c .before .before .args .base) (c .before .loop .i) (omega arith)) (omega arith)
 
--- src/lib.rt:49:9
 add-i : tie.Need-add-i Inv-loop μ-loop
 add-i c = search needs
 
--- src/lib.rt:47:5
 loop-less : tie.Need-loop-less Inv-loop μ-loop
 loop-less c = omega arith
 
--- src/lib.rt:47:5
 loop-again : tie.Need-loop-again Inv-loop μ-loop
 loop-again c = (omega arith, rw (c .before .loop .inv .1) (zeroed-next (c .before .before .args .ws .now) (c .before .before .args .base) (c .before .loop .i) (omega arith)))
 
--- src/lib.rt:42:1
 same-length : tie.Need-same-length Inv-loop μ-loop
-same-length c = rw (c .before .loop .inv .1) (zeroed-length (c .before .before .args .ws .now) (c .before .before .args .base) (c .before .loop .i) (omega arith))
+same-length c = rw (c .before .loop .inv .1) (length-zeroed (c .before .before .args .ws .now) (c .before .before .args .base) (c .before .loop .i) (omega arith))
 
--- src/lib.rt:42:1
 returns : tie.Need-returns Inv-loop μ-loop
 returns c = let e : c .before .loop .i ≡ c .before .before .args .n = omega arith in rw (← e) (c .before .loop .inv .1)
 

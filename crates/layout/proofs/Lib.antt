@@ -1,0 +1,4 @@
+pub mod Tests
+pub mod Limits
+pub mod Openings
+pub mod Sizes

@@ -1,0 +1,74 @@
+-- Question 4: the test of an opening's numbers and its thresholds, and the bounds that it stands for.
+use Prim.Native.Nat.{ℕ, _<_}
+use native.Mathlib.Omega.{arith}
+use mathlib.Core.Path.{_≡_, refl, ap}
+use mathlib.Core.Bool.{Bool, true, _&&_}
+use borrow.Author.Tests.{lt-ltb, le-leb, eq-eqb, ltb-true, leb-true, eqb-true}
+use lib.Dec.{ltb}
+use lib.ListN.{length, getD}
+use Rattle.meaning.specs.Lists.{all}
+use Rattle.meaning.specs.Ledger.{Settings}
+use Rattle.meaning.specs.SketchCalls.{sketchLimits}
+use Rattle.meaning.specs.Questions.{inLimits}
+use Rattle.layout.specs.declared.Header.{Header}
+use Rattle.layout.specs.Header.{headerOf}
+use Rattle.layout.specs.Limits.{limitsOf, HeaderLimits, Bounds}
+use Rattle.layout.proofs.Tests.{and-left, and-right, and-both, all-at, at-all}
+
+-- a number of 16 bits
+abbrev pub short : ℕ → Bool
+short t = ltb t 65536
+
+abbrev pub limitsOn : Header → ℕ → Bool
+limitsOn h count = limitsOf (h .b) (h .m) (h .q) (h .pages) (h .nodes) count
+
+pub in-limits : (s : Settings) → inLimits s ≡ limitsOn (headerOf s) (length (s .thresholds)) && all short (s .thresholds)
+unfolding inLimits limitsOf
+in-limits s = refl
+
+module _ (h : Header) where
+  pub header-limits : (count : ℕ) → limitsOn h count ≡ true → HeaderLimits h
+  unfolding limitsOf sketchLimits
+  header-limits count e = record {
+    bits-some = ltb-true 0 (h .b) (search (and-left, and-right));
+    bits = leb-true (h .b) 8 (search (and-left, and-right));
+    symbols-some = ltb-true 0 (h .m) (search (and-left, and-right));
+    symbols = leb-true (h .m) 64 (search (and-left, and-right));
+    blocks-some = ltb-true 0 (h .q) (search (and-left, and-right));
+    blocks = leb-true (h .q) 8 (search (and-left, and-right));
+    blocks-fit = leb-true (h .q) (h .m) (search (and-left, and-right));
+    pages-some = ltb-true 0 (h .pages) (search (and-left, and-right));
+    pages = omega (arith, ltb-true (h .pages) 65536 (search (and-left, and-right)));
+    roots-fit = leb-true (h .q) (h .nodes) (search (and-left, and-right));
+    nodes = leb-true (h .nodes) 262144 (search (and-left, and-right));
+  }
+
+  pub limits-header : HeaderLimits h → limitsOn h 64 ≡ true
+  unfolding limitsOf sketchLimits
+  limits-header l =
+      rw (
+        lt-ltb 0 (h .b) (l .bits-some),
+        le-leb (h .b) 8 (l .bits),
+        lt-ltb 0 (h .m) (l .symbols-some),
+        le-leb (h .m) 64 (l .symbols),
+        lt-ltb 0 (h .q) (l .blocks-some),
+        le-leb (h .q) 8 (l .blocks),
+        le-leb (h .q) (h .m) (l .blocks-fit),
+        lt-ltb 0 (h .pages) (l .pages-some),
+        lt-ltb (h .pages) 65536 (omega arith),
+        le-leb (h .q) (h .nodes) (l .roots-fit),
+        le-leb (h .nodes) 262144 (l .nodes),
+      )
+
+pub bounds : (s : Settings) → inLimits s ≡ true → Bounds s
+unfolding inLimits limitsOf
+bounds s e = record {
+  header = header-limits (headerOf s) (length (s .thresholds)) (search (and-left, and-right));
+  count = eqb-true (length (s .thresholds)) 64 (search (and-left, and-right));
+  below = λ k. ltb-true (getD (s .thresholds) k 0) 65536 (all-at short (s .thresholds) k 0 (search (and-left, and-right)) refl);
+}
+
+pub in-bounds : (s : Settings) → Bounds s → inLimits s ≡ true
+in-bounds s b =
+    rw (in-limits, b .count, limits-header (headerOf s) (b .header))
+    (at-all short (s .thresholds) 0 (λ k. lt-ltb (getD (s .thresholds) k 0) 65536 (b .below k)))

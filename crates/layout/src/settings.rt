@@ -1,0 +1,109 @@
+// The settings table: question 4, what a call reads of an opening, the thresholds and the free link.
+ghost use mathlib.Core.Path.{_≡_};
+ghost use Prim.Native.Nat.{_≤_, _<_};
+ghost use lib.Dec.{ltb};
+ghost use lib.ListN.{length, getD, set};
+ghost use Rattle.meaning.specs.Lists.{all};
+ghost use Rattle.layout.specs.Settings.{settingsLength, settingsOf, showsOpening, freeAt};
+ghost use Rattle.layout.specs.Limits.{limitsOf};
+ghost use Rattle.layout.specs.Header.{headerOf, openingOf};
+use crate::Header;
+use crate::Opening;
+
+const MARK: u32 = 0x56440001;
+
+const LENGTH: usize = 391;
+
+const FREE: usize = 390;
+
+// Question 4 of an opening with so many thresholds, each of 16 bits.
+pub fn limits(b: u32, m: u32, q: u32, pages: u32, nodes: u32, thresholds: usize) -> bool
+    ensures { λ r. ⌜ r ≡ limitsOf b m q pages nodes thresholds ⌝ }
+{
+    ((0 < b) & (b <= 8) & ((0 < m) & (m <= 64)))
+        & ((0 < q) & (q <= 8) & (q <= m))
+        & ((0 < pages) & (pages < 65536))
+        & ((q <= nodes) & (nodes <= 262144))
+        & (thresholds == 64)
+}
+
+// Is each threshold in the table below 65,536? No branch: one pass joins their bits.
+fn thresholds_fit(settings: &[u32]) -> bool
+    requires { ⌜ settingsLength ≤ length (now settings) ⌝ }
+    ensures { λ r. ⌜ r ≡ all (λ t. ltb t 65536) (settingsOf (now (settings .entry)) .thresholds) ⌝ }
+{
+    let mut seen: u32 = 0;
+    let mut k = 0;
+    while k < 64 {
+        seen = seen | settings[6 + k];
+        k += 1;
+    }
+    seen < 65536
+}
+
+// Does the table show an opening?
+fn shows_opening(settings: &[u32]) -> bool
+    requires { ⌜ settingsLength ≤ length (now settings) ⌝ }
+    ensures { λ r. ⌜ r ≡ showsOpening (now (settings .entry)) ⌝ }
+{
+    (settings[0] == MARK)
+        & limits(
+            settings[1],
+            settings[2],
+            settings[3],
+            settings[4],
+            settings[5],
+            64,
+        )
+        & thresholds_fit(settings)
+}
+
+fn header(settings: &[u32]) -> Header
+    requires { ⌜ settingsLength ≤ length (now settings) ⌝ }
+    ensures { λ r. ⌜ r ≡ headerOf (settingsOf (now (settings .entry))) ⌝ }
+{
+    Header {
+        b: settings[1] as usize,
+        m: settings[2] as usize,
+        q: settings[3] as usize,
+        pages: settings[4] as usize,
+        nodes: settings[5] as usize,
+    }
+}
+
+// The opening that the table shows; else 5 where it is too short, and 6 where it shows none.
+pub fn opening(settings: &[u32]) -> Opening
+    ensures { λ r. ⌜ r ≡ openingOf (now (settings .entry)) ⌝ }
+{
+    if settings.len() < LENGTH {
+        return Opening::Refused(5);
+    }
+    if !shows_opening(settings) {
+        return Opening::Refused(6);
+    }
+    Opening::Shown(header(settings))
+}
+
+// The threshold of level k.
+pub fn threshold(settings: &[u32], k: usize) -> usize
+    requires { ⌜ settingsLength ≤ length (now settings) ⌝ }
+    requires { ⌜ k < 64 ⌝ }
+    ensures { λ r. ⌜ r ≡ getD (settingsOf (now (settings .entry)) .thresholds) k 0 ⌝ }
+{
+    settings[6 + k] as usize
+}
+
+// The link to the first free node.
+pub fn free_link(settings: &[u32]) -> u32
+    requires { ⌜ settingsLength ≤ length (now settings) ⌝ }
+    ensures { λ r. ⌜ r ≡ getD (now (settings .entry)) freeAt 0 ⌝ }
+{
+    settings[FREE]
+}
+
+pub fn set_free_link(settings: &mut [u32], link: u32)
+    requires { ⌜ settingsLength ≤ length (now settings) ⌝ }
+    ensures { λ r. ⌜ now (settings .exit) ≡ set (now (settings .entry)) freeAt link ⌝ }
+{
+    settings[FREE] = link;
+}

@@ -1,0 +1,1 @@
+// Laws only (proofs/): what holds of sketches, packing, blocks and walks as crate meaning defines them.
