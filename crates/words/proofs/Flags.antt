@@ -10,9 +10,9 @@ use native.Mathlib.Omega.{arith}
 use native.Mathlib.Decide.{decLt, ℕ-discrete}
 use lib.ListN.{length, getD, set, take, drop, replicate, length-append, length-take, length-drop, length-set, length-replicate, length-map, getD-replicate, List·getD-append, take-append-drop, replicate-append-replicate}
 use lib.Seq.{getD-set-same, getD-set-other, take-set-le, take-set-lt, drop-set-lt, drop-set-add, getD-take, getD-drop, getD-append-add, length-take-le, drop-cons, set-at, set-out, set-getD, set-set}
-use Rattle.words.specs.Bits.{bit, withBit, rising, bitsOf, ones, flag, withFlag, zeroed, onesIn}
-use borrow.Author.Tests.{eqb-true, eqb-false}
 use lib.Dec.{eqb}
+use borrow.Author.Tests.{eqb-true, eqb-false}
+use Rattle.words.specs.Bits.{bit, withBit, rising, bitsOf, ones, flag, withFlag, zeroed, onesIn}
 use Rattle.words.proofs.Bits.{bit-zero, with-bit, with-again, bit-with-same, bit-with-other, ones-bits, ones-le}
 use Rattle.words.proofs.Rising.{rising-add, rising-map}
 

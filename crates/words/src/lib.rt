@@ -1,5 +1,5 @@
 // Bits and runs of words in a lent table of 32-bit words. The laws of the definitions that the
-// contracts cite are in proofs/Bits.antt and proofs/Flags.antt.
+// contracts cite are in proofs/Bits.antt, proofs/Flags.antt and proofs/Rising.antt.
 ghost use mathlib.Core.Path.{_≡_};
 ghost use mathlib.Core.Bool.{true, false};
 ghost use mathlib.Core.Logic.{_≢_};

@@ -1,7 +1,7 @@
 -- `words::clear` meets its contract.
 use lib.Bits.{and-le-l}
-use Rattle.words.proofs.Machine.{flag-cleared}
 use borrow.Author.Needs.{needs}
+use Rattle.words.proofs.Machine.{flag-cleared}
 use Rattle.words.proofs.clear.Statement.{statement}
 use Rattle.words.proofs.clear.Tie as tie
 

@@ -1,14 +1,14 @@
 -- `words::count` meets its contract. The loop's invariant: the bits of i words are counted.
+use mathlib.Core.Path.{_≡_, sym}
+use Prim.Native.Nat.{ℕ, _+_, _-_, _≤_}
+use native.Mathlib.Omega.{arith}
+use lib.ListN.{getD}
+use lib.Count
+use borrow.Author.Needs.{needs}
+use Rattle.words.specs.Bits.{ones, onesIn}
 use Rattle.words.proofs.Bits.{ones-le}
 use Rattle.words.proofs.Machine.{ones-found}
 use Rattle.words.proofs.Flags.{ones-in-none, ones-in-next, ones-in-le}
-use native.Mathlib.Omega.{arith}
-use lib.ListN.{getD}
-use borrow.Author.Needs.{needs}
-use mathlib.Core.Path.{_≡_, sym}
-use Prim.Native.Nat.{ℕ, _+_, _-_, _≤_}
-use lib.Count
-use Rattle.words.specs.Bits.{ones, onesIn}
 use Rattle.words.proofs.count.Statement.{statement}
 use Rattle.words.proofs.count.Tie as tie
 

@@ -1,7 +1,7 @@
 -- `words::has` meets its contract: the shifted word's lowest digit is the flag.
 use mathlib.Core.Path.{refl}
-use Rattle.words.specs.Bits.{flag, bit}
 use borrow.Author.Needs.{needs}
+use Rattle.words.specs.Bits.{flag, bit}
 use Rattle.words.proofs.has.Statement.{statement}
 use Rattle.words.proofs.has.Tie as tie
 

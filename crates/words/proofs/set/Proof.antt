@@ -1,6 +1,6 @@
 -- `words::set` meets its contract.
-use Rattle.words.proofs.Machine.{flag-set}
 use borrow.Author.Needs.{needs}
+use Rattle.words.proofs.Machine.{flag-set}
 use Rattle.words.proofs.set.Statement.{statement}
 use Rattle.words.proofs.set.Tie as tie
 

@@ -1,6 +1,6 @@
 -- `words::without_lowest` meets its contract.
-use Rattle.words.proofs.Machine.{lowest-cut}
 use borrow.Author.Needs.{needs}
+use Rattle.words.proofs.Machine.{lowest-cut}
 use Rattle.words.proofs.without_lowest.Statement.{statement}
 use Rattle.words.proofs.without_lowest.Tie as tie
 

@@ -1,10 +1,10 @@
 -- `words::zero_run` meets its contract. The loop's invariant: i words are 0.
-use Rattle.words.proofs.Flags.{zeroed-none, length-zeroed, zeroed-next}
-use native.Mathlib.Omega.{arith}
-use borrow.Author.Needs.{needs}
 use mathlib.Core.Path.{_≡_, sym}
 use Prim.Native.Nat.{_-_, _≤_}
+use native.Mathlib.Omega.{arith}
+use borrow.Author.Needs.{needs}
 use Rattle.words.specs.Bits.{zeroed}
+use Rattle.words.proofs.Flags.{zeroed-none, length-zeroed, zeroed-next}
 use Rattle.words.proofs.zero_run.Statement.{statement}
 use Rattle.words.proofs.zero_run.Tie as tie
 
