@@ -2,7 +2,7 @@
 use Prim.Native.Nat.{ℕ, _<_}
 use native.Mathlib.Omega.{arith}
 use mathlib.Core.Path.{_≡_, refl, ap}
-use mathlib.Core.Bool.{Bool, true, _&&_}
+use mathlib.Core.Bool.{Bool, true, _&&_, and-true}
 use borrow.Author.Tests.{lt-ltb, le-leb, eq-eqb, ltb-true, leb-true, eqb-true}
 use lib.Dec.{ltb}
 use lib.ListN.{length, getD}
@@ -63,7 +63,7 @@ module _ (h : Header) where
 pub bounds : (s : Settings) → inLimits s ≡ true → Bounds s
 unfolding inLimits limitsOf
 bounds s e = record {
-  header = header-limits (headerOf s) (length (s .thresholds)) (search (and-left, and-right));
+  header = header-limits (headerOf s) (length (s .thresholds)) (search and-left);
   count = eqb-true (length (s .thresholds)) 64 (search (and-left, and-right));
   below = λ k. ltb-true (getD (s .thresholds) k 0) 65536 (all-at short (s .thresholds) k 0 (search (and-left, and-right)) refl);
 }
@@ -72,3 +72,9 @@ pub in-bounds : (s : Settings) → Bounds s → inLimits s ≡ true
 in-bounds s b =
     rw (in-limits, b .count, limits-header (headerOf s) (b .header))
     (at-all short (s .thresholds) 0 (λ k. lt-ltb (getD (s .thresholds) k 0) 65536 (b .below k)))
+
+-- thresholds that are lent as numbers of 16 bits
+pub limits-lent : (s : Settings) → ((k : ℕ) → getD (s .thresholds) k 0 < 65536) → inLimits s ≡ limitsOn (headerOf s) (length (s .thresholds))
+limits-lent s below =
+    rw (in-limits, at-all short (s .thresholds) 0 (λ k. lt-ltb (getD (s .thresholds) k 0) 65536 (below k)))
+    (and-true (limitsOn (headerOf s) (length (s .thresholds))))

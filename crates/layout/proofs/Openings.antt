@@ -1,14 +1,13 @@
 -- The settings table: what a written header shows, what leaves an opening as it is, and what the answer to 5 and 6 tells.
-use Prim.Native.Nat.{ℕ, zero, suc, _+_, _≤_, _<_}
+use Prim.Native.Nat.{ℕ, _≤_}
 use native.Mathlib.Omega.{arith}
-use native.Mathlib.Nat.{suc-add, zero-add}
-use mathlib.Core.Path.{_≡_, refl, sym, ap, ap₂, _∙_}
+use mathlib.Core.Path.{_≡_, refl, sym, ap, _∙_}
 use mathlib.Core.Bool.{Bool, true, false, cond, _&&_, and-assoc}
 use mathlib.Core.List.{List, [], _∷_, _++_}
-use borrow.Author.Tests.{le-leb, leb-true, leb-false, eq-eqb}
+use borrow.Author.Tests.{le-leb, leb-true}
 use lib.Dec.{leb, eqb}
 use lib.ListN.{length, getD, set, take, drop, length-set, length-take, length-drop}
-use lib.Seq.{take-at, take-set-le, take-nil, take-take, getD-take}
+use lib.Seq.{take-at, take-set-le, take-take, getD-take}
 use Rattle.meaning.specs.Lists.{all}
 use Rattle.meaning.specs.Refusal.{Question, ask, firstNo}
 use Rattle.meaning.specs.Ledger.{Settings}
@@ -19,6 +18,7 @@ use Rattle.layout.specs.declared.Opening.the-variants.{Shown, Refused}
 use Rattle.layout.specs.Settings.{mark, settingsLength, header, settingsOf, showsOpening}
 use Rattle.layout.specs.Header.{headerOf, openingOf, pick, tablesFirst}
 use Rattle.layout.specs.Limits.{HeaderLimits, Bounds}
+use Rattle.layout.proofs.Parts.{drop-take}
 use Rattle.layout.proofs.Tests.{and-left, and-right}
 use Rattle.layout.proofs.Limits.{short, limitsOn, in-limits, bounds}
 
@@ -51,11 +51,6 @@ module _ (ws : List ℕ) (long : 70 ≤ length ws) where
   shows-tests = rw (in-limits, thresholds-count, and-assoc)
 
 -- ---- an opening hangs on the first 70 words alone
-drop-take : (n m : ℕ) (ws : List ℕ) → drop n (take (n + m) ws) ≡ take m (drop n ws)
-drop-take zero m ws = rw zero-add
-drop-take (suc n) m [] = rw (suc-add, take-nil)
-drop-take (suc n) m (w ∷ ws) = rw (suc-add, drop-take n m ws)
-
 settings-take : (ws : List ℕ) → settingsOf (take 70 ws) ≡ settingsOf ws
 unfolding settingsOf
 settings-take ws = λ i.

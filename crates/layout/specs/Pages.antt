@@ -2,7 +2,7 @@
 -- The sketch table: m symbols a page, a byte each.
 use Prim.Native.Nat.{ℕ, _+_, _*_}
 use mathlib.Core.Bool.{Bool}
-use mathlib.Core.List.{List}
+use mathlib.Core.List.{List, _++_}
 use lib.Dec.{eqb}
 use lib.ListN.{getD, take, drop}
 
@@ -20,3 +20,11 @@ classOf pages P p = getD pages (P + p) 0
 -- a page's row of the sketch table
 unfoldable pub rowOf : ℕ → List ℕ → ℕ → List ℕ
 rowOf m sketches p = take m (drop (p * m) sketches)
+
+-- the words of page p by field: 0 live, 1 class, 2 + j the link of block j
+abbrev pub wordAt : ℕ → ℕ → ℕ → ℕ
+wordAt P k p = k * P + p
+
+-- the sketch table with another row for page p, of m symbols
+unfoldable pub withRow : ℕ → List ℕ → ℕ → List ℕ → List ℕ
+withRow m sketches p x = take (p * m) sketches ++ x ++ drop (p * m + m) sketches
