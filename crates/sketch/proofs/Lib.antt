@@ -1,3 +1,6 @@
+pub mod Bytes
+pub mod Lists
+pub mod Packed
 pub mod Places
 pub mod Runs
 pub mod Width

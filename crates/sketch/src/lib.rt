@@ -1,5 +1,6 @@
 // Sketches: the limits of an index, the table of byte distances, distance, packing, blocks and the comparison with a radius;
 // and the calls on sketches alone, with their C forms.
 pub mod limits;
+pub mod packing;
 pub mod symbols;
 pub mod table;

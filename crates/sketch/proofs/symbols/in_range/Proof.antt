@@ -53,7 +53,7 @@ returns : tie.Need-returns Inv-loop μ-loop
 returns c =
     let at-loop = c .before in
     let args = at-loop .before .args in
-    rw (shifted (args .b) (at-loop .before .pre))
+    rw (shifted (args .b) (at-loop .before .pre .1))
     (sym (range-end (args .b) _ (args .xs .now) (at-loop .loop .i) (c .loop-test .left)) ∙ at-loop .loop .inv .2)
 
 pub in-range-spec : {M : Type 1} → statement M
