@@ -1,7 +1,7 @@
 ghost use mathlib.Core.Path.{_≡_};
 ghost use Prim.Native.Nat.{_+_, _*_, _/_, _<_, _≤_};
 ghost use lib.ListN.{length};
-ghost use Rattle.walk.specs.Mark.{marked, markLeaf};
+ghost use Rattle.walk.specs.Mark.{marked, marks, markLeaf};
 
 // What is left of a budget, or that a link led outside or the budget was spent.
 pub enum Left {
@@ -19,12 +19,19 @@ pub fn mark(map: &mut [u32], words: usize, p: usize)
 }
 
 // Marks the pages of a leaf, whose first page is at a link. Their links begin at `next` in the page table.
-pub fn mark_leaf(pages: &[u32], map: &mut [u32], words: usize, cap: usize, next: usize, first: u32, budget: usize) -> Left
+pub fn mark_leaf(
+    pages: &[u32],
+    map: &mut [u32],
+    words: usize,
+    cap: usize,
+    next: usize,
+    first: u32,
+    budget: usize,
+) -> Left
     requires { ⌜ next + cap ≤ length (now pages) ⌝ }
     requires { ⌜ (cap ≤ 65535) × (words ≤ 2048) × (cap ≤ 32 * words) ⌝ }
     requires { ⌜ words + (words + 31) / 32 ≤ length (now map) ⌝ }
-    ensures { λ r. ⌜ r ≡ markLeaf (now (pages .entry)) words cap next (now (map .entry)) first budget .answer ⌝ }
-    ensures { λ r. ⌜ now (map .exit) ≡ markLeaf (now (pages .entry)) words cap next (now (map .entry)) first budget .map ⌝ }
+    ensures { λ r. ⌜ marks (now (map .exit)) r ≡ markLeaf (now (pages .entry)) words cap next (now (map .entry)) first budget ⌝ }
 {
     let mut link = first;
     let mut left = budget;

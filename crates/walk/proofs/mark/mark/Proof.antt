@@ -20,7 +20,7 @@ same-length c = search needs
 
 returns : tie.Need-returns
 unfolding marked
-returns c = ?
+returns c = cc
 
 pub mark-spec : {M : Type 1} → statement M
 mark-spec = tie.close (tie.spec set-requires set-requires-2 same-length returns)

@@ -1,16 +1,13 @@
 -- `mark_leaf` is `markLeaf`: each turn takes one step of the definition.
-use Prim.Native.Nat.{ℕ, _+_, _*_, _-_, _<_, _≤_, _^_}
-use mathlib.Core.Path.{_≡_, refl, ap, _∙_, sym}
+use Prim.Native.Nat.{_+_, _-_, _<_, _≤_, _^_}
+use mathlib.Core.Path.{_≡_, refl, _∙_, sym}
 use native.Mathlib.Omega.{arith}
-use lib.ListN.{length, length-set}
+use lib.ListN.{length}
 use borrow.Author.Needs.{needs}
-use borrow.Author.Tests.{le-ltb, lt-ltb, eq-eqb, ne-eqb}
-use Rattle.walk.specs.Mark.{Marks, marked, markLeaf}
+use Rattle.walk.specs.Mark.{markLeaf}
+use Rattle.walk.proofs.LeafSteps.{leaf-end, leaf-spent, leaf-outside, leaf-next}
 use Rattle.walk.proofs.mark.mark_leaf.Statement.{statement}
 use Rattle.walk.proofs.mark.mark_leaf.Tie as tie
-use Rattle.walk.proofs.mark.mark_leaf.Reads as reads
-use Rattle.walk.proofs.mark.mark_leaf.Lts as lts
-use Rattle.walk.proofs.mark.mark.Reads as mark-reads
 
 abbrev Inv-loop : tie.InvT-loop
 Inv-loop pages map₀ words cap next first budget link₀ left₀ map link left =
@@ -22,69 +19,60 @@ Inv-loop pages map₀ words cap next first budget link₀ left₀ map link left 
 abbrev μ-loop : tie.MeasureT-loop
 μ-loop pages map₀ words cap next first budget link₀ left₀ map link left = left
 
--- src/mark.rt:31:5
 loop-holds : tie.Need-loop-holds Inv-loop μ-loop
-loop-holds c = search needs
+loop-holds c = (refl, refl, search needs, search needs)
 
--- src/mark.rt:33:13
 same-length : tie.Need-same-length Inv-loop μ-loop
-same-length c = ?
+same-length c = search needs
 
--- src/mark.rt:33:13
 returns : tie.Need-returns Inv-loop μ-loop
-returns c = ?
+returns c = sym (leaf-end _ _ _ _ _ _ _ (c .if1 .taken)) ∙ c .before .loop .inv .0
 
--- src/mark.rt:36:13
 same-length-2 : tie.Need-same-length-2 Inv-loop μ-loop
-same-length-2 c = ?
+same-length-2 c = search needs
 
--- src/mark.rt:36:13
 returns-2 : tie.Need-returns-2 Inv-loop μ-loop
-returns-2 c = ?
+returns-2 c = sym (leaf-spent _ _ _ _ _ _ _ (omega arith) (c .if2 .taken)) ∙ c .before .before .loop .inv .0
 
--- src/mark.rt:38:18
 cast-p : tie.Need-cast-p Inv-loop μ-loop
 cast-p c = search needs
 
--- src/mark.rt:38:17
 sub-p : tie.Need-sub-p Inv-loop μ-loop
 sub-p c = search needs
 
--- src/mark.rt:40:13
 same-length-3 : tie.Need-same-length-3 Inv-loop μ-loop
-same-length-3 c = ?
+same-length-3 c = search needs
 
--- src/mark.rt:40:13
 returns-3 : tie.Need-returns-3 Inv-loop μ-loop
-returns-3 c = ?
+returns-3 c = sym (leaf-outside _ _ _ _ _ _ _ (omega arith)) ∙ c .before .before .before .loop .inv .0
 
--- src/mark.rt:42:9
 mark-requires : tie.Need-mark-requires Inv-loop μ-loop
 mark-requires c κs = search needs
 
--- src/mark.rt:43:22
 add-link : tie.Need-add-link Inv-loop μ-loop
 add-link c = search needs
 
--- src/mark.rt:43:16
 mul-link : tie.Need-mul-link Inv-loop μ-loop
 mul-link c = search needs
 
--- src/mark.rt:43:16
 shared-slice-read-link : tie.Need-shared-slice-read-link Inv-loop μ-loop
 shared-slice-read-link c = search needs
 
--- src/mark.rt:44:9
 sub-left : tie.Need-sub-left Inv-loop μ-loop
 sub-left c = search needs
 
--- src/mark.rt:31:5
 loop-less : tie.Need-loop-less Inv-loop μ-loop
-loop-less c = ?
+loop-less c = search needs
 
--- src/mark.rt:31:5
 loop-again : tie.Need-loop-again Inv-loop μ-loop
-loop-again c = ?
+loop-again c =
+    let at = c .before .before .before .before .before .before .before .before in
+    let after = c .before .before .before .mark in (
+      sym (leaf-next _ _ _ _ _ _ _ _ (omega arith) (omega arith) (omega arith) (after .ensures)) ∙ at .loop .inv .0,
+      search needs,
+      omega (arith, c .shared-slice-known2 .given (at .before .before .before .args .next + (at .loop .link - 1))),
+      omega arith,
+    )
 
 pub mark-leaf-spec : {M : Type 1} → statement M
 mark-leaf-spec =

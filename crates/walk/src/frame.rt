@@ -1,0 +1,117 @@
+// The children of an inner node that a walk has still to go through, and what is found at the next of them.
+ghost use mathlib.Core.Path.{_≡_};
+ghost use Prim.Native.Nat.{_+_, _*_, _<_, _≤_};
+ghost use lib.ListN.{length};
+ghost use Rattle.sketch.specs.Settings.{Bits};
+ghost use Rattle.sketch.specs.Table.{distanceTable};
+ghost use Rattle.walk.specs.Frame.{frameAt, entered, following, childOf, childAt};
+
+// The children from `link` on in the chain whose head is at `at`, and those in the chains of the next heads, up to `last`.
+// Each is to be within `radius`.
+pub struct Frame {
+    pub at: u32,
+    pub last: u32,
+    pub link: u32,
+    pub radius: u32,
+}
+
+// The child of a frame. The last number is the link of the child after it.
+pub enum Child {
+    // too far
+    Beyond(u32),
+    // a leaf, with the link of its first page
+    Pages(u32, u32),
+    // an inner node, with the radius left below it
+    Below(usize, u32, u32),
+    // a link that leads outside, or to a free node
+    Broken,
+}
+
+// The chains whose heads are from `at` to `last`.
+fn frame_at(nodes: &[u32], at: usize, last: usize, radius: u32) -> Frame
+    requires { ⌜ (at < length (now nodes)) × (at ≤ last) × (last < 2621440) ⌝ }
+    ensures { λ r. ⌜ r ≡ frameAt (now (nodes .entry)) at last radius ⌝ }
+{
+    Frame {
+        at: at as u32,
+        last: last as u32,
+        link: layout::nodes::link_of(nodes[at]),
+        radius: radius,
+    }
+}
+
+// All children of a node within a radius of the byte y. At radius 0 only the chain that y belongs to can have one.
+pub fn enter(nodes: &[u32], cap: usize, node: usize, radius: u32, y: u8) -> Frame
+    requires { ⌜ (10 * cap ≤ length (now nodes)) × (cap ≤ 262144) × (node < cap) ⌝ }
+    ensures { λ r. ⌜ r ≡ entered (now (nodes .entry)) cap node radius y ⌝ }
+{
+    if radius == 0 {
+        let at = layout::nodes::head_at(cap, node, (y / 32) as usize);
+        return frame_at(nodes, at, at, 0);
+    }
+    let first = layout::nodes::head_at(cap, node, 0);
+    let last = layout::nodes::head_at(cap, node, 7);
+    frame_at(nodes, first, last, radius)
+}
+
+// The next chain of a frame.
+pub fn next_chain(nodes: &[u32], frame: Frame) -> Frame
+    requires { ⌜ (frame .at < frame .last) × (frame .last < length (now nodes)) × (frame .last < 2621440) ⌝ }
+    ensures { λ r. ⌜ r ≡ frameAt (now (nodes .entry)) (frame .at + 1) (frame .last) (frame .radius) ⌝ }
+{
+    frame_at(
+        nodes,
+        frame.at as usize + 1,
+        frame.last as usize,
+        frame.radius,
+    )
+}
+
+// The link after a child with a byte. At radius 0 no later child of a chain can match once the byte y is reached.
+fn link_after(radius: u32, byte: u8, y: u8, link: u32) -> u32
+    ensures { λ r. ⌜ r ≡ following radius byte y link ⌝ }
+{
+    if radius != 0 {
+        return link;
+    }
+    if byte < y {
+        return link;
+    }
+    0
+}
+
+// What is at node x, which is at distance d from the query's byte.
+fn child_of(nodes: &[u32], cap: usize, radius: u32, x: usize, d: u32, link: u32) -> Child
+    requires { ⌜ (10 * cap ≤ length (now nodes)) × (cap ≤ 262144) × (x < cap) ⌝ }
+    ensures { λ r. ⌜ r ≡ childOf (now (nodes .entry)) cap radius x d link ⌝ }
+{
+    if radius < d {
+        return Child::Beyond(link);
+    }
+    let state = nodes[layout::nodes::state_at(cap, x)];
+    if state == 0 {
+        return Child::Broken;
+    }
+    if state == 1 {
+        return Child::Below(x, radius - d, link);
+    }
+    Child::Pages(state - 2, link)
+}
+
+// The next child of a frame, for the query's byte y.
+pub fn look(table: &[u8; 2048], nodes: &[u32], cap: usize, b: u32, frame: Frame, y: u8) -> Child
+    requires { ⌜ now table ≡ distanceTable ⌝ }
+    requires { ⌜ Bits b ⌝ }
+    requires { ⌜ (10 * cap ≤ length (now nodes)) × (cap ≤ 262144) × (0 < frame .link) ⌝ }
+    ensures { λ r. ⌜ r ≡ childAt (now (nodes .entry)) cap b frame y ⌝ }
+{
+    let x = frame.link as usize - 1;
+    if x >= cap {
+        return Child::Broken;
+    }
+    let w = nodes[x];
+    let byte = (layout::nodes::byte_of(w) % 256) as u8;
+    let d = sketch::table::byte_distance(table, b, byte ^ y);
+    let link = link_after(frame.radius, byte, y, layout::nodes::link_of(w));
+    child_of(nodes, cap, frame.radius, x, d, link)
+}
