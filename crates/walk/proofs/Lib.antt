@@ -1,2 +1,2 @@
 pub mod LeafSteps
-pub mod Children
+pub mod Steps

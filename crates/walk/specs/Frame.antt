@@ -1,4 +1,4 @@
--- The children of an inner node that a walk has still to go through, and what is found at the next of them.
+-- The children of an inner node that a walk has still to go through, and the step to the next of them.
 use Prim.Native.Nat.{ℕ, _+_, _-_, _/_, _%_}
 use mathlib.Core.Bool.{cond, _&&_}
 use mathlib.Core.List.{List}
@@ -8,8 +8,8 @@ use lib.ListN.{getD}
 use Rattle.meaning.specs.Sketch.{byteDistance}
 use Rattle.layout.specs.Nodes.{linkOf, byteOf, stateAt, headAt, freeState, innerState}
 use Rattle.walk.specs.declared.frame.Frame.{Frame}
-use Rattle.walk.specs.declared.frame.Child.{Child}
-use Rattle.walk.specs.declared.frame.Child.the-variants.{Beyond, Pages, Below, Broken}
+use Rattle.walk.specs.declared.frame.Step.{Step}
+use Rattle.walk.specs.declared.frame.Step.the-variants.{Stay, Leaf, Down, Up, Broken}
 
 -- the chains whose heads are from `at` to `last`
 unfoldable pub frameAt : List ℕ → ℕ → ℕ → ℕ → Frame
@@ -26,22 +26,33 @@ entered nodes cap x radius y =
 unfoldable pub following : ℕ → ℕ → ℕ → ℕ → ℕ
 following radius byte y link = cond (eqb radius 0 && leb y byte) 0 link
 
--- what is at node x, which is at distance d, with the link after it
-unfoldable pub childOf : List ℕ → ℕ → ℕ → ℕ → ℕ → ℕ → Child
-childOf nodes cap radius x d link =
-    cond (ltb radius d) (Beyond link)
-    (cond (eqb (getD nodes (stateAt cap x) 0) freeState) Broken
-    (cond (eqb (getD nodes (stateAt cap x) 0) innerState) (Below x (radius - d) link)
-    (Pages (getD nodes (stateAt cap x) 0 - 2) link)))
+-- a frame with another link
+abbrev pub withNext : Frame → ℕ → Frame
+withNext frame link = record { at = frame .at; last = frame .last; link = link; radius = frame .radius }
 
--- a node's byte
-unfoldable pub byteIn : List ℕ → ℕ → ℕ
+-- the step to node x, at distance d, where `rest` is left after it
+unfoldable pub stepTo : List ℕ → ℕ → ℕ → ℕ → Frame → Step
+stepTo nodes cap x d rest =
+    cond (ltb (rest .radius) d) (Stay rest)
+    (cond (eqb (getD nodes (stateAt cap x) 0) freeState) Broken
+    (cond (eqb (getD nodes (stateAt cap x) 0) innerState) (Down x (rest .radius - d) rest)
+    (Leaf (getD nodes (stateAt cap x) 0 - 2) rest)))
+
+-- the byte of node x; in sound tables it is below 256 as it stands
+abbrev pub byteIn : List ℕ → ℕ → ℕ
 byteIn nodes x = byteOf (getD nodes x 0) % 256
 
--- the next child of a frame
-unfoldable pub childAt : List ℕ → ℕ → ℕ → Frame → ℕ → Child
-childAt nodes cap b frame y =
+-- the step to the next child of a chain
+unfoldable pub stepAlong : List ℕ → ℕ → ℕ → Frame → ℕ → Step
+stepAlong nodes cap b frame y =
     let x : ℕ = frame .link - 1 in
+    let byte : ℕ = byteIn nodes x in
     cond (ltb cap (frame .link)) Broken
-    (childOf nodes cap (frame .radius) x (byteDistance b (bitXor (byteIn nodes x) y))
-    (following (frame .radius) (byteIn nodes x) y (linkOf (getD nodes x 0))))
+    (stepTo nodes cap x (byteDistance b (bitXor byte y)) (withNext frame (following (frame .radius) byte y (linkOf (getD nodes x 0)))))
+
+-- the next step in a node: along the chain, else to the next chain, else up
+unfoldable pub stepIn : List ℕ → ℕ → ℕ → Frame → ℕ → Step
+stepIn nodes cap b frame y =
+    cond (eqb (frame .link) 0)
+    (cond (ltb (frame .at) (frame .last)) (Stay (frameAt nodes (frame .at + 1) (frame .last) (frame .radius))) Up)
+    (stepAlong nodes cap b frame y)

@@ -1,10 +1,10 @@
-// The children of an inner node that a walk has still to go through, and what is found at the next of them.
+// The children of an inner node that a walk has still to go through, and the step to the next of them.
 ghost use mathlib.Core.Path.{_≡_};
 ghost use Prim.Native.Nat.{_+_, _*_, _<_, _≤_};
 ghost use lib.ListN.{length};
 ghost use Rattle.sketch.specs.Settings.{Bits};
 ghost use Rattle.sketch.specs.Table.{distanceTable};
-ghost use Rattle.walk.specs.Frame.{frameAt, entered, following, childOf, childAt};
+ghost use Rattle.walk.specs.Frame.{frameAt, entered, following, stepTo, stepAlong, stepIn};
 
 // The children from `link` on in the chain whose head is at `at`, and those in the chains of the next heads, up to `last`.
 // Each is to be within `radius`.
@@ -15,14 +15,16 @@ pub struct Frame {
     pub radius: u32,
 }
 
-// The child of a frame. The last number is the link of the child after it.
-pub enum Child {
-    // too far
-    Beyond(u32),
+// A step of a walk: what it finds, with the frame of what is left after it.
+pub enum Step {
+    // nothing of use
+    Stay(Frame),
     // a leaf, with the link of its first page
-    Pages(u32, u32),
+    Leaf(u32, Frame),
     // an inner node, with the radius left below it
-    Below(usize, u32, u32),
+    Down(usize, u32, Frame),
+    // no child is left
+    Up,
     // a link that leads outside, or to a free node
     Broken,
 }
@@ -80,38 +82,57 @@ fn link_after(radius: u32, byte: u8, y: u8, link: u32) -> u32
     0
 }
 
-// What is at node x, which is at distance d from the query's byte.
-fn child_of(nodes: &[u32], cap: usize, radius: u32, x: usize, d: u32, link: u32) -> Child
+// The step to node x, at distance d from the query's byte, where `rest` is left after it.
+pub fn step_to(nodes: &[u32], cap: usize, x: usize, d: u32, rest: Frame) -> Step
     requires { ⌜ (10 * cap ≤ length (now nodes)) × (cap ≤ 262144) × (x < cap) ⌝ }
-    ensures { λ r. ⌜ r ≡ childOf (now (nodes .entry)) cap radius x d link ⌝ }
+    ensures { λ r. ⌜ r ≡ stepTo (now (nodes .entry)) cap x d rest ⌝ }
 {
-    if radius < d {
-        return Child::Beyond(link);
+    if rest.radius < d {
+        return Step::Stay(rest);
     }
     let state = nodes[layout::nodes::state_at(cap, x)];
     if state == 0 {
-        return Child::Broken;
+        return Step::Broken;
     }
     if state == 1 {
-        return Child::Below(x, radius - d, link);
+        let left = rest.radius - d;
+        return Step::Down(x, left, rest);
     }
-    Child::Pages(state - 2, link)
+    let first = state - 2;
+    Step::Leaf(first, rest)
 }
 
-// The next child of a frame, for the query's byte y.
-pub fn look(table: &[u8; 2048], nodes: &[u32], cap: usize, b: u32, frame: Frame, y: u8) -> Child
+// The step to the next child of a chain.
+fn step_along(table: &[u8; 2048], nodes: &[u32], cap: usize, b: u32, frame: Frame, y: u8) -> Step
     requires { ⌜ now table ≡ distanceTable ⌝ }
     requires { ⌜ Bits b ⌝ }
     requires { ⌜ (10 * cap ≤ length (now nodes)) × (cap ≤ 262144) × (0 < frame .link) ⌝ }
-    ensures { λ r. ⌜ r ≡ childAt (now (nodes .entry)) cap b frame y ⌝ }
+    ensures { λ r. ⌜ r ≡ stepAlong (now (nodes .entry)) cap b frame y ⌝ }
 {
     let x = frame.link as usize - 1;
     if x >= cap {
-        return Child::Broken;
+        return Step::Broken;
     }
     let w = nodes[x];
     let byte = (layout::nodes::byte_of(w) % 256) as u8;
     let d = sketch::table::byte_distance(table, b, byte ^ y);
-    let link = link_after(frame.radius, byte, y, layout::nodes::link_of(w));
-    child_of(nodes, cap, frame.radius, x, d, link)
+    let mut rest = frame;
+    rest.link = link_after(frame.radius, byte, y, layout::nodes::link_of(w));
+    step_to(nodes, cap, x, d, rest)
+}
+
+// The next step in a node, for the query's byte y.
+pub fn next_step(table: &[u8; 2048], nodes: &[u32], cap: usize, b: u32, frame: Frame, y: u8) -> Step
+    requires { ⌜ now table ≡ distanceTable ⌝ }
+    requires { ⌜ Bits b ⌝ }
+    requires { ⌜ (10 * cap ≤ length (now nodes)) × (cap ≤ 262144) × (frame .last < 10 * cap) ⌝ }
+    ensures { λ r. ⌜ r ≡ stepIn (now (nodes .entry)) cap b frame y ⌝ }
+{
+    if frame.link != 0 {
+        return step_along(table, nodes, cap, b, frame, y);
+    }
+    if frame.at < frame.last {
+        return Step::Stay(next_chain(nodes, frame));
+    }
+    Step::Up
 }

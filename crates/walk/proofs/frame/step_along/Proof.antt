@@ -1,10 +1,10 @@
--- `look` tests the link, and hands the child's byte, distance and next link on.
+-- `step_along` tests the link, and hands the child's byte, distance and next link on.
 use mathlib.Core.Path.{refl, sym, _∙_}
 use native.Mathlib.Omega.{arith}
 use borrow.Author.Needs.{needs}
-use Rattle.walk.proofs.Children.{child-outside, child-inside}
-use Rattle.walk.proofs.frame.look.Statement.{statement}
-use Rattle.walk.proofs.frame.look.Tie as tie
+use Rattle.walk.proofs.Steps.{along-outside, along-inside}
+use Rattle.walk.proofs.frame.step_along.Statement.{statement}
+use Rattle.walk.proofs.frame.step_along.Tie as tie
 
 cast-x : tie.Need-cast-x
 cast-x c = search needs
@@ -13,7 +13,7 @@ sub-x : tie.Need-sub-x
 sub-x c = search needs
 
 returns : tie.Need-returns
-returns c = sym (child-outside _ _ _ _ _ (omega arith))
+returns c = sym (along-outside _ _ _ _ _ (omega arith))
 
 mul-w : tie.Need-mul-w
 mul-w c = search needs
@@ -36,21 +36,21 @@ link-of-requires c κs = search needs
 link-after-requires : tie.Need-link-after-requires
 link-after-requires c κs = search needs
 
-child-of-requires : tie.Need-child-of-requires
-child-of-requires c κs = search needs
+step-to-requires : tie.Need-step-to-requires
+step-to-requires c κs = search needs
 
 returns-2 : tie.Need-returns-2
 returns-2 c =
-    c .child-of .ensures
+    c .step-to .ensures
     ∙ sym
-    (child-inside _ _ _ _ _ _ _ _ _ _ (omega arith) refl
+    (along-inside _ _ _ _ _ _ _ _ _ _ (omega arith) refl
     (c .before .before .before .before .byte-of .ensures)
     (c .before .before .link-of .ensures)
     (c .before .before .before .byte-distance .ensures)
     (c .before .link-after .ensures))
 
-pub look-spec : {M : Type 1} → statement M
-look-spec =
+pub step-along-spec : {M : Type 1} → statement M
+step-along-spec =
     tie.close
     (tie.spec
     cast-x
@@ -63,5 +63,5 @@ look-spec =
     byte-distance-requires
     link-of-requires
     link-after-requires
-    child-of-requires
+    step-to-requires
     returns-2)

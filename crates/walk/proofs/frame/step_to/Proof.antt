@@ -1,12 +1,12 @@
--- `child_of` is `childOf`, a test at a time.
+-- `step_to` is `stepTo`, a test at a time.
 use borrow.Author.Tests.{lt-ltb, le-ltb, eq-eqb, ne-eqb}
-use Rattle.walk.specs.Frame.{childOf}
+use Rattle.walk.specs.Frame.{stepTo}
 use borrow.Author.Needs.{needs}
-use Rattle.walk.proofs.frame.child_of.Statement.{statement}
-use Rattle.walk.proofs.frame.child_of.Tie as tie
+use Rattle.walk.proofs.frame.step_to.Statement.{statement}
+use Rattle.walk.proofs.frame.step_to.Tie as tie
 
 returns : tie.Need-returns
-unfolding childOf
+unfolding stepTo
 returns c = rw (lt-ltb _ _ (c .if1 .taken))
 
 state-at-requires : tie.Need-state-at-requires
@@ -19,22 +19,22 @@ shared-slice-read-state : tie.Need-shared-slice-read-state
 shared-slice-read-state c = search needs
 
 returns-2 : tie.Need-returns-2
-unfolding childOf
+unfolding stepTo
 returns-2 c = rw (le-ltb _ _ (c .before .before .before .if1 .left), ← c .before .before .state-at .ensures, eq-eqb _ _ (c .if2 .taken))
 
 returns-3 : tie.Need-returns-3
-unfolding childOf
-returns-3 c = rw (le-ltb _ _ (c .before .before .before .before .if1 .left), ← c .before .before .before .state-at .ensures, ne-eqb _ _ (c .before .if2 .left), eq-eqb _ _ (c .if3 .taken))
+unfolding stepTo
+returns-3 c = rw (le-ltb _ _ (c .before .before .before .before .before .if1 .left), ← c .before .before .before .before .state-at .ensures, ne-eqb _ _ (c .before .before .if2 .left), eq-eqb _ _ (c .before .if3 .taken))
 
-sub-t12 : tie.Need-sub-t12
-sub-t12 c = search needs
+sub-first : tie.Need-sub-first
+sub-first c = search needs
 
 returns-4 : tie.Need-returns-4
-unfolding childOf
+unfolding stepTo
 returns-4 c = rw (le-ltb _ _ (c .before .before .before .before .if1 .left), ← c .before .before .before .state-at .ensures, ne-eqb _ _ (c .before .if2 .left), ne-eqb _ _ (c .if3 .left))
 
-pub child-of-spec : {M : Type 1} → statement M
-child-of-spec =
+pub step-to-spec : {M : Type 1} → statement M
+step-to-spec =
     tie.close
     (tie.spec
     returns
@@ -43,5 +43,5 @@ child-of-spec =
     shared-slice-read-state
     returns-2
     returns-3
-    sub-t12
+    sub-first
     returns-4)
