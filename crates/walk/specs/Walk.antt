@@ -1,16 +1,20 @@
 -- The walk over one block's trie, as a machine with fuel.
-use Prim.Native.Nat.{ℕ, zero, suc, _+_, _*_, _-_}
+use Prim.Native.Nat.{ℕ, zero, suc, _+_, _*_, _-_, _/_, _<_, _≤_}
 use mathlib.Core.Bool.{Bool, true, false, cond}
 use mathlib.Core.List.{List, [], _∷_}
-use lib.Dec.{ltb}
+use lib.Dec.{ltb, eqb}
 use lib.ListN.{length, getD}
+use Rattle.layout.specs.Nodes.{stateAt, freeState, innerState}
+use Rattle.sketch.specs.Settings.{Bits}
 use Rattle.walk.specs.declared.mark.Left.{Left}
-use Rattle.walk.specs.declared.mark.Left.the-variants.{Some, Broken as Spent}
+use Rattle.walk.specs.declared.mark.Left.the-variants as budget
 use Rattle.walk.specs.declared.frame.Frame.{Frame}
 use Rattle.walk.specs.declared.frame.Step.{Step}
-use Rattle.walk.specs.declared.frame.Step.the-variants.{Stay, Leaf, Down, Up, Broken}
+use Rattle.walk.specs.declared.frame.Step.the-variants as step
+use Rattle.walk.specs.declared.walk.Move.{Move}
+use Rattle.walk.specs.declared.walk.Move.the-variants as move
 use Rattle.walk.specs.Mark.{Marks, marks, markLeaf}
-use Rattle.walk.specs.Frame.{entered, stepTo, stepIn}
+use Rattle.walk.specs.Frame.{entered, stepIn}
 
 -- what a walk goes by: the tables, the capacities, where the pages' links and the map of words begin, b, the query's bytes
 pub record Given : Type 0 where
@@ -27,13 +31,53 @@ abbrev pub given : List ℕ → List ℕ → ℕ → ℕ → ℕ → ℕ → ℕ
 given nodes pages cap pcap next words b bytes =
     record { nodes = nodes; pages = pages; cap = cap; pcap = pcap; next = next; words = words; b = b; bytes = bytes }
 
--- the map after a walk, and whether every link was in order and the budgets lasted
-pub record Walked : Type 0 where
-  pub map : List ℕ
-  pub whole : Bool
+-- the capacities are within their limits, and the tables and the map long enough for them
+pub record Fitting (w : Given) (map : List ℕ) : Type 0 where
+  pub nodes : 10 * w .cap ≤ length (w .nodes)
+  pub cap : w .cap ≤ 262144
+  pub pages : w .next + w .pcap ≤ length (w .pages)
+  pub pcap : w .pcap ≤ 65535
+  pub words : w .words ≤ 2048
+  pub bits : w .pcap ≤ 32 * w .words
+  pub summary : w .words + (w .words + 31) / 32 ≤ length map
+  pub b : Bits (w .b)
+  pub some : 0 < length (w .bytes)
+  pub bytes : length (w .bytes) ≤ 64
 
-abbrev pub walked : List ℕ → Bool → Walked
-walked map whole = record { map = map; whole = whole }
+-- ---- a step
+
+-- the map after a step, and where it leads
+pub record Visited : Type 0 where
+  pub map : List ℕ
+  pub move : Move
+
+abbrev pub visited : List ℕ → Move → Visited
+visited map move = record { map = map; move = move }
+
+abbrev pub leafMove : Left → Frame → Move
+leafMove (budget.Some n) rest = move.Stay rest n
+leafMove budget.Broken rest = move.Broken
+
+abbrev pub visitedLeaf : Marks → Frame → Visited
+visitedLeaf m rest = visited (m .map) (leafMove (m .answer) rest)
+
+module _ (w : Given) (map : List ℕ) (left depth : ℕ) where
+  abbrev pub visitStep : Step → Visited
+  visitStep (step.Stay rest) = visited map (move.Stay rest left)
+  visitStep (step.Leaf first rest) = visitedLeaf (markLeaf (w .pages) (w .words) (w .pcap) (w .next) map first left) rest
+  visitStep (step.Down x radius rest) =
+      visited map
+      (cond (ltb (depth + 1) (length (w .bytes)))
+      (move.Down rest (entered (w .nodes) (w .cap) x radius (getD (w .bytes) (depth + 1) 0)))
+      move.Broken)
+  visitStep step.Up = visited map move.Up
+  visitStep step.Broken = visited map move.Broken
+
+  -- a step in a node at level `depth`
+  unfoldable pub visit : Frame → Visited
+  visit frame = visitStep (stepIn (w .nodes) (w .cap) (w .b) frame (getD (w .bytes) depth 0))
+
+-- ---- the machine
 
 -- the map, what is left of the page budget, the frame of a node, and those of the nodes above, the nearest first
 pub record State : Type 0 where
@@ -45,54 +89,47 @@ pub record State : Type 0 where
 abbrev pub state : List ℕ → ℕ → Frame → List Frame → State
 state map left frame stack = record { map = map; left = left; frame = frame; stack = stack }
 
--- a turn ends the walk or leads to another state
-pub data Turn : Type 0 where
-  over : Walked → Turn
-  on : State → Turn
+-- the map after a walk, and whether every link was in order and the budgets lasted
+pub record Walked : Type 0 where
+  pub map : List ℕ
+  pub whole : Bool
 
--- with a leaf's pages marked
-abbrev pub leafTurn : List ℕ → Left → Frame → List Frame → Turn
-leafTurn map (Some left) rest stack = on (state map left rest stack)
-leafTurn map Spent rest stack = over (walked map false)
+abbrev pub walked : List ℕ → Bool → Walked
+walked map whole = record { map = map; whole = whole }
 
--- back to the node above
-abbrev pub upTurn : List ℕ → ℕ → List Frame → Turn
-upTurn map left [] = over (walked map true)
-upTurn map left (f ∷ fs) = on (state map left f fs)
+abbrev pub isSome : Left → Bool
+isSome (budget.Some n) = true
+isSome budget.Broken = false
+
+-- a root that is a leaf
+abbrev pub walkedLeaf : Marks → Walked
+walkedLeaf m = walked (m .map) (isSome (m .answer))
+
+-- what a move leads to
+abbrev pub follow : (State → Walked) → List ℕ → ℕ → List Frame → Move → Walked
+follow run map left stack (move.Stay rest n) = run (state map n rest stack)
+follow run map left stack (move.Down rest below) = run (state map left below (rest ∷ stack))
+follow run map left [] move.Up = walked map true
+follow run map left (f ∷ fs) move.Up = run (state map left f fs)
+follow run map left stack move.Broken = walked map false
 
 module _ (w : Given) where
-  abbrev pub marksOf : List ℕ → ℕ → ℕ → Marks
-  marksOf map first left = markLeaf (w .pages) (w .words) (w .pcap) (w .next) map first left
-
-  -- the query's byte at level k
-  abbrev pub byteOf : ℕ → ℕ
-  byteOf k = getD (w .bytes) k 0
-
-  -- what a step leads to
-  abbrev pub turnOf : Step → State → Turn
-  turnOf (Stay rest) s = on (state (s .map) (s .left) rest (s .stack))
-  turnOf (Leaf first rest) s =
-      leafTurn (marksOf (s .map) first (s .left) .map) (marksOf (s .map) first (s .left) .answer) rest (s .stack)
-  turnOf (Down x radius rest) s =
-      cond (ltb (length (s .stack) + 1) (length (w .bytes)))
-      (on (state (s .map) (s .left) (entered (w .nodes) (w .cap) x radius (byteOf (length (s .stack) + 1))) (rest ∷ s .stack)))
-      (over (walked (s .map) false))
-  turnOf Up s = upTurn (s .map) (s .left) (s .stack)
-  turnOf Broken s = over (walked (s .map) false)
-
-  unfoldable pub turn : State → Turn
-  turn s = turnOf (stepIn (w .nodes) (w .cap) (w .b) (s .frame) (byteOf (length (s .stack)))) s
-
-  abbrev pub further : Turn → (State → Walked) → Walked
-  further (over e) run = e
-  further (on s) run = run s
-
   -- at most f steps
   unfoldable pub run : ℕ → State → Walked
   run zero s = walked (s .map) false
-  run (suc f) s = further (turn s) (run f)
+  run (suc f) s =
+      let v : Visited = visit w (s .map) (s .left) (length (s .stack)) (s .frame) in
+      follow (run f) (v .map) (s .left) (s .stack) (v .move)
 
-  -- a walk over what is below the inner node x; a node costs a step to it, at most seven to the next chain, and one up
+  -- below the inner node x: for each node a step to it, at most seven to the next chain, and one up
   unfoldable pub walkBelow : ℕ → ℕ → List ℕ → Walked
   walkBelow x radius map =
-      run (10 * (w .cap + 1)) (state map (w .pcap) (entered (w .nodes) (w .cap) x radius (byteOf 0)) [])
+      run (10 * (w .cap + 1)) (state map (w .pcap) (entered (w .nodes) (w .cap) x radius (getD (w .bytes) 0 0)) [])
+
+  -- from a root: a leaf, or inner
+  unfoldable pub walkFrom : ℕ → ℕ → List ℕ → Walked
+  walkFrom root radius map =
+      let word : ℕ = getD (w .nodes) (stateAt (w .cap) root) 0 in
+      cond (eqb word freeState) (walked map false)
+      (cond (eqb word innerState) (walkBelow root radius map)
+      (walkedLeaf (markLeaf (w .pages) (w .words) (w .pcap) (w .next) map (word - 2) (w .pcap))))
