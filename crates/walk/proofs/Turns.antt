@@ -1,7 +1,7 @@
 -- The turns of the walk, by where a visit leads.
 use Prim.Native.Nat.{ℕ, zero, suc, _+_, _*_, _-_, _<_, _≤_}
 use native.Mathlib.Omega.{arith}
-use mathlib.Core.Path.{_≡_, refl, sym, ap, _∙_, subst}
+use mathlib.Core.Path.{_≡_, refl, sym, ap, ap₂, _∙_, subst}
 use mathlib.Core.Bool.{Bool, true, false, cond}
 use mathlib.Core.List.{List, [], _∷_}
 use lib.Dec.{ltb}
@@ -17,10 +17,10 @@ use Rattle.walk.specs.declared.walk.Move.{Move}
 use Rattle.walk.specs.declared.walk.Move.the-variants as move
 use Rattle.walk.specs.Mark.{marks, markLeaf}
 use Rattle.walk.specs.Frame.{entered, stepIn}
-use Rattle.walk.specs.Walk.{Given, Fitting, Visited, visited, leafMove, visitStep, visit, State, state, Walked, walked, follow, run, walkBelow, isSome, walkedLeaf, walkFrom}
+use Rattle.walk.specs.Walk.{Given, Fitting, Visited, visited, leafMove, visitStep, visit, state, Walked, walked, atLink, follow, run, walkBelow, isSome, walkedLeaf, walkFrom}
 use Rattle.walk.proofs.LeafSteps.{suc-pred}
-use Rattle.walk.proofs.Steps.{Within, step-within}
-use Rattle.walk.proofs.Stack.{above, Inside, inside-entered}
+use Rattle.walk.proofs.Steps.{down-within}
+use Rattle.walk.proofs.Stack.{above}
 
 length-none : {A : Type 0} (xs : List A) → length xs ≡ 0 → xs ≡ []
 length-none [] e = refl
@@ -47,36 +47,43 @@ module _ (w : Given) (f : ℕ) (map : List ℕ) (left : ℕ) (frame : Frame) (st
 
   module _ (some : 0 < f) (depth : ℕ) (level : length stack ≡ depth) (after : List ℕ) (found : Move)
       (e : visited after found ≡ visit w map left depth frame) where
-    pub run-by : (m : Move) → found ≡ m → run w f (state map left frame stack) ≡ follow (run w (f - 1)) after left stack m
+    run-by : (m : Move) → found ≡ m → run w f (state map left frame stack) ≡ follow w (run w (f - 1)) after left frame stack m
     unfolding run
     run-by m q =
         ap (λ n. run w n (state map left frame stack)) (suc-pred f some)
         ∙ ap (λ n. turned (visit w map left n frame)) level
         ∙ ap turned (sym e)
-        ∙ ap (follow (run w (f - 1)) after left stack) q
+        ∙ ap (follow w (run w (f - 1)) after left frame stack) q
       where
         turned : Visited → Walked
-        turned v = follow (run w (f - 1)) (v .map) left stack (v .move)
+        turned v = follow w (run w (f - 1)) (v .map) left frame stack (v .move)
 
-    pub run-stay : (rest : Frame) (n : ℕ) → found ≡ move.Stay rest n
-        → run w f (state map left frame stack) ≡ run w (f - 1) (state after n rest stack)
-    run-stay rest n q = run-by (move.Stay rest n) q
+    pub run-stay : (at link n : ℕ) → found ≡ move.Stay at link n
+        → run w f (state map left frame stack) ≡ run w (f - 1) (state after n (atLink frame at link) stack)
+    run-stay at link n q = run-by (move.Stay at link n) q
 
-    pub run-down : (rest below : Frame) (stack′ : List Frame) → found ≡ move.Down rest below → stack′ ≡ rest ∷ stack
+    pub run-down : (x radius link : ℕ) (below : Frame) (stack′ : List Frame) → found ≡ move.Down x radius link
+        → below ≡ entered (w .nodes) (w .cap) x radius (getD (w .bytes) (depth + 1) 0)
+        → stack′ ≡ atLink frame (frame .at) link ∷ stack
         → run w f (state map left frame stack) ≡ run w (f - 1) (state after left below stack′)
-    run-down rest below stack′ q s = run-by (move.Down rest below) q ∙ ap (λ fs. run w (f - 1) (state after left below fs)) (sym s)
+    run-down x radius link below stack′ q b s =
+        run-by (move.Down x radius link) q
+        ∙ ap
+        (λ n. run w (f - 1) (state after left (entered (w .nodes) (w .cap) x radius (getD (w .bytes) (n + 1) 0)) (atLink frame (frame .at) link ∷ stack)))
+        level
+        ∙ ap₂ (λ g fs. run w (f - 1) (state after left g fs)) (sym b) (sym s)
 
     pub run-up : (back : Frame) (stack′ : List Frame) → found ≡ move.Up → stack ≡ back ∷ stack′
         → run w f (state map left frame stack) ≡ run w (f - 1) (state after left back stack′)
-    run-up back stack′ q s = run-by move.Up q ∙ ap (λ fs. follow (run w (f - 1)) after left fs move.Up) s
+    run-up back stack′ q s = run-by move.Up q ∙ ap (λ fs. follow w (run w (f - 1)) after left frame fs move.Up) s
 
     pub run-done : found ≡ move.Up → depth ≡ 0 → run w f (state map left frame stack) ≡ walked after true
-    run-done q z = run-by move.Up q ∙ ap (λ fs. follow (run w (f - 1)) after left fs move.Up) (length-none stack (level ∙ z))
+    run-done q z = run-by move.Up q ∙ ap (λ fs. follow w (run w (f - 1)) after left frame fs move.Up) (length-none stack (level ∙ z))
 
     pub run-broken : found ≡ move.Broken → run w f (state map left frame stack) ≡ walked after false
     run-broken q = run-by move.Broken q ∙ broken stack
       where
-        broken : (fs : List Frame) → follow (run w (f - 1)) after left fs move.Broken ≡ walked after false
+        broken : (fs : List Frame) → follow w (run w (f - 1)) after left frame fs move.Broken ≡ walked after false
         broken [] = refl
         broken (x ∷ fs) = refl
 
@@ -86,38 +93,40 @@ pub run-start : (w : Given) (x radius : ℕ) (map : List ℕ) (frame : Frame) (s
 unfolding walkBelow above
 run-start w x radius map frame stack e = ap (λ f. run w (10 * (w .cap + 1)) (state map (w .pcap) f [])) e
 
--- where a visit leads is in the node table, and not below the last level
-abbrev pub MoveInside : ℕ → ℕ → ℕ → Move → Type 0
-MoveInside cap len depth (move.Stay rest n) = Inside cap rest
-MoveInside cap len depth (move.Down rest below) = Inside cap rest × Inside cap below × (depth + 1 < len)
-MoveInside cap len depth move.Up = Unit {0}
-MoveInside cap len depth move.Broken = Unit {0}
+-- a visit leads to a node of the table, and not below the last level
+abbrev MoveWithin : ℕ → ℕ → ℕ → Move → Type 0
+MoveWithin cap len depth (move.Stay at link n) = Unit {0}
+MoveWithin cap len depth (move.Down x radius link) = (x < cap) × (depth + 1 < len)
+MoveWithin cap len depth move.Up = Unit {0}
+MoveWithin cap len depth move.Broken = Unit {0}
 
-module _ (w : Given) (bytes : (k : ℕ) → getD (w .bytes) k 0 < 256) (map : List ℕ) (left depth : ℕ) (frame : Frame) (i : Inside (w .cap) frame) where
-  step-inside : (s : Step) → Within (w .cap) (frame .last) s
-      → MoveInside (w .cap) (length (w .bytes)) depth (visitStep w map left depth s .move)
-  step-inside (step.Stay rest) h = omega arith
-  step-inside (step.Leaf first rest) h = go (markLeaf (w .pages) (w .words) (w .pcap) (w .next) map first left .answer)
+module _ (w : Given) (map : List ℕ) (left depth : ℕ) (frame : Frame) where
+  visit-within : (s : Step) → stepIn (w .nodes) (w .cap) (w .b) frame (getD (w .bytes) depth 0) ≡ s
+      → MoveWithin (w .cap) (length (w .bytes)) depth (visitStep w map left depth frame s .move)
+  visit-within (step.Stay at link) e = tt
+  visit-within (step.Leaf first link) e = go (markLeaf (w .pages) (w .words) (w .pcap) (w .next) map first left .answer)
     where
-      go : (a : Left) → MoveInside (w .cap) (length (w .bytes)) depth (leafMove a rest)
-      go (budget.Some n) = omega arith
+      go : (a : Left) → MoveWithin (w .cap) (length (w .bytes)) depth (leafMove a (frame .at) link)
+      go (budget.Some n) = tt
       go budget.Broken = tt
-  step-inside (step.Down x radius rest) h = go (ltb (depth + 1) (length (w .bytes))) refl
+  visit-within (step.Down x radius link) e = go (ltb (depth + 1) (length (w .bytes))) refl
     where
       go : (q : Bool) → ltb (depth + 1) (length (w .bytes)) ≡ q
-          → MoveInside (w .cap) (length (w .bytes)) depth
-          (cond q (move.Down rest (entered (w .nodes) (w .cap) x radius (getD (w .bytes) (depth + 1) 0))) move.Broken)
-      go true e = (omega arith, inside-entered (w .nodes) (w .cap) x radius (getD (w .bytes) (depth + 1) 0) (entered (w .nodes) (w .cap) x radius (getD (w .bytes) (depth + 1) 0)) refl (h .0) (bytes (depth + 1)), ltb-true (depth + 1) (length (w .bytes)) e)
-      go false e = tt
-  step-inside step.Up h = tt
-  step-inside step.Broken h = tt
+          → MoveWithin (w .cap) (length (w .bytes)) depth (cond q (move.Down x radius link) move.Broken)
+      go true f = (
+        down-within (w .nodes) (w .cap) (w .b) (getD (w .bytes) depth 0) frame x radius link e,
+        ltb-true (depth + 1) (length (w .bytes)) f,
+      )
+      go false f = tt
+  visit-within step.Up e = tt
+  visit-within step.Broken e = tt
 
-  pub move-inside : (after : List ℕ) (found m : Move) → visited after found ≡ visit w map left depth frame → found ≡ m
-      → MoveInside (w .cap) (length (w .bytes)) depth m
+  pub down-inside : (after : List ℕ) (found : Move) (x radius link : ℕ) → visited after found ≡ visit w map left depth frame
+      → found ≡ move.Down x radius link → (x < w .cap) × (depth + 1 < length (w .bytes))
   unfolding visit
-  move-inside after found m e q =
-      subst (MoveInside (w .cap) (length (w .bytes)) depth) (sym (ap (λ v. v .move) e) ∙ q)
-      (step-inside (stepIn (w .nodes) (w .cap) (w .b) frame (getD (w .bytes) depth 0)) (step-within (w .nodes) (w .cap) (w .b) (getD (w .bytes) depth 0) frame))
+  down-inside after found x radius link e q =
+      subst (MoveWithin (w .cap) (length (w .bytes)) depth) (sym (ap (λ v. v .move) e) ∙ q)
+      (visit-within (stepIn (w .nodes) (w .cap) (w .b) frame (getD (w .bytes) depth 0)) refl)
 
 -- ---- from a root, whose state stands at `at`
 module _ (w : Given) (root radius : ℕ) (map : List ℕ) (at : ℕ) (e : at ≡ stateAt (w .cap) root) where

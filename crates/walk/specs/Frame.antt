@@ -26,17 +26,13 @@ entered nodes cap x radius y =
 unfoldable pub following : ℕ → ℕ → ℕ → ℕ → ℕ
 following radius byte y link = cond (eqb radius 0 && leb y byte) 0 link
 
--- a frame with another link
-abbrev pub withNext : Frame → ℕ → Frame
-withNext frame link = record { at = frame .at; last = frame .last; link = link; radius = frame .radius }
-
--- the step to node x, at distance d, where `rest` is left after it
-unfoldable pub stepTo : List ℕ → ℕ → ℕ → ℕ → Frame → Step
-stepTo nodes cap x d rest =
-    cond (ltb (rest .radius) d) (Stay rest)
+-- the step to node x, at distance d, in the chain of the head `at`; `link` is after it
+unfoldable pub stepTo : List ℕ → ℕ → ℕ → ℕ → ℕ → ℕ → ℕ → Step
+stepTo nodes cap x d radius at link =
+    cond (ltb radius d) (Stay at link)
     (cond (eqb (getD nodes (stateAt cap x) 0) freeState) Broken
-    (cond (eqb (getD nodes (stateAt cap x) 0) innerState) (Down x (rest .radius - d) rest)
-    (Leaf (getD nodes (stateAt cap x) 0 - 2) rest)))
+    (cond (eqb (getD nodes (stateAt cap x) 0) innerState) (Down x (radius - d) link)
+    (Leaf (getD nodes (stateAt cap x) 0 - 2) link)))
 
 -- the byte of node x; in sound tables it is below 256 as it stands
 abbrev pub byteIn : List ℕ → ℕ → ℕ
@@ -48,11 +44,12 @@ stepAlong nodes cap b frame y =
     let x : ℕ = frame .link - 1 in
     let byte : ℕ = byteIn nodes x in
     cond (ltb cap (frame .link)) Broken
-    (stepTo nodes cap x (byteDistance b (bitXor byte y)) (withNext frame (following (frame .radius) byte y (linkOf (getD nodes x 0)))))
+    (stepTo nodes cap x (byteDistance b (bitXor byte y)) (frame .radius) (frame .at)
+    (following (frame .radius) byte y (linkOf (getD nodes x 0))))
 
 -- the next step in a node: along the chain, else to the next chain, else up
 unfoldable pub stepIn : List ℕ → ℕ → ℕ → Frame → ℕ → Step
 stepIn nodes cap b frame y =
     cond (eqb (frame .link) 0)
-    (cond (ltb (frame .at) (frame .last)) (Stay (frameAt nodes (frame .at + 1) (frame .last) (frame .radius))) Up)
+    (cond (ltb (frame .at) (frame .last)) (Stay (frame .at + 1) (linkOf (getD nodes (frame .at + 1) 0))) Up)
     (stepAlong nodes cap b frame y)

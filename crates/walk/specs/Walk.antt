@@ -54,28 +54,24 @@ pub record Visited : Type 0 where
 abbrev pub visited : List ℕ → Move → Visited
 visited map move = record { map = map; move = move }
 
-abbrev pub leafMove : Left → Frame → Move
-leafMove (budget.Some n) rest = move.Stay rest n
-leafMove budget.Broken rest = move.Broken
+abbrev pub leafMove : Left → ℕ → ℕ → Move
+leafMove (budget.Some n) at link = move.Stay at link n
+leafMove budget.Broken at link = move.Broken
 
-abbrev pub visitedLeaf : Marks → Frame → Visited
-visitedLeaf m rest = visited (m .map) (leafMove (m .answer) rest)
+abbrev pub visitedLeaf : Marks → ℕ → ℕ → Visited
+visitedLeaf m at link = visited (m .map) (leafMove (m .answer) at link)
 
-module _ (w : Given) (map : List ℕ) (left depth : ℕ) where
+module _ (w : Given) (map : List ℕ) (left depth : ℕ) (frame : Frame) where
   abbrev pub visitStep : Step → Visited
-  visitStep (step.Stay rest) = visited map (move.Stay rest left)
-  visitStep (step.Leaf first rest) = visitedLeaf (markLeaf (w .pages) (w .words) (w .pcap) (w .next) map first left) rest
-  visitStep (step.Down x radius rest) =
-      visited map
-      (cond (ltb (depth + 1) (length (w .bytes)))
-      (move.Down rest (entered (w .nodes) (w .cap) x radius (getD (w .bytes) (depth + 1) 0)))
-      move.Broken)
+  visitStep (step.Stay at link) = visited map (move.Stay at link left)
+  visitStep (step.Leaf first link) = visitedLeaf (markLeaf (w .pages) (w .words) (w .pcap) (w .next) map first left) (frame .at) link
+  visitStep (step.Down x radius link) = visited map (cond (ltb (depth + 1) (length (w .bytes))) (move.Down x radius link) move.Broken)
   visitStep step.Up = visited map move.Up
   visitStep step.Broken = visited map move.Broken
 
   -- a step in a node at level `depth`
-  unfoldable pub visit : Frame → Visited
-  visit frame = visitStep (stepIn (w .nodes) (w .cap) (w .b) frame (getD (w .bytes) depth 0))
+  unfoldable pub visit : Visited
+  visit = visitStep (stepIn (w .nodes) (w .cap) (w .b) frame (getD (w .bytes) depth 0))
 
 -- ---- the machine
 
@@ -105,21 +101,28 @@ isSome budget.Broken = false
 abbrev pub walkedLeaf : Marks → Walked
 walkedLeaf m = walked (m .map) (isSome (m .answer))
 
--- what a move leads to
-abbrev pub follow : (State → Walked) → List ℕ → ℕ → List Frame → Move → Walked
-follow run map left stack (move.Stay rest n) = run (state map n rest stack)
-follow run map left stack (move.Down rest below) = run (state map left below (rest ∷ stack))
-follow run map left [] move.Up = walked map true
-follow run map left (f ∷ fs) move.Up = run (state map left f fs)
-follow run map left stack move.Broken = walked map false
+-- a frame to go on from
+abbrev pub atLink : Frame → ℕ → ℕ → Frame
+atLink frame at link = record { at = at; last = frame .last; link = link; radius = frame .radius }
 
 module _ (w : Given) where
+  -- what a move leads to
+  abbrev pub follow : (State → Walked) → List ℕ → ℕ → Frame → List Frame → Move → Walked
+  follow run map left frame stack (move.Stay at link n) = run (state map n (atLink frame at link) stack)
+  follow run map left frame stack (move.Down x radius link) =
+      run
+      (state map left (entered (w .nodes) (w .cap) x radius (getD (w .bytes) (length stack + 1) 0))
+      (atLink frame (frame .at) link ∷ stack))
+  follow run map left frame [] move.Up = walked map true
+  follow run map left frame (f ∷ fs) move.Up = run (state map left f fs)
+  follow run map left frame stack move.Broken = walked map false
+
   -- at most f steps
   unfoldable pub run : ℕ → State → Walked
   run zero s = walked (s .map) false
   run (suc f) s =
       let v : Visited = visit w (s .map) (s .left) (length (s .stack)) (s .frame) in
-      follow (run f) (v .map) (s .left) (s .stack) (v .move)
+      follow (run f) (v .map) (s .left) (s .frame) (s .stack) (v .move)
 
   -- below the inner node x: for each node a step to it, at most seven to the next chain, and one up
   unfoldable pub walkBelow : ℕ → ℕ → List ℕ → Walked

@@ -15,14 +15,14 @@ pub struct Frame {
     pub radius: u32,
 }
 
-// A step of a walk: what it finds, with the frame of what is left after it.
+// A step of a walk. The last number is the link to go on from.
 pub enum Step {
-    // nothing of use
-    Stay(Frame),
-    // a leaf, with the link of its first page
-    Leaf(u32, Frame),
-    // an inner node, with the radius left below it
-    Down(usize, u32, Frame),
+    // nothing of use; the first number is the head of the chain to go on in
+    Stay(u32, u32),
+    // a leaf, by the link of its first page
+    Leaf(u32, u32),
+    // an inner node, and the radius left below it
+    Down(u32, u32, u32),
     // no child is left
     Up,
     // a link that leads outside, or to a free node
@@ -56,19 +56,6 @@ pub fn enter(nodes: &[u32], cap: usize, node: usize, radius: u32, y: u8) -> Fram
     frame_at(nodes, first, last, radius)
 }
 
-// The next chain of a frame.
-pub fn next_chain(nodes: &[u32], frame: Frame) -> Frame
-    requires { ⌜ (frame .at < frame .last) × (frame .last < length (now nodes)) × (frame .last < 2621440) ⌝ }
-    ensures { λ r. ⌜ r ≡ frameAt (now (nodes .entry)) (frame .at + 1) (frame .last) (frame .radius) ⌝ }
-{
-    frame_at(
-        nodes,
-        frame.at as usize + 1,
-        frame.last as usize,
-        frame.radius,
-    )
-}
-
 // The link after a child with a byte. At radius 0 no later child of a chain can match once the byte y is reached.
 fn link_after(radius: u32, byte: u8, y: u8, link: u32) -> u32
     ensures { λ r. ⌜ r ≡ following radius byte y link ⌝ }
@@ -82,24 +69,24 @@ fn link_after(radius: u32, byte: u8, y: u8, link: u32) -> u32
     0
 }
 
-// The step to node x, at distance d from the query's byte, where `rest` is left after it.
-pub fn step_to(nodes: &[u32], cap: usize, x: usize, d: u32, rest: Frame) -> Step
+// The step to node x, at distance d from the query's byte, in the chain of the head `at`; `link` is after it.
+fn step_to(nodes: &[u32], cap: usize, x: usize, d: u32, radius: u32, at: u32, link: u32) -> Step
     requires { ⌜ (10 * cap ≤ length (now nodes)) × (cap ≤ 262144) × (x < cap) ⌝ }
-    ensures { λ r. ⌜ r ≡ stepTo (now (nodes .entry)) cap x d rest ⌝ }
+    ensures { λ r. ⌜ r ≡ stepTo (now (nodes .entry)) cap x d radius at link ⌝ }
 {
-    if rest.radius < d {
-        return Step::Stay(rest);
+    if radius < d {
+        return Step::Stay(at, link);
     }
     let state = nodes[layout::nodes::state_at(cap, x)];
     if state == 0 {
         return Step::Broken;
     }
     if state == 1 {
-        let left = rest.radius - d;
-        return Step::Down(x, left, rest);
+        let node = x as u32;
+        return Step::Down(node, radius - d, link);
     }
     let first = state - 2;
-    Step::Leaf(first, rest)
+    Step::Leaf(first, link)
 }
 
 // The step to the next child of a chain.
@@ -116,9 +103,8 @@ fn step_along(table: &[u8; 2048], nodes: &[u32], cap: usize, b: u32, frame: Fram
     let w = nodes[x];
     let byte = (layout::nodes::byte_of(w) % 256) as u8;
     let d = sketch::table::byte_distance(table, b, byte ^ y);
-    let mut rest = frame;
-    rest.link = link_after(frame.radius, byte, y, layout::nodes::link_of(w));
-    step_to(nodes, cap, x, d, rest)
+    let link = link_after(frame.radius, byte, y, layout::nodes::link_of(w));
+    step_to(nodes, cap, x, d, frame.radius, frame.at, link)
 }
 
 // The next step in a node, for the query's byte y.
@@ -131,8 +117,10 @@ pub fn next_step(table: &[u8; 2048], nodes: &[u32], cap: usize, b: u32, frame: F
     if frame.link != 0 {
         return step_along(table, nodes, cap, b, frame, y);
     }
-    if frame.at < frame.last {
-        return Step::Stay(next_chain(nodes, frame));
+    if frame.at >= frame.last {
+        return Step::Up;
     }
-    Step::Up
+    let at = frame.at + 1;
+    let link = layout::nodes::link_of(nodes[at as usize]);
+    Step::Stay(at, link)
 }

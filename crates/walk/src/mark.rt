@@ -5,7 +5,7 @@ ghost use Rattle.walk.specs.Mark.{marked, marks, markLeaf};
 
 // What is left of a budget, or that a link led outside or the budget was spent.
 pub enum Left {
-    Some(usize),
+    Some(u32),
     Broken,
 }
 
@@ -26,7 +26,7 @@ pub fn mark_leaf(
     cap: usize,
     next: usize,
     first: u32,
-    budget: usize,
+    budget: u32,
 ) -> Left
     requires { ⌜ next + cap ≤ length (now pages) ⌝ }
     requires { ⌜ (cap ≤ 65535) × (words ≤ 2048) × (cap ≤ 32 * words) ⌝ }

@@ -11,10 +11,10 @@ use crate::mark::Left;
 
 // Where a visit leads.
 pub enum Move {
-    // on in the same node, with what is left of the page budget
-    Stay(Frame, usize),
-    // to a node below; the first frame is what is left here
-    Down(Frame, Frame),
+    // on in the same node: the head and the link to go on from, and what is left of the page budget
+    Stay(u32, u32, u32),
+    // to a node below: its number, the radius left, and the link after it
+    Down(u32, u32, u32),
     // back to the node above
     Up,
     // a link is not in order, or the page budget is spent
@@ -35,7 +35,7 @@ fn visit(
     bytes: &[u8],
     depth: usize,
     frame: Frame,
-    left: usize,
+    left: u32,
 ) -> Move
     requires { ⌜ now table ≡ distanceTable ⌝ }
     requires { ⌜ Fitting (given (now nodes) (now pages) cap pcap next words b (now bytes)) (now map) ⌝ }
@@ -43,21 +43,18 @@ fn visit(
     ensures { λ r. ⌜ visited (now (map .exit)) r ≡ visit (given (now (nodes .entry)) (now (pages .entry)) cap pcap next words b (now (bytes .entry))) (now (map .entry)) left depth frame ⌝ }
 {
     match crate::frame::next_step(table, nodes, cap, b, frame, bytes[depth]) {
-        Step::Stay(rest) => Move::Stay(rest, left),
-        Step::Leaf(first, rest) => {
+        Step::Stay(at, link) => Move::Stay(at, link, left),
+        Step::Leaf(first, link) => {
             match crate::mark::mark_leaf(pages, map, words, pcap, next, first, left) {
-                Left::Some(n) => Move::Stay(rest, n),
+                Left::Some(n) => Move::Stay(frame.at, link, n),
                 Left::Broken => Move::Broken,
             }
         }
-        Step::Down(x, within, rest) => {
+        Step::Down(x, within, link) => {
             if depth + 1 >= bytes.len() {
                 return Move::Broken;
             }
-            Move::Down(
-                rest,
-                crate::frame::enter(nodes, cap, x, within, bytes[depth + 1]),
-            )
+            Move::Down(x, within, link)
         }
         Step::Up => Move::Up,
         Step::Broken => Move::Broken,
@@ -86,9 +83,14 @@ fn walk_below(
     ensures { λ r. ⌜ walked (now (map .exit)) r ≡ walkBelow (given (now (nodes .entry)) (now (pages .entry)) cap pcap next words b (now (bytes .entry))) x radius (now (map .entry)) ⌝ }
 {
     let mut frame = crate::frame::enter(nodes, cap, x, radius, bytes[0]);
-    let mut stack = [frame; 64];
+    let mut stack = [Frame {
+        at: 0,
+        last: 0,
+        link: 0,
+        radius: 0,
+    }; 64];
     let mut depth = 0;
-    let mut left = pcap;
+    let mut left = pcap as u32;
     let mut steps = 10 * (cap + 1);
     while steps > 0 {
         steps -= 1;
@@ -107,14 +109,16 @@ fn walk_below(
             frame,
             left,
         ) {
-            Move::Stay(rest, n) => {
-                frame = rest;
+            Move::Stay(at, link, n) => {
+                frame.at = at;
+                frame.link = link;
                 left = n;
             }
-            Move::Down(rest, below) => {
-                stack[depth] = rest;
+            Move::Down(child, within, link) => {
+                frame.link = link;
+                stack[depth] = frame;
                 depth += 1;
-                frame = below;
+                frame = crate::frame::enter(nodes, cap, child as usize, within, bytes[depth]);
             }
             Move::Up => {
                 if depth == 0 {
@@ -172,7 +176,7 @@ pub fn walk(
             radius,
         );
     }
-    match crate::mark::mark_leaf(pages, map, words, pcap, next, state - 2, pcap) {
+    match crate::mark::mark_leaf(pages, map, words, pcap, next, state - 2, pcap as u32) {
         Left::Some(_) => true,
         Left::Broken => false,
     }

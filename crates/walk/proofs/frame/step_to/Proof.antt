@@ -22,9 +22,12 @@ returns-2 : tie.Need-returns-2
 unfolding stepTo
 returns-2 c = rw (le-ltb _ _ (c .before .before .before .if1 .left), ← c .before .before .state-at .ensures, eq-eqb _ _ (c .if2 .taken))
 
+cast-node : tie.Need-cast-node
+cast-node c = search needs
+
 returns-3 : tie.Need-returns-3
 unfolding stepTo
-returns-3 c = rw (le-ltb _ _ (c .before .before .before .before .before .if1 .left), ← c .before .before .before .before .state-at .ensures, ne-eqb _ _ (c .before .before .if2 .left), eq-eqb _ _ (c .before .if3 .taken))
+returns-3 c = rw (le-ltb _ _ (c .before .before .before .before .if1 .left), ← c .before .before .before .state-at .ensures, ne-eqb _ _ (c .before .if2 .left), eq-eqb _ _ (c .if3 .taken))
 
 sub-first : tie.Need-sub-first
 sub-first c = search needs
@@ -42,6 +45,7 @@ step-to-spec =
     mul-state
     shared-slice-read-state
     returns-2
+    cast-node
     returns-3
     sub-first
     returns-4)

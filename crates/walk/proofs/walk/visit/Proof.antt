@@ -1,6 +1,4 @@
 -- `visit` is `visit` of specs/Walk.antt, an arm at a time.
-use native.Mathlib.Omega.{arith}
-use Rattle.walk.proofs.Steps.{down-within}
 use Rattle.walk.proofs.Visits.{visit-stay, visit-leaf, visit-down, visit-deep, visit-up, visit-broken}
 use borrow.Author.Needs.{needs}
 use Rattle.walk.proofs.walk.visit.Statement.{statement}
@@ -12,8 +10,8 @@ shared-slice-read-next-step c = search needs
 next-step-requires : tie.Need-next-step-requires
 next-step-requires c κs = search needs
 
-enum-known-rest : tie.Need-enum-known-rest
-enum-known-rest c = search needs
+enum-known-at : tie.Need-enum-known-at
+enum-known-at c = search needs
 
 enum-known-first : tie.Need-enum-known-first
 enum-known-first c = search needs
@@ -36,15 +34,6 @@ add-if1 c = search needs
 returns : tie.Need-returns
 returns c = visit-deep _ _ _ _ _ _ (c .before .before .before .before .next-step .ensures) _ _ _ (c .before .before .x .given .1) (c .if1 .taken)
 
-add-enter : tie.Need-add-enter
-add-enter c = search needs
-
-shared-slice-read-enter : tie.Need-shared-slice-read-enter
-shared-slice-read-enter c = search needs
-
-enter-requires : tie.Need-enter-requires
-enter-requires c κs = (omega arith, omega arith, down-within _ _ _ _ _ _ _ _ _ (c .before .before .before .before .before .next-step .ensures) (c .before .before .before .x .given .1))
-
 enum-told-2 : tie.Need-enum-told-2
 enum-told-2 c = search needs
 
@@ -52,7 +41,7 @@ enum-told-3 : tie.Need-enum-told-3
 enum-told-3 c = search needs
 
 returns-2 : tie.Need-returns-2
-returns-2 c = visit-stay _ _ _ _ _ _ (c .before .before .before .next-step .ensures) _ (c .before .rest .given .1)
+returns-2 c = visit-stay _ _ _ _ _ _ (c .before .before .before .next-step .ensures) _ _ (c .before .at .given .1)
 
 same-length : tie.Need-same-length
 same-length c = search needs
@@ -67,7 +56,7 @@ returns-4 : tie.Need-returns-4
 returns-4 c = visit-leaf _ _ _ _ _ _ (c .before .before .before .before .before .before .before .before .before .next-step .ensures) _ _ _ _ _ (c .before .before .before .before .before .before .before .first .given .1) (c .before .before .before .before .mark-leaf .ensures) (c .enum-told .given .1)
 
 returns-5 : tie.Need-returns-5
-returns-5 c = visit-down _ _ _ _ _ _ (c .before .before .before .before .before .before .next-step .ensures) _ _ _ _ (c .before .before .before .before .x .given .1) (c .before .before .if1 .left) (c .enter .ensures)
+returns-5 c = visit-down _ _ _ _ _ _ (c .before .before .before .before .next-step .ensures) _ _ _ (c .before .before .x .given .1) (c .if1 .left)
 
 returns-6 : tie.Need-returns-6
 returns-6 c = visit-up _ _ _ _ _ _ (c .before .before .next-step .ensures) (c .enum-told2 .given .1)
@@ -81,7 +70,7 @@ visit-spec =
     (tie.spec
     shared-slice-read-next-step
     next-step-requires
-    enum-known-rest
+    enum-known-at
     enum-known-first
     mark-leaf-requires
     enum-known-n
@@ -89,9 +78,6 @@ visit-spec =
     enum-known-x
     add-if1
     returns
-    add-enter
-    shared-slice-read-enter
-    enter-requires
     enum-told-2
     enum-told-3
     returns-2

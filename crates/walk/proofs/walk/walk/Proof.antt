@@ -30,6 +30,9 @@ returns-2 c = c .before .before .walk-below .ensures ∙ from-inner _ _ _ _ _ (c
 sub-mark-leaf : tie.Need-sub-mark-leaf
 sub-mark-leaf c = search needs
 
+cast-mark-leaf : tie.Need-cast-mark-leaf
+cast-mark-leaf c = search needs
+
 mark-leaf-requires : tie.Need-mark-leaf-requires
 mark-leaf-requires c κs = search needs
 
@@ -63,6 +66,7 @@ walk-spec =
     same-length
     returns-2
     sub-mark-leaf
+    cast-mark-leaf
     mark-leaf-requires
     enum-told
     enum-told-2

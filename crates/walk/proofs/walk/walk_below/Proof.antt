@@ -6,7 +6,7 @@ use lib.ListN.{length}
 use borrow.Author.Needs.{needs}
 use Rattle.walk.specs.Walk.{given, state, run, walkBelow}
 use Rattle.walk.proofs.Stack.{above, above-length, above-put, above-take, Held, held-stay, held-down, held-up, inside-entered, held-start}
-use Rattle.walk.proofs.Turns.{fitting-kept, move-inside, run-start, run-spent, run-stay, run-down, run-up, run-done, run-broken}
+use Rattle.walk.proofs.Turns.{fitting-kept, down-inside, run-start, run-spent, run-stay, run-down, run-up, run-done, run-broken}
 use Rattle.walk.proofs.walk.walk_below.Statement.{statement}
 use Rattle.walk.proofs.walk.walk_below.Tie as tie
 
@@ -25,6 +25,9 @@ shared-slice-read-enter c = search needs
 
 enter-requires : tie.Need-enter-requires Inv-loop μ-loop
 enter-requires c κs = search needs
+
+cast-left : tie.Need-cast-left Inv-loop μ-loop
+cast-left c = search needs
 
 add-steps : tie.Need-add-steps Inv-loop μ-loop
 add-steps c = search needs
@@ -50,8 +53,8 @@ sub-steps c = omega arith
 visit-requires : tie.Need-visit-requires Inv-loop μ-loop
 visit-requires c κs = (c .before .before .before .before .before .before .before .before .before .pre .0, (fitting-kept _ _ _ (c .before .before .loop .inv .1) (c .before .before .before .before .before .before .before .before .before .pre .1 .0), (c .before .before .loop .inv .2 .inside, c .before .before .loop .inv .2 .level)))
 
-enum-known-rest : tie.Need-enum-known-rest Inv-loop μ-loop
-enum-known-rest c = search needs
+enum-known-at : tie.Need-enum-known-at Inv-loop μ-loop
+enum-known-at c = search needs
 
 loop-less : tie.Need-loop-less Inv-loop μ-loop
 loop-less c = omega arith
@@ -59,15 +62,14 @@ loop-less c = omega arith
 loop-again : tie.Need-loop-again Inv-loop μ-loop
 loop-again c =
     let at = c .before .before .before .before .before .before .before .before .loop in
-    let moved = c .before .before .before .before .before .visit in
-    let inside = move-inside _ (λ k. omega (arith, c .before .before .before .before .before .before .before .before .before .before .shared-slice-known4 .given k)) _ _ _ _ (at .inv .2 .inside) _ _ _ (moved .ensures) (c .before .rest .given .1) in (
-      sym (run-stay _ _ _ _ _ _ (omega arith) _ (above-length _ _) _ _ (moved .ensures) _ _ (c .before .rest .given .1)) ∙ at .inv .0,
+    let moved = c .before .before .before .before .before .visit in (
+      sym (run-stay _ _ _ _ _ _ (omega arith) _ (above-length _ _) _ _ (moved .ensures) _ _ _ (c .before .at .given .1)) ∙ at .inv .0,
       moved .kept .1 .1 .1 .0 ∙ at .inv .1,
-      held-stay _ _ _ _ _ (at .inv .2) _ inside,
+      held-stay _ _ _ _ _ (at .inv .2) _ (at .inv .2 .inside),
     )
 
-enum-known-rest-2 : tie.Need-enum-known-rest-2 Inv-loop μ-loop
-enum-known-rest-2 c = search needs
+enum-known-child : tie.Need-enum-known-child Inv-loop μ-loop
+enum-known-child c = search needs
 
 mul-stack : tie.Need-mul-stack Inv-loop μ-loop
 mul-stack c = let h = c .before .before .before .before .before .before .before .before .loop .inv .2 in record { fits = omega (arith, h .level, h .levels) }
@@ -78,21 +80,33 @@ array-set-from-stack c = let h = c .before .before .before .before .before .befo
 add-depth : tie.Need-add-depth Inv-loop μ-loop
 add-depth c = let h = c .before .before .before .before .before .before .before .before .loop .inv .2 in record { fits = omega (arith, h .level, h .levels) }
 
+cast-enter : tie.Need-cast-enter Inv-loop μ-loop
+cast-enter c = let in-table = down-inside _ _ _ _ _ _ _ _ _ _ (c .before .before .before .before .before .visit .ensures) (c .before .child .given .1) in record { fits = omega (arith, in-table .0, c .before .before .before .before .before .before .before .before .before .before .before .before .before .before .before .pre .1 .0 .cap) }
+
+shared-slice-read-enter-2 : tie.Need-shared-slice-read-enter-2 Inv-loop μ-loop
+shared-slice-read-enter-2 c = let in-table = down-inside _ _ _ _ _ _ _ _ _ _ (c .before .before .before .before .before .before .visit .ensures) (c .before .before .child .given .1) in in-table .1
+
+enter-requires-2 : tie.Need-enter-requires-2 Inv-loop μ-loop
+enter-requires-2 c κs = let in-table = down-inside _ _ _ _ _ _ _ _ _ _ (c .before .before .before .before .before .before .visit .ensures) (c .before .before .child .given .1) in (c .before .before .before .before .before .before .before .before .before .before .before .before .before .before .before .before .pre .1 .0 .nodes, c .before .before .before .before .before .before .before .before .before .before .before .before .before .before .before .before .pre .1 .0 .cap, in-table .0)
+
 loop-less-2 : tie.Need-loop-less-2 Inv-loop μ-loop
 loop-less-2 c = omega arith
 
 loop-again-2 : tie.Need-loop-again-2 Inv-loop μ-loop
 loop-again-2 c =
-    let at = c .before .before .before .before .before .before .before .before .loop in
-    let moved = c .before .before .before .before .before .visit in
-    let inside = move-inside _ (λ k. omega (arith, c .before .before .before .before .before .before .before .before .before .before .shared-slice-known4 .given k)) _ _ _ _ (at .inv .2 .inside) _ _ _ (moved .ensures) (c .before .rest2 .given .1) in
-    let room = at .inv .2 in (
+    let at = c .before .before .before .before .before .before .before .before .before .before .loop in
+    let moved = c .before .before .before .before .before .before .before .visit in
+    let room = at .inv .2 in
+    let in-table = down-inside _ _ _ _ _ _ _ _ _ _ (c .before .before .before .before .before .before .before .visit .ensures) (c .before .before .before .child .given .1) in (
       sym
-          (run-down _ _ _ _ _ _ (omega arith) _ (above-length _ _) _ _ (moved .ensures) _ _ _ (c .before .rest2 .given .1)
+          (run-down _ _ _ _ _ _ (omega arith) _ (above-length _ _) _ _ (moved .ensures) _ _ _ _ _ (c .before .before .before .child .given .1)
+          (c .enter2 .ensures)
           (above-put _ _ _ (omega (arith, room .level, room .levels, room .room))))
           ∙ at .inv .0,
       moved .kept .1 .1 .1 .0 ∙ at .inv .1,
-      held-down _ _ _ _ _ (at .inv .2) _ _ (inside .0) (inside .1) (inside .2),
+      held-down _ _ _ _ _ room _ _ (room .inside)
+          (inside-entered _ _ _ _ _ _ (c .enter2 .ensures) (in-table .0) (omega (arith, c .before .shared-slice-known5 .given (at .depth + 1))))
+          (in-table .1),
     )
 
 enum-told : tie.Need-enum-told Inv-loop μ-loop
@@ -151,18 +165,22 @@ walk-below-spec =
     μ-loop
     shared-slice-read-enter
     enter-requires
+    cast-left
     add-steps
     mul-steps
     loop-holds
     sub-steps
     visit-requires
-    enum-known-rest
+    enum-known-at
     loop-less
     loop-again
-    enum-known-rest-2
+    enum-known-child
     mul-stack
     array-set-from-stack
     add-depth
+    cast-enter
+    shared-slice-read-enter-2
+    enter-requires-2
     loop-less-2
     loop-again-2
     enum-told
