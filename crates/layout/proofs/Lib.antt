@@ -1,6 +1,7 @@
 pub mod Tests
 pub mod Parts
 pub mod Limits
+pub mod Written
 pub mod Openings
 pub mod Sizes
 pub mod Words

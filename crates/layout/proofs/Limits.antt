@@ -1,9 +1,9 @@
 -- Question 4: the test of an opening's numbers and its thresholds, and the bounds that it stands for.
 use Prim.Native.Nat.{ℕ, _<_}
 use native.Mathlib.Omega.{arith}
-use mathlib.Core.Path.{_≡_, refl, ap}
+use mathlib.Core.Path.{_≡_, refl}
 use mathlib.Core.Bool.{Bool, true, _&&_, and-true}
-use borrow.Author.Tests.{lt-ltb, le-leb, eq-eqb, ltb-true, leb-true, eqb-true}
+use borrow.Author.Tests.{lt-ltb, le-leb, ltb-true, leb-true, eqb-true}
 use lib.Dec.{ltb}
 use lib.ListN.{length, getD}
 use Rattle.meaning.specs.Lists.{all}
@@ -13,7 +13,7 @@ use Rattle.meaning.specs.Questions.{inLimits}
 use Rattle.layout.specs.declared.Header.{Header}
 use Rattle.layout.specs.Header.{headerOf}
 use Rattle.layout.specs.Limits.{limitsOf, HeaderLimits, Bounds}
-use Rattle.layout.proofs.Tests.{and-left, and-right, and-both, all-at, at-all}
+use Rattle.layout.proofs.Tests.{and-left, and-right, all-at, at-all}
 
 -- a number of 16 bits
 abbrev pub short : ℕ → Bool
@@ -30,34 +30,34 @@ module _ (h : Header) where
   pub header-limits : (count : ℕ) → limitsOn h count ≡ true → HeaderLimits h
   unfolding limitsOf sketchLimits
   header-limits count e = record {
-    bits-some = ltb-true 0 (h .b) (search (and-left, and-right));
-    bits = leb-true (h .b) 8 (search (and-left, and-right));
-    symbols-some = ltb-true 0 (h .m) (search (and-left, and-right));
-    symbols = leb-true (h .m) 64 (search (and-left, and-right));
-    blocks-some = ltb-true 0 (h .q) (search (and-left, and-right));
-    blocks = leb-true (h .q) 8 (search (and-left, and-right));
+    bits-least = ltb-true 0 (h .b) (search (and-left, and-right));
+    bits-most = leb-true (h .b) 8 (search (and-left, and-right));
+    symbols-least = ltb-true 0 (h .m) (search (and-left, and-right));
+    symbols-most = leb-true (h .m) 64 (search (and-left, and-right));
+    blocks-least = ltb-true 0 (h .q) (search (and-left, and-right));
+    blocks-most = leb-true (h .q) 8 (search (and-left, and-right));
     blocks-fit = leb-true (h .q) (h .m) (search (and-left, and-right));
-    pages-some = ltb-true 0 (h .pages) (search (and-left, and-right));
-    pages = omega (arith, ltb-true (h .pages) 65536 (search (and-left, and-right)));
-    roots-fit = leb-true (h .q) (h .nodes) (search (and-left, and-right));
-    nodes = leb-true (h .nodes) 262144 (search (and-left, and-right));
+    pages-least = ltb-true 0 (h .pages) (search (and-left, and-right));
+    pages-most = omega (arith, ltb-true (h .pages) 65536 (search (and-left, and-right)));
+    nodes-least = leb-true (h .q) (h .nodes) (search (and-left, and-right));
+    nodes-most = leb-true (h .nodes) 262144 (search (and-left, and-right));
   }
 
   pub limits-header : HeaderLimits h → limitsOn h 64 ≡ true
   unfolding limitsOf sketchLimits
   limits-header l =
       rw (
-        lt-ltb 0 (h .b) (l .bits-some),
-        le-leb (h .b) 8 (l .bits),
-        lt-ltb 0 (h .m) (l .symbols-some),
-        le-leb (h .m) 64 (l .symbols),
-        lt-ltb 0 (h .q) (l .blocks-some),
-        le-leb (h .q) 8 (l .blocks),
+        lt-ltb 0 (h .b) (l .bits-least),
+        le-leb (h .b) 8 (l .bits-most),
+        lt-ltb 0 (h .m) (l .symbols-least),
+        le-leb (h .m) 64 (l .symbols-most),
+        lt-ltb 0 (h .q) (l .blocks-least),
+        le-leb (h .q) 8 (l .blocks-most),
         le-leb (h .q) (h .m) (l .blocks-fit),
-        lt-ltb 0 (h .pages) (l .pages-some),
+        lt-ltb 0 (h .pages) (l .pages-least),
         lt-ltb (h .pages) 65536 (omega arith),
-        le-leb (h .q) (h .nodes) (l .roots-fit),
-        le-leb (h .nodes) 262144 (l .nodes),
+        le-leb (h .q) (h .nodes) (l .nodes-least),
+        le-leb (h .nodes) 262144 (l .nodes-most),
       )
 
 pub bounds : (s : Settings) → inLimits s ≡ true → Bounds s

@@ -1,44 +1,23 @@
--- The settings table: what a written header shows, what leaves an opening as it is, and what the answer to 5 and 6 tells.
+-- The answer to 5 and 6: how the code tests the table, and what the answer tells a call.
 use Prim.Native.Nat.{ℕ, _≤_}
 use native.Mathlib.Omega.{arith}
-use mathlib.Core.Path.{_≡_, refl, sym, ap, _∙_}
+use mathlib.Core.Path.{_≡_, refl, sym}
 use mathlib.Core.Bool.{Bool, true, false, cond, _&&_, and-assoc}
-use mathlib.Core.List.{List, [], _∷_, _++_}
+use mathlib.Core.List.{List, _∷_}
 use borrow.Author.Tests.{le-leb, leb-true}
 use lib.Dec.{leb, eqb}
-use lib.ListN.{length, getD, set, take, drop, length-set, length-take, length-drop}
-use lib.Seq.{take-at, take-set-le, take-take, getD-take}
+use lib.ListN.{length, getD, length-take, length-drop}
 use Rattle.meaning.specs.Lists.{all}
 use Rattle.meaning.specs.Refusal.{Question, ask, firstNo}
-use Rattle.meaning.specs.Ledger.{Settings}
 use Rattle.meaning.specs.Questions.{inLimits}
 use Rattle.layout.specs.declared.Header.{Header}
 use Rattle.layout.specs.declared.Opening.{Opening}
 use Rattle.layout.specs.declared.Opening.the-variants.{Shown, Refused}
-use Rattle.layout.specs.Settings.{mark, settingsLength, header, settingsOf, showsOpening}
+use Rattle.layout.specs.Settings.{mark, settingsLength, settingsOf, showsOpening}
 use Rattle.layout.specs.Header.{headerOf, openingOf, pick, tablesFirst}
 use Rattle.layout.specs.Limits.{HeaderLimits, Bounds}
-use Rattle.layout.proofs.Parts.{drop-take}
-use Rattle.layout.proofs.Tests.{and-left, and-right}
+use Rattle.layout.proofs.Tests.{and-right}
 use Rattle.layout.proofs.Limits.{short, limitsOn, in-limits, bounds}
-
--- ---- a table that begins with a header
-module _ (s : Settings) (rest : List ℕ) (count : length (s .thresholds) ≡ 64) where
-  pub settings-header : settingsOf (header s ++ rest) ≡ s
-  unfolding settingsOf header
-  settings-header = λ i.
-      record {
-        bits = s .bits;
-        symbols = s .symbols;
-        blocks = s .blocks;
-        pages = s .pages;
-        nodes = s .nodes;
-        thresholds = take-at (s .thresholds) rest 64 count i;
-      }
-
-  pub shows-header : showsOpening (header s ++ rest) ≡ inLimits s
-  unfolding showsOpening header
-  shows-header = rw settings-header
 
 -- ---- the test of a table, as the code makes it
 module _ (ws : List ℕ) (long : 70 ≤ length ws) where
@@ -49,45 +28,6 @@ module _ (ws : List ℕ) (long : 70 ≤ length ws) where
   pub shows-tests : eqb (getD ws 0 0) mark && limitsOn (headerOf (settingsOf ws)) 64 && all short (settingsOf ws .thresholds) ≡ showsOpening ws
   unfolding showsOpening
   shows-tests = rw (in-limits, thresholds-count, and-assoc)
-
--- ---- an opening hangs on the first 70 words alone
-settings-take : (ws : List ℕ) → settingsOf (take 70 ws) ≡ settingsOf ws
-unfolding settingsOf
-settings-take ws = λ i.
-    record {
-      bits = getD-take 70 ws 1 0 (omega arith) i;
-      symbols = getD-take 70 ws 2 0 (omega arith) i;
-      blocks = getD-take 70 ws 3 0 (omega arith) i;
-      pages = getD-take 70 ws 4 0 (omega arith) i;
-      nodes = getD-take 70 ws 5 0 (omega arith) i;
-      thresholds = (ap (take 64) (drop-take 6 64 ws) ∙ take-take 64 64 (drop 6 ws) (omega arith)) i;
-    }
-
-shows-take : (ws : List ℕ) → showsOpening (take 70 ws) ≡ showsOpening ws
-unfolding showsOpening
-shows-take ws = rw (settings-take, getD-take 70 ws 0 0 (omega arith))
-
-module _ (ws vs : List ℕ) (same : take 70 ws ≡ take 70 vs) where
-  pub settings-kept : settingsOf ws ≡ settingsOf vs
-  settings-kept = sym (settings-take ws) ∙ ap settingsOf same ∙ settings-take vs
-
-  pub shows-kept : showsOpening ws ≡ showsOpening vs
-  shows-kept = sym (shows-take ws) ∙ ap showsOpening same ∙ shows-take vs
-
-  pub opening-kept : length ws ≡ length vs → openingOf ws ≡ openingOf vs
-  unfolding openingOf
-  opening-kept long = rw (long, settings-kept, shows-kept)
-
--- a store behind them
-module _ (ws : List ℕ) (i v : ℕ) (behind : 70 ≤ i) where
-  pub settings-set : settingsOf (set ws i v) ≡ settingsOf ws
-  settings-set = settings-kept (set ws i v) ws (take-set-le 70 ws i v behind)
-
-  pub shows-set : showsOpening (set ws i v) ≡ showsOpening ws
-  shows-set = shows-kept (set ws i v) ws (take-set-le 70 ws i v behind)
-
-  pub opening-set : openingOf (set ws i v) ≡ openingOf ws
-  opening-set = opening-kept (set ws i v) ws (take-set-le 70 ws i v behind) (length-set ws i v)
 
 -- ---- what the answer to 5 and 6 tells
 pub record Shows (ws : List ℕ) (h : Header) : Type 0 where

@@ -1,14 +1,14 @@
 -- The lengths of the tables: by the header as by the settings, and within the limits of document 01.
-use Prim.Native.Nat.{ℕ, _+_, _*_, _/_, _^_, max, _≤_, _<_}
+use Prim.Native.Nat.{ℕ, _+_, _*_, _^_, _≤_, _<_}
 use native.Mathlib.Omega.{arith}
 use native.Mathlib.Nat.{mul-le-mul, mul-le-mul-right, lt-of-le-of-lt, mul-comm}
-use mathlib.Core.Path.{_≡_, refl, sym, ap}
+use mathlib.Core.Path.{_≡_, sym, ap}
 use lib.Dec.{lit<}
 use Rattle.meaning.specs.Ledger.{Settings}
 use Rattle.layout.specs.declared.Header.{Header}
 use Rattle.layout.specs.Settings.{settingsLength}
 use Rattle.layout.specs.Header.{headerOf, bare}
-use Rattle.layout.specs.Limits.{HeaderLimits, Bounds}
+use Rattle.layout.specs.Limits.{HeaderLimits}
 use Rattle.layout.specs.Working.{mapWords, summaryWords}
 use Rattle.layout.specs.Lengths.{nodesLength, pagesLength, sketchesLength, workingLength}
 

@@ -1,14 +1,14 @@
 -- Laws of tests: chains of them, a test of every element of a list, and a bound on joined bits.
-use Prim.Native.Nat.{ℕ, zero, suc, _+_, _^_, _≤_, _<_}
+use Prim.Native.Nat.{ℕ, zero, suc, _^_, _≤_, _<_}
 use native.Mathlib.Omega.{arith}
 use native.Mathlib.Nat.{not-suc-le-zero, le-of-suc-le-suc}
-use mathlib.Core.Path.{_≡_, refl, sym}
+use mathlib.Core.Path.{_≡_, refl}
 use mathlib.Core.Bool.{Bool, true, false, _&&_, and-assoc, and-true, false≢true}
 use mathlib.Core.List.{List, [], _∷_}
 use borrow.Author.Tests.{lt-ltb, le-ltb, ltb-true, ltb-false}
 use lib.Dec.{ltb}
 use lib.ListN.{length, getD, take}
-use lib.Bits.{bitOr, bitAnd, or-lt, or-add-and, or-comm, and-le-r}
+use lib.Bits.{bitOr, or-lt, or-add-and, or-comm, and-le-r}
 use Rattle.meaning.specs.Lists.{all}
 
 pub and-left : (s t : Bool) → s && t ≡ true → s ≡ true

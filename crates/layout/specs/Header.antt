@@ -15,9 +15,13 @@ use Rattle.layout.specs.declared.Opening.the-variants.{Shown, Refused}
 abbrev pub headerOf : Settings → Header
 headerOf s = record { b = s .bits; m = s .symbols; q = s .blocks; pages = s .pages; nodes = s .nodes }
 
--- the settings of a header, without thresholds: no length hangs on these
+-- the settings of a header with thresholds
+abbrev pub withThresholds : Header → List ℕ → Settings
+withThresholds h ts = record { bits = h .b; symbols = h .m; blocks = h .q; pages = h .pages; nodes = h .nodes; thresholds = ts }
+
+-- the settings of a header without: no length hangs on the thresholds
 abbrev pub bare : Header → Settings
-bare h = record { bits = h .b; symbols = h .m; blocks = h .q; pages = h .pages; nodes = h .nodes; thresholds = [] }
+bare h = withThresholds h []
 
 -- one of two answers, by a test
 abbrev pub pick : Bool → Opening → Opening → Opening

@@ -20,17 +20,17 @@ limitsOf b m q P N count =
 
 -- a header that passes 4
 pub record HeaderLimits (h : Header) : Type 0 where
-  pub bits-some : 1 ≤ h .b
-  pub bits : h .b ≤ 8
-  pub symbols-some : 1 ≤ h .m
-  pub symbols : h .m ≤ 64
-  pub blocks-some : 1 ≤ h .q
-  pub blocks : h .q ≤ 8
+  pub bits-least : 1 ≤ h .b
+  pub bits-most : h .b ≤ 8
+  pub symbols-least : 1 ≤ h .m
+  pub symbols-most : h .m ≤ 64
+  pub blocks-least : 1 ≤ h .q
+  pub blocks-most : h .q ≤ 8
   pub blocks-fit : h .q ≤ h .m
-  pub pages-some : 1 ≤ h .pages
-  pub pages : h .pages ≤ 65535
-  pub roots-fit : h .q ≤ h .nodes
-  pub nodes : h .nodes ≤ 262144
+  pub pages-least : 1 ≤ h .pages
+  pub pages-most : h .pages ≤ 65535
+  pub nodes-least : h .q ≤ h .nodes
+  pub nodes-most : h .nodes ≤ 262144
 
 -- settings that pass 4
 pub record Bounds (s : Settings) : Type 0 where

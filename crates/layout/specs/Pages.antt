@@ -4,7 +4,7 @@ use Prim.Native.Nat.{ℕ, _+_, _*_}
 use mathlib.Core.Bool.{Bool}
 use mathlib.Core.List.{List, _++_}
 use lib.Dec.{eqb}
-use lib.ListN.{getD, take, drop}
+use lib.ListN.{getD, set, take, drop}
 
 -- where block j's links begin: page p's link is at nextAt P j + p
 abbrev pub nextAt : ℕ → ℕ → ℕ
@@ -28,3 +28,10 @@ wordAt P k p = k * P + p
 -- the sketch table with another row for page p, of m symbols
 unfoldable pub withRow : ℕ → List ℕ → ℕ → List ℕ → List ℕ
 withRow m sketches p x = take (p * m) sketches ++ x ++ drop (p * m + m) sketches
+
+-- the page table with page p live in class c, and with page p not live
+unfoldable pub withPage : ℕ → List ℕ → ℕ → ℕ → List ℕ
+withPage P pages p c = set (set pages p 1) (P + p) c
+
+unfoldable pub withoutPage : List ℕ → ℕ → List ℕ
+withoutPage pages p = set pages p 0

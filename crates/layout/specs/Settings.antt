@@ -1,7 +1,7 @@
 -- The settings table: a mark, b, m, q, the capacities, 64 thresholds, 256 words of memberships, 64 words of grants, the free link.
 use Prim.Native.Nat.{ℕ, _+_, _*_}
 use mathlib.Core.Bool.{Bool, _&&_}
-use mathlib.Core.List.{List, _∷_}
+use mathlib.Core.List.{List, _∷_, _++_}
 use lib.Dec.{eqb}
 use lib.ListN.{getD, take, drop}
 use Rattle.meaning.specs.Ledger.{Settings}
@@ -30,6 +30,10 @@ freeAt = 390
 -- the first 70 words: what an opening was given, behind the mark
 unfoldable pub header : Settings → List ℕ
 header s = mark ∷ s .bits ∷ s .symbols ∷ s .blocks ∷ s .pages ∷ s .nodes ∷ s .thresholds
+
+-- the table with another opening in its first 70 words
+unfoldable pub withHeader : List ℕ → Settings → List ℕ
+withHeader ws s = header s ++ drop 70 ws
 
 -- what the table says that the opening was given
 unfoldable pub settingsOf : List ℕ → Settings

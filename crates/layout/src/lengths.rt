@@ -1,4 +1,4 @@
-// How long each table must be for an opening: in words, the sketch table in bytes. proofs/Lengths.antt ties them to the settings.
+// How long each table must be for an opening: in words, the sketch table in bytes. proofs/Sizes.antt ties them to the settings.
 ghost use mathlib.Core.Path.{_≡_};
 ghost use Rattle.layout.specs.Header.{bare};
 ghost use Rattle.layout.specs.Limits.{HeaderLimits};

@@ -1,22 +1,31 @@
-// The settings table: question 4, what a call reads of an opening, the thresholds and the free link.
+// The settings table: question 4, the opening that the table shows, its thresholds, the free link, and writing an opening.
 ghost use mathlib.Core.Path.{_≡_};
 ghost use Prim.Native.Nat.{_≤_, _<_};
 ghost use lib.Dec.{ltb};
 ghost use lib.ListN.{length, getD, set};
+ghost use lib.Seq.{paste};
 ghost use Rattle.meaning.specs.Lists.{all};
-ghost use Rattle.layout.specs.Settings.{settingsLength, settingsOf, showsOpening, freeAt};
-ghost use Rattle.layout.specs.Limits.{limitsOf};
-ghost use Rattle.layout.specs.Header.{headerOf, openingOf};
+ghost use Rattle.layout.specs.Settings.{settingsLength, settingsOf, showsOpening, withHeader, freeAt};
+ghost use Rattle.layout.specs.Limits.{limitsOf, HeaderLimits};
+ghost use Rattle.layout.specs.Header.{headerOf, withThresholds, openingOf};
 use crate::Header;
 use crate::Opening;
 
 const MARK: u32 = 0x56440001;
 
-const LENGTH: usize = 391;
+// How many words the table needs.
+pub const LENGTH: usize = 391;
+
+// Where the thresholds, the memberships and the grants begin, and the free link.
+const THRESHOLDS: usize = 6;
+
+pub const MEMBERS: usize = 70;
+
+pub const GRANTS: usize = 326;
 
 const FREE: usize = 390;
 
-// Question 4 of an opening with so many thresholds, each of 16 bits.
+// Question 4 of an opening that is lent so many thresholds, each of 16 bits.
 pub fn limits(b: u32, m: u32, q: u32, pages: u32, nodes: u32, thresholds: usize) -> bool
     ensures { λ r. ⌜ r ≡ limitsOf b m q pages nodes thresholds ⌝ }
 {
@@ -35,7 +44,7 @@ fn thresholds_fit(settings: &[u32]) -> bool
     let mut seen: u32 = 0;
     let mut k = 0;
     while k < 64 {
-        seen = seen | settings[6 + k];
+        seen = seen | settings[THRESHOLDS + k];
         k += 1;
     }
     seen < 65536
@@ -58,6 +67,7 @@ fn shows_opening(settings: &[u32]) -> bool
         & thresholds_fit(settings)
 }
 
+// The header of an opening: words 1 to 5.
 fn header(settings: &[u32]) -> Header
     requires { ⌜ settingsLength ≤ length (now settings) ⌝ }
     ensures { λ r. ⌜ r ≡ headerOf (settingsOf (now (settings .entry))) ⌝ }
@@ -90,7 +100,7 @@ pub fn threshold(settings: &[u32], k: usize) -> usize
     requires { ⌜ k < 64 ⌝ }
     ensures { λ r. ⌜ r ≡ getD (settingsOf (now (settings .entry)) .thresholds) k 0 ⌝ }
 {
-    settings[6 + k] as usize
+    settings[THRESHOLDS + k] as usize
 }
 
 // The link to the first free node.
@@ -101,9 +111,39 @@ pub fn free_link(settings: &[u32]) -> u32
     settings[FREE]
 }
 
+// Writes the link to the first free node.
 pub fn set_free_link(settings: &mut [u32], link: u32)
     requires { ⌜ settingsLength ≤ length (now settings) ⌝ }
     ensures { λ r. ⌜ now (settings .exit) ≡ set (now (settings .entry)) freeAt link ⌝ }
 {
     settings[FREE] = link;
+}
+
+// Writes the thresholds to their 64 words.
+fn write_thresholds(settings: &mut [u32], thresholds: &[u16])
+    requires { ⌜ settingsLength ≤ length (now settings) ⌝ }
+    requires { ⌜ length (now thresholds) ≡ 64 ⌝ }
+    ensures { λ r. ⌜ now (settings .exit) ≡ paste (now (settings .entry)) 6 (now (thresholds .entry)) 64 ⌝ }
+{
+    let mut k = 0;
+    while k < 64 {
+        settings[THRESHOLDS + k] = thresholds[k] as u32;
+        k += 1;
+    }
+}
+
+// Writes an opening: the first 70 words.
+pub fn write_header(settings: &mut [u32], h: Header, thresholds: &[u16])
+    requires { ⌜ settingsLength ≤ length (now settings) ⌝ }
+    requires { ⌜ HeaderLimits h ⌝ }
+    requires { ⌜ length (now thresholds) ≡ 64 ⌝ }
+    ensures { λ r. ⌜ now (settings .exit) ≡ withHeader (now (settings .entry)) (withThresholds h (now (thresholds .entry))) ⌝ }
+{
+    settings[0] = MARK;
+    settings[1] = h.b as u32;
+    settings[2] = h.m as u32;
+    settings[3] = h.q as u32;
+    settings[4] = h.pages as u32;
+    settings[5] = h.nodes as u32;
+    write_thresholds(settings, thresholds);
 }

@@ -1,12 +1,17 @@
 -- What each call promises: an equation for its answer and for every table lent to it, refused or not.
-use Prim.Native.Nat.{ℕ}
+use Prim.Native.Nat.{ℕ, _*_}
 use mathlib.Core.Path.{_≡_}
 use mathlib.Core.Bool.{cond}
 use mathlib.Core.List.{List, []}
 use lib.Dec.{eqb}
 use Rattle.meaning.specs.Ledger.{Settings, Call, opening, show}
-use Rattle.promises.specs.Tables.{Tables, settingsAlone, pageRow}
+use Rattle.promises.specs.Tables.{Tables, settingsAlone, given, pageRow}
 use Rattle.promises.specs.Answers.{number, opened, registered}
+
+-- the settings and capacities of an opening, by its arguments
+abbrev pub settingsGiven : ℕ → ℕ → ℕ → ℕ → ℕ → List ℕ → Settings
+settingsGiven b m q pages nodes thresholds =
+    record { bits = b; symbols = m; blocks = q; pages = pages; nodes = nodes; thresholds = thresholds }
 
 -- an opening with settings s, lent the tables T; it leaves the sketch table and the working table as they were
 pub record OpenPromise (s : Settings) (T : Tables) (n : ℕ) (settings nodes pages : List ℕ) : Type 0 where
@@ -20,6 +25,13 @@ pub record RightsPromise (c : Call) (ws : List ℕ) (n : ℕ) (settings : List �
   pub answers : n ≡ number (settingsAlone ws) [] c
   pub settings-left : settings ≡ cond (eqb (number (settingsAlone ws) [] c) 0) (registered c ws) ws
 
--- a show, by what it gives: the page's row, or nothing
+-- a show, by where in the sketch table the part that it gives begins, and how long it is: the page's row, or no bytes at the table's start
+unfoldable pub startShown : Tables → ℕ → ℕ → ℕ
+startShown T reader p = cond (eqb (number T [] (show reader p)) 0) (p * given T .symbols) 0
+
+unfoldable pub lengthShown : Tables → ℕ → ℕ → ℕ
+lengthShown T reader p = cond (eqb (number T [] (show reader p)) 0) (given T .symbols) 0
+
+-- and by what the part holds
 unfoldable pub rowShown : Tables → ℕ → ℕ → List ℕ
 rowShown T reader p = cond (eqb (number T [] (show reader p)) 0) (pageRow T p) []

@@ -22,8 +22,21 @@ pub record Tables : Type 0 where
   pub sketches : List ℕ
   pub working : List ℕ
 
+abbrev pub tables : List ℕ → List ℕ → List ℕ → List ℕ → List ℕ → Tables
+tables settings nodes pages sketches working = record {
+  settings = settings;
+  nodes = nodes;
+  pages = pages;
+  sketches = sketches;
+  working = working;
+}
+
 abbrev pub settingsAlone : List ℕ → Tables
 settingsAlone ws = record { settings = ws; nodes = []; pages = []; sketches = []; working = [] }
+
+-- those of a show
+abbrev pub showTables : List ℕ → List ℕ → List ℕ → Tables
+showTables ws pages sketches = record { settings = ws; nodes = []; pages = pages; sketches = sketches; working = [] }
 
 abbrev pub withSettings : Tables → List ℕ → Tables
 withSettings T ws = record { settings = ws; nodes = T .nodes; pages = T .pages; sketches = T .sketches; working = T .working }

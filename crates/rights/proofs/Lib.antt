@@ -1,3 +1,4 @@
 pub mod Any
 pub mod Register
 pub mod Pairs
+pub mod Open

@@ -1,20 +1,22 @@
 -- The register and the ledger's pairs: a flag is set exactly where its pair stands.
 use mathlib.Core.Path.{_≡_, refl, sym, ap, _∙_}
 use mathlib.Core.Bool.{Bool, true, false, cond, _&&_, _||_, not, true≢false}
+use mathlib.Core.Logic.{_≢_}
 use mathlib.Core.List.{List, [], _∷_}
 use Prim.Native.Nat.{ℕ, _+_, _*_, _/_, _%_, _≤_, _<_}
 use native.Mathlib.Omega.{arith}
 use lib.Dec.{eqb}
-use lib.ListN.{length, getD}
+use lib.ListN.{length, getD, take}
 use borrow.Author.Tests.{eqb-true, lt-ltb}
-use Rattle.meaning.specs.Lists.{any, keep, upto}
+use Rattle.meaning.specs.Lists.{any, keep}
 use Rattle.meaning.specs.Rights.{Pair, pair, samePair, stands, write, strike, openTo}
-use Rattle.layout.specs.Settings.{settingsLength, membersAt, grantsAt, freeAt}
-use Rattle.words.specs.Bits.{flag}
+use Rattle.words.specs.Bits.{flag, withFlag}
 use Rattle.words.proofs.Bits.{bit-zero}
+use Rattle.words.proofs.Flags.{flag-take, flag-with-apart}
+use Rattle.layout.specs.Settings.{settingsLength, membersAt, grantsAt, freeAt}
 use Rattle.rights.specs.Register.{isMember, isGranted, withMember, withGrant, opens}
 use Rattle.rights.proofs.Any.{any-upto}
-use Rattle.rights.proofs.Register.{member-member, member-grant, grant-grant, grant-member, member-agree, granted-agree}
+use Rattle.rights.proofs.Register.{flag-put}
 
 -- ---- pairs
 
@@ -56,58 +58,89 @@ stands-strike q (r ∷ ps) p = go (stands-strike q ps p) (samePair q r) refl (sa
         rw f (ih ∙ rw d)
     go ih false e false d = ap (λ (b : Bool). samePair p r || b) (ih ∙ rw d)
 
--- ---- the register holds these pairs
+-- ---- a run of flags shows pairs: row a, place b, w places a row
 
-pub record Flags (ws : List ℕ) (members grants : List Pair) : Type 0 where
-  pub member : (r g : ℕ) → r < 256 → g < 32 → isMember ws r g ≡ stands (pair r g) members
-  pub grant : (g c : ℕ) → g < 32 → c < 64 → isGranted ws g c ≡ stands (pair g c) grants
+abbrev pub Flags : List ℕ → ℕ → ℕ → ℕ → List Pair → Type 0
+Flags ws base rows w ps = (a b : ℕ) → a < rows → b < w → flag ws base (a * w + b) ≡ stands (pair a b) ps
 
--- no pair stands where every word of the register is 0
-pub flags-empty : (ws : List ℕ) → ((i : ℕ) → membersAt ≤ i → i < freeAt → getD ws i 0 ≡ 0) → Flags ws [] []
-unfolding isMember isGranted flag stands any
-flags-empty ws zeros = record {
-  member = λ r g hr hg. rw (zeros (membersAt + (r * 32 + g) / 32) (omega arith) (omega arith)) (bit-zero ((r * 32 + g) % 32));
-  grant = λ g c hg hc. rw (zeros (grantsAt + (g * 64 + c) / 32) (omega arith) (omega arith)) (bit-zero ((g * 64 + c) % 32));
+module _ (ws : List ℕ) (base rows w : ℕ) (ps : List Pair) (f : Flags ws base rows w ps) where
+  -- after a write to one of these flags
+  pub flags-put : (ps′ : List Pair) (a b : ℕ) (v : Bool) → b < w → base + (a * w + b) / 32 < length ws
+      → ((p : Pair) → stands p ps′ ≡ cond (samePair p (pair a b)) v (stands p ps))
+      → Flags (withFlag ws base (a * w + b) v) base rows w ps′
+  flags-put ps′ a b v h l e c d hc hd = rw (flag-put ws base w a b v c d h hd l, f c d hc hd) (sym (e (pair c d)))
+
+  -- after a write to another word
+  pub flags-keep : (base′ n : ℕ) (v : Bool) → ((c d : ℕ) → c < rows → d < w → base + (c * w + d) / 32 ≢ base′ + n / 32)
+      → Flags (withFlag ws base′ n v) base rows w ps
+  flags-keep base′ n v h c d hc hd = flag-with-apart ws base′ n v base (c * w + d) (h c d hc hd) ∙ f c d hc hd
+
+  -- in another table with the same beginning
+  pub flags-same : (m : ℕ) (ws′ : List ℕ) → take m ws′ ≡ take m ws → ((c d : ℕ) → c < rows → d < w → base + (c * w + d) / 32 < m)
+      → Flags ws′ base rows w ps
+  flags-same m ws′ e h c d hc hd =
+      sym (flag-take m ws′ base (c * w + d) (h c d hc hd)) ∙ rw e (flag-take m ws base (c * w + d) (h c d hc hd)) ∙ f c d hc hd
+
+-- ---- the register holds the pairs of readers and groups, and those of groups and classes
+
+pub record Holds (ws : List ℕ) (M G : List Pair) : Type 0 where
+  pub members : Flags ws membersAt 256 32 M
+  pub grants : Flags ws grantsAt 32 64 G
+
+pub holds-none : (ws : List ℕ) → ((i : ℕ) → membersAt ≤ i → i < freeAt → getD ws i 0 ≡ 0) → Holds ws [] []
+unfolding flag stands any
+holds-none ws zeros = record {
+  members = λ a b ha hb. rw (zeros (membersAt + (a * 32 + b) / 32) (omega arith) (omega arith)) (bit-zero ((a * 32 + b) % 32));
+  grants = λ a b ha hb. rw (zeros (grantsAt + (a * 64 + b) / 32) (omega arith) (omega arith)) (bit-zero ((a * 64 + b) % 32));
 }
 
-module _ (ws : List ℕ) (members grants : List Pair) (f : Flags ws members grants) where
-  -- tables that agree on the words of the register
-  pub flags-agree : (ws′ : List ℕ) → ((i : ℕ) → membersAt ≤ i → i < freeAt → getD ws′ i 0 ≡ getD ws i 0) → Flags ws′ members grants
-  flags-agree ws′ same = record {
-    member = λ r g hr hg. member-agree ws ws′ same r g hr hg ∙ f .member r g hr hg;
-    grant = λ g c hg hc. granted-agree ws ws′ same g c hg hc ∙ f .grant g c hg hc;
+module _ (ws : List ℕ) (M G : List Pair) (h : Holds ws M G) where
+  pub member-stands : (r g : ℕ) → r < 256 → g < 32 → isMember ws r g ≡ stands (pair r g) M
+  unfolding isMember
+  member-stands r g hr hg = h .members r g hr hg
+
+  pub grant-stands : (g c : ℕ) → g < 32 → c < 64 → isGranted ws g c ≡ stands (pair g c) G
+  unfolding isGranted
+  grant-stands g c hg hc = h .grants g c hg hc
+
+  pub holds-opens : (r c : ℕ) → r < 256 → c < 64 → opens ws r c ≡ openTo M G r c
+  unfolding opens openTo
+  holds-opens r c hr hc =
+      rw (lt-ltb c 64 hc)
+      (any-upto (λ g. isMember ws r g && isGranted ws g c) (λ g. stands (pair r g) M && stands (pair g c) G) 32
+      (λ g l. rw (member-stands r g hr l, grant-stands g c l hc)))
+
+  -- the words from the free link on are no part of it
+  pub holds-same : (ws′ : List ℕ) → take freeAt ws′ ≡ take freeAt ws → Holds ws′ M G
+  holds-same ws′ e = record {
+    members = flags-same ws membersAt 256 32 M (h .members) freeAt ws′ e (λ a b ha hb. omega arith);
+    grants = flags-same ws grantsAt 32 64 G (h .grants) freeAt ws′ e (λ a b ha hb. omega arith);
   }
 
-  pub flags-opens : (r c : ℕ) → r < 256 → c < 64 → opens ws r c ≡ openTo members grants r c
-  unfolding opens openTo
-  flags-opens r c hr hc =
-      rw (lt-ltb c 64 hc)
-      (any-upto (λ g. isMember ws r g && isGranted ws g c) (λ g. stands (pair r g) members && stands (pair g c) grants) 32
-      (λ g h. rw (f .member r g hr h, f .grant g c h hc)))
-
+  -- a membership or a grant is written or struck
   module _ (l : settingsLength ≤ length ws) where
-    member-set : (r g : ℕ) (v : Bool) (ps : List Pair) → r < 256 → g < 32
-        → ((p : Pair) → stands p ps ≡ cond (samePair p (pair r g)) v (stands p members)) → Flags (withMember ws r g v) ps grants
-    member-set r g v ps hr hg now = record {
-      member = λ r′ g′ hr′ hg′. rw (member-member ws r g v hr hg l r′ g′ hg′, f .member r′ g′ hr′ hg′) (sym (now (pair r′ g′)));
-      grant = λ g′ c hg′ hc. member-grant ws r g v hr hg g′ c ∙ f .grant g′ c hg′ hc;
+    with-member : (M′ : List Pair) (r g : ℕ) (v : Bool) → r < 256 → g < 32
+        → ((p : Pair) → stands p M′ ≡ cond (samePair p (pair r g)) v (stands p M)) → Holds (withMember ws r g v) M′ G
+    with-member M′ r g v hr hg e = record {
+      members = flags-put ws membersAt 256 32 M (h .members) M′ r g v hg (omega arith) e;
+      grants = flags-keep ws grantsAt 32 64 G (h .grants) membersAt (r * 32 + g) v (λ a b ha hb q. omega arith);
     }
 
-    grant-set : (g c : ℕ) (v : Bool) (ps : List Pair) → g < 32 → c < 64
-        → ((p : Pair) → stands p ps ≡ cond (samePair p (pair g c)) v (stands p grants)) → Flags (withGrant ws g c v) members ps
-    grant-set g c v ps hg hc now = record {
-      member = λ r g′ hr hg′. grant-member ws g c v hg hc r g′ hr hg′ ∙ f .member r g′ hr hg′;
-      grant = λ g′ c′ hg′ hc′. rw (grant-grant ws g c v hg hc l g′ c′ hc′, f .grant g′ c′ hg′ hc′) (sym (now (pair g′ c′)));
+    with-grant : (G′ : List Pair) (g c : ℕ) (v : Bool) → g < 32 → c < 64
+        → ((p : Pair) → stands p G′ ≡ cond (samePair p (pair g c)) v (stands p G)) → Holds (withGrant ws g c v) M G′
+    with-grant G′ g c v hg hc e = record {
+      members = flags-keep ws membersAt 256 32 M (h .members) grantsAt (g * 64 + c) v (λ a b ha hb q. omega arith);
+      grants = flags-put ws grantsAt 32 64 G (h .grants) G′ g c v hc (omega arith) e;
     }
 
-    pub flags-join : (r g : ℕ) → r < 256 → g < 32 → Flags (withMember ws r g true) (write (pair r g) members) grants
-    flags-join r g hr hg = member-set r g true (write (pair r g) members) hr hg (stands-write (pair r g) members)
+    pub holds-join : (r g : ℕ) → r < 256 → g < 32 → Holds (withMember ws r g true) (write (pair r g) M) G
+    holds-join r g hr hg = with-member (write (pair r g) M) r g true hr hg (stands-write (pair r g) M)
 
-    pub flags-leave : (r g : ℕ) → r < 256 → g < 32 → Flags (withMember ws r g false) (strike (pair r g) members) grants
-    flags-leave r g hr hg = member-set r g false (strike (pair r g) members) hr hg (stands-strike (pair r g) members)
+    pub holds-leave : (r g : ℕ) → r < 256 → g < 32 → Holds (withMember ws r g false) (strike (pair r g) M) G
+    holds-leave r g hr hg = with-member (strike (pair r g) M) r g false hr hg (stands-strike (pair r g) M)
 
-    pub flags-grant : (g c : ℕ) → g < 32 → c < 64 → Flags (withGrant ws g c true) members (write (pair g c) grants)
-    flags-grant g c hg hc = grant-set g c true (write (pair g c) grants) hg hc (stands-write (pair g c) grants)
+    pub holds-grant : (g c : ℕ) → g < 32 → c < 64 → Holds (withGrant ws g c true) M (write (pair g c) G)
+    holds-grant g c hg hc = with-grant (write (pair g c) G) g c true hg hc (stands-write (pair g c) G)
 
-    pub flags-revoke : (g c : ℕ) → g < 32 → c < 64 → Flags (withGrant ws g c false) members (strike (pair g c) grants)
-    flags-revoke g c hg hc = grant-set g c false (strike (pair g c) grants) hg hc (stands-strike (pair g c) grants)
+    pub holds-revoke : (g c : ℕ) → g < 32 → c < 64 → Holds (withGrant ws g c false) M (strike (pair g c) G)
+    holds-revoke g c hg hc = with-grant (strike (pair g c) G) g c false hg hc (stands-strike (pair g c) G)

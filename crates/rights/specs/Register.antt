@@ -14,12 +14,12 @@ unfoldable pub isGranted : List ℕ → ℕ → ℕ → Bool
 isGranted ws group class = flag ws grantsAt (group * 64 + class)
 
 -- the table with a membership, or a grant, written or struck
-unfoldable pub withMember : List ℕ → ℕ → ℕ → Bool → List ℕ
+abbrev pub withMember : List ℕ → ℕ → ℕ → Bool → List ℕ
 withMember ws reader group v = withFlag ws membersAt (reader * 32 + group) v
 
-unfoldable pub withGrant : List ℕ → ℕ → ℕ → Bool → List ℕ
+abbrev pub withGrant : List ℕ → ℕ → ℕ → Bool → List ℕ
 withGrant ws group class v = withFlag ws grantsAt (group * 64 + class) v
 
--- does some group have the reader as a member and is granted the class? A class above 63 is open to no one
+-- is there a group that has the reader as a member and is granted the class? A class above 63 is open to no one
 unfoldable pub opens : List ℕ → ℕ → ℕ → Bool
 opens ws reader class = ltb class 64 && any (λ g. isMember ws reader g && isGranted ws g class) (upto 32)

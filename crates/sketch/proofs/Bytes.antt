@@ -1,14 +1,14 @@
 -- One packed byte.
-use mathlib.Core.Path.{_≡_, ap, _∙_}
 use mathlib.Core.Bool.{true}
 use mathlib.Core.List.{List, [], _∷_}
+use mathlib.Core.Path.{_≡_, ap, _∙_}
 use Prim.Native.Nat.{ℕ, suc, _+_, _-_, _*_, _%_, _^_, _<_, _≤_}
 use native.Mathlib.Nat.{mul-le-mul-left, mul-suc, mul-zero, lt-of-lt-of-le, le-trans}
 use native.Mathlib.Omega.{arith}
 use lib.Dec.{ltb}
 use lib.ListN.{length, drop, getD, length-drop}
-use lib.Seq.{drop-cons}
 use lib.Pow.{pow-add, pow-mono, shl-exact}
+use lib.Seq.{drop-cons}
 use borrow.Author.Tests.{ltb-true}
 use Rattle.meaning.specs.Lists.{all}
 use Rattle.meaning.specs.Sketch.{inRange, perByte, packByte}

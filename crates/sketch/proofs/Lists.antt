@@ -1,11 +1,11 @@
 -- Parts of lists, and tests on all of their elements.
-use mathlib.Core.Path.{_≡_, refl, sym, ap, ap₂, _∙_}
 use mathlib.Core.Bool.{Bool, true, _&&_, and-eq-true-iff}
 use mathlib.Core.List.{List, [], _∷_}
+use mathlib.Core.Path.{_≡_, refl, sym, ap, ap₂, _∙_}
 use Prim.Native.Nat.{ℕ, zero, suc, _-_, min}
-use native.Mathlib.Nat.{sub-zero, zero-sub, suc-sub-suc, zero-min, min-zero, suc-min-suc}
-use lib.ListN.{take, drop}
-use lib.Seq.{take-nil}
+use native.Mathlib.Nat.{le-of-eq, sub-zero, zero-sub, suc-sub-suc, zero-min, min-zero, suc-min-suc}
+use lib.ListN.{length, take, drop, length-drop}
+use lib.Seq.{take-nil, take-all}
 use Rattle.meaning.specs.Lists.{all}
 
 module _ {A : Type 0} where
@@ -21,6 +21,10 @@ module _ {A : Type 0} where
   take-min (suc m) (suc n) [] = sym (take-nil (min (suc m) (suc n)))
   take-min (suc m) (suc n) (x ∷ xs) =
       ap (λ (ys : List A). x ∷ ys) (take-min m n xs) ∙ ap (λ (k : ℕ). take k (x ∷ xs)) (sym (suc-min-suc m n))
+
+  -- all from place a on
+  pub rest : (a : ℕ) (xs : List A) → take (length xs - a) (drop a xs) ≡ drop a xs
+  rest a xs = take-all (length xs - a) (drop a xs) (le-of-eq (length-drop a xs))
 
   -- c elements from place a on, of the first n
   pub window : (c a n : ℕ) (xs : List A) → take c (drop a (take n xs)) ≡ take (min c (n - a)) (drop a xs)

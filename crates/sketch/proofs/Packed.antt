@@ -1,17 +1,17 @@
 -- A packing, byte by byte.
-use mathlib.Core.Path.{_≡_, refl, sym, ap, ap₂, _∙_, fun-ext}
 use mathlib.Core.Bool.{Bool, true}
 use mathlib.Core.List.{List, _∷_, map}
-use Prim.Native.Nat.{ℕ, zero, suc, _+_, _-_, _*_, _/_, _%_, _^_, _<_, _≤_}
+use mathlib.Core.Path.{_≡_, refl, sym, ap, ap₂, _∙_, fun-ext}
+use Prim.Native.Nat.{ℕ, zero, suc, _+_, _-_, _*_, _/_, _%_, _<_, _≤_}
 use native.Mathlib.Nat.{add-sub-cancel-left, suc-mul, add-comm, zero-mul}
 use native.Mathlib.Omega.{arith}
 use lib.Arith.{digits-div, digits-mod}
-use lib.Dec.{ltb}
 use lib.ListN.{length, take, drop, getD, length-take}
 use lib.Seq.{drop-drop}
 use Rattle.meaning.specs.Lists.{upto, from}
 use Rattle.meaning.specs.Sketch.{inRange, perByte, packedLength, packByte, packBytes, pack, packable, group, symbolsAt}
-use Rattle.sketch.proofs.Lists.{window, all-take, all-drop}
+use Rattle.sketch.proofs.Lists.{window}
+use Rattle.sketch.proofs.Places.{part-range}
 use Rattle.sketch.proofs.Runs.{map-from-suc}
 
 -- the symbols of byte k
@@ -54,16 +54,18 @@ module _ (b : ℕ) where
     symbols-few = rw length-take (omega arith)
 
     pub symbols-range : inRange b xs ≡ true → inRange b (symbolsOf b xs k) ≡ true
-    unfolding inRange
-    symbols-range h =
-        let p : ℕ → Bool = λ (x : ℕ). ltb x (2 ^ b) in
-        all-take p (perByte b) (drop (k * perByte b) xs) (all-drop p (k * perByte b) xs h)
+    symbols-range = part-range b (k * perByte b) (perByte b) xs
 
   -- byte k of the first n symbols takes those from k * z up to k * z + r
   module _ (n k z r : ℕ) (ez : z ≡ perByte b) (er : r ≡ symbolsAt b n k) where
     pub part-ends : k * z < n → k * z + r ≤ n
     unfolding symbolsAt
     part-ends h = omega (arith, ap (λ (i : ℕ). k * i) ez)
+
+    -- the next byte goes on where this one ends, or there is none
+    pub part-next : k * z < n → (k * z + r ≤ (k + 1) * z) × (k * z + r < n → k * z + r ≡ (k + 1) * z)
+    unfolding symbolsAt
+    part-next h = (omega (arith, ap (λ (i : ℕ). k * i) ez), λ l. omega (arith, ap (λ (i : ℕ). k * i) ez))
 
     pub part : (xs : List ℕ) → take (k * z + r - k * z) (drop (k * z) xs) ≡ symbolsOf b (take n xs) k
     unfolding symbolsAt

@@ -1,9 +1,9 @@
 -- z symbols of b bits fit a byte.
-use mathlib.Core.Path.{_≡_, _∙_}
 use mathlib.Core.Bool.{Bool, true, false, cond, not}
 use mathlib.Core.List.{List, [], _∷_}
+use mathlib.Core.Path.{_≡_, _∙_}
 use Prim.Native.Nat.{ℕ, suc, _+_, _-_, _*_, _%_, _^_, _<_, _≤_}
-use native.Mathlib.Nat.{le-trans, mul-le-mul-left, div-le-self, le-div-iff-mul-le, mul-div-le, one-mul}
+use native.Mathlib.Nat.{lt-div-mul-add, le-trans, mul-le-mul-left, div-le-self, le-div-iff-mul-le, mul-div-le, one-mul}
 use native.Mathlib.Omega.{arith}
 use lib.Dec.{eqb}
 use lib.ListN.{length}
@@ -39,6 +39,17 @@ unfolding packedLength
 byte-begins b n j h w =
     let p : 0 < perByte b = z-pos b h in
     omega (arith, le-div-iff-mul-le {k = perByte b} {x = suc j} {y = n + perByte b - 1} p .0 w)
+
+-- the bytes take all symbols
+pub bytes-cover : (b n : ℕ) → Bits b → n ≤ packedLength b n * perByte b
+unfolding packedLength
+bytes-cover b n h =
+    let p : 0 < perByte b = z-pos b h in
+    omega (arith, lt-div-mul-add {a = n + perByte b - 1} {b = perByte b} p)
+
+pub bytes-most : (b n : ℕ) → packedLength b n ≤ n + 8
+unfolding packedLength
+bytes-most b n = omega (arith, div-le-self (n + perByte b - 1) (perByte b), z-most b)
 
 pub byte-of : (b n j : ℕ) → Bits b → j * perByte b < n → j < packedLength b n
 unfolding packedLength

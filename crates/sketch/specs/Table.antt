@@ -1,6 +1,6 @@
 -- The fixed table of byte distances: 8 rows of 256 numbers, row b at (b - 1) × 256.
-use Prim.Native.Nat.{ℕ, _+_, _/_, _%_}
 use mathlib.Core.List.{List, map}
+use Prim.Native.Nat.{ℕ, _+_, _/_, _%_}
 use Rattle.meaning.specs.Lists.{upto}
 use Rattle.meaning.specs.Sketch.{byteDistance}
 

@@ -28,9 +28,7 @@ pub fn distance(xs: &[u8], ys: &[u8]) -> u32
     let mut d: u8 = 0;
     let mut i = 0;
     while i < xs.len() {
-        if xs[i] != ys[i] {
-            d += 1;
-        }
+        d += (xs[i] != ys[i]) as u8;
         i += 1;
     }
     d as u32

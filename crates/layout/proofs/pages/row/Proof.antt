@@ -1,5 +1,4 @@
 -- `row` is `rowOf`, at its place in the table.
-use Prim.Native.Nat.{_*_}
 use native.Mathlib.Nat.{add-sub-cancel-left}
 use borrow.Author.Needs.{needs}
 use Rattle.layout.specs.Pages.{rowOf}

@@ -1,6 +1,5 @@
 -- `shows_opening` is `showsOpening`.
 use native.Mathlib.Omega.{arith}
-use mathlib.Core.Path.{_∙_}
 use Rattle.layout.specs.Settings.{settingsOf}
 use Rattle.layout.proofs.Openings.{shows-tests}
 use borrow.Author.Needs.{needs}

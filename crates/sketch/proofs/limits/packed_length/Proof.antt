@@ -1,6 +1,6 @@
 -- `packed_length` is `packedLength`.
-use borrow.Author.Needs.{needs}
 use native.Mathlib.Omega.{arith}
+use borrow.Author.Needs.{needs}
 use Rattle.meaning.specs.Sketch.{packedLength}
 use Rattle.sketch.proofs.Width.{z-pos, z-most}
 use Rattle.sketch.proofs.limits.packed_length.Statement.{statement}

@@ -1,8 +1,8 @@
 -- `per_byte` is `perByte`.
-use borrow.Author.Needs.{needs}
 use mathlib.Core.Path.{refl}
-use native.Mathlib.Omega.{arith}
 use native.Mathlib.Nat.{div-le-self}
+use native.Mathlib.Omega.{arith}
+use borrow.Author.Needs.{needs}
 use Rattle.meaning.specs.Sketch.{perByte}
 use Rattle.sketch.proofs.limits.per_byte.Statement.{statement}
 use Rattle.sketch.proofs.limits.per_byte.Tie as tie

@@ -35,7 +35,9 @@ returns : tie.Need-returns Inv-loop μ-loop
 returns c =
     let at-loop = c .before .before .before .before in
     let args = at-loop .before .before .args in
-    sym (all-fails (packableAt (args .b) (args .n) (args .bytes .now)) (at-loop .loop .k) (packedLength (args .b) (args .n)) (omega arith) (sym (c .before .packable .ensures) ∙ not-true _ (c .if1 .taken))) ∙ at-loop .loop .inv .1
+    let no = sym (c .before .packable .ensures) ∙ not-true _ (c .if1 .taken) in
+    sym (all-fails (packableAt (args .b) (args .n) (args .bytes .now)) (at-loop .loop .k) (packedLength (args .b) (args .n)) (omega arith) no)
+    ∙ at-loop .loop .inv .1
 
 add-k : tie.Need-add-k Inv-loop μ-loop
 add-k c = search needs
@@ -46,9 +48,10 @@ loop-less c = omega arith
 loop-again : tie.Need-loop-again Inv-loop μ-loop
 loop-again c =
     let at-loop = c .before .before .before .before in
-    let args = at-loop .before .before .args in (
+    let args = at-loop .before .before .args in
+    let yes = sym (c .before .packable .ensures) ∙ not-false _ (c .if1 .left) in (
       omega arith,
-      sym (all-passes (packableAt (args .b) (args .n) (args .bytes .now)) (at-loop .loop .k) (packedLength (args .b) (args .n)) (omega arith) (sym (c .before .packable .ensures) ∙ not-false _ (c .if1 .left)))
+      sym (all-passes (packableAt (args .b) (args .n) (args .bytes .now)) (at-loop .loop .k) (packedLength (args .b) (args .n)) (omega arith) yes)
           ∙ at-loop .loop .inv .1,
     )
 

@@ -1,6 +1,6 @@
 -- `pack_into` is `pack`: at each turn the first j bytes are written.
-use mathlib.Core.Path.{_≡_, refl, sym, ap, ap₂, _∙_}
 use mathlib.Core.List.{List, map}
+use mathlib.Core.Path.{_≡_, refl, sym, ap, ap₂, _∙_}
 use Prim.Native.Nat.{ℕ, _+_, _-_, _*_, _≤_, _<_}
 use native.Mathlib.Omega.{arith}
 use lib.ListN.{length, take, drop, set, length-set}
@@ -44,7 +44,9 @@ mul-at c = omega (arith, begins c)
 symbols-at-requires : tie.Need-symbols-at-requires Inv-loop μ-loop
 symbols-at-requires c κs = omega arith
 
-ends : (c : tie.After-symbols-at Inv-loop μ-loop) → c .before .before .loop .j * c .before .before .before .before .per-byte .result + c .symbols-at .result ≤ c .before .before .before .before .before .before .before .args .n
+ends : (c : tie.After-symbols-at Inv-loop μ-loop) →
+    let at = c .before .before .loop .j * c .before .before .before .before .per-byte .result in
+    at + c .symbols-at .result ≤ c .before .before .before .before .before .before .before .args .n
 ends c =
     let at-loop = c .before .before in
     let args = at-loop .before .before .before .before .before .args in
@@ -98,7 +100,8 @@ loop-again c =
       inv .1,
       omega arith,
       length-set (at-loop .loop .out) (at-loop .loop .j) (c .pack-byte .result) ∙ inv .3,
-      ap₂ (λ (l : List ℕ) (v : ℕ). set l (at-loop .loop .j) v) (inv .4) byte ∙ fill-more (byteOf (args .b) (take (args .n) (args .xs .now))) (at-loop .loop .j) (args .out .now) 0 (omega arith),
+      ap₂ (λ (l : List ℕ) (v : ℕ). set l (at-loop .loop .j) v) (inv .4) byte
+          ∙ fill-more (byteOf (args .b) (take (args .n) (args .xs .now))) (at-loop .loop .j) (args .out .now) 0 (omega arith),
     )
 
 same-length : tie.Need-same-length Inv-loop μ-loop
@@ -110,7 +113,8 @@ returns c =
     let inv = c .before .loop .inv in
     let all : c .before .loop .j ≡ packedLength (args .b) (args .n) = omega arith in
     let symbols = take (args .n) (args .xs .now) in
-    inv .4 ∙ ap (λ (l : List ℕ). onto l (args .out .now)) (ap (λ (k : ℕ). map (byteOf (args .b) symbols) (upto k)) all ∙ sym (packed (args .b) (args .n) symbols (length-take-le (args .n) (args .xs .now) (omega arith))))
+    let written = sym (packed (args .b) (args .n) symbols (length-take-le (args .n) (args .xs .now) (omega arith))) in
+    inv .4 ∙ ap (λ (l : List ℕ). onto l (args .out .now)) (ap (λ (k : ℕ). map (byteOf (args .b) symbols) (upto k)) all ∙ written)
 
 pub pack-into-spec : {M : Type 1} → statement M
 pack-into-spec =

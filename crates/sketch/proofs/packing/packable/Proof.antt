@@ -3,9 +3,9 @@ use mathlib.Core.Path.{ap}
 use Prim.Native.Nat.{ℕ, _*_, _^_, _≤_}
 use native.Mathlib.Omega.{arith}
 use lib.Dec.{ltb}
+use borrow.Author.Needs.{needs}
 use Rattle.meaning.specs.Sketch.{perByte, packable, symbolsAt}
 use Rattle.sketch.proofs.Width.{shifted, bits-within}
-use borrow.Author.Needs.{needs}
 use Rattle.sketch.proofs.packing.packable.Statement.{statement}
 use Rattle.sketch.proofs.packing.packable.Tie as tie
 

@@ -1,9 +1,9 @@
 -- `symbols_at` is `symbolsAt`.
 use Prim.Native.Nat.{_*_, _<_}
 use native.Mathlib.Omega.{arith}
+use borrow.Author.Needs.{needs}
 use Rattle.meaning.specs.Sketch.{symbolsAt}
 use Rattle.sketch.proofs.Width.{byte-begins}
-use borrow.Author.Needs.{needs}
 use Rattle.sketch.proofs.packing.symbols_at.Statement.{statement}
 use Rattle.sketch.proofs.packing.symbols_at.Tie as tie
 

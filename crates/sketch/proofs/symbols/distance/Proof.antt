@@ -1,33 +1,39 @@
--- `distance` counts on: what is counted, and the distance of what is left, make the distance.
-use mathlib.Core.Path.{_≡_}
-use mathlib.Core.Logic.{⊎-elim}
+-- `distance` counts the places that differ.
 use Prim.Native.Nat.{_+_, _-_, _≤_}
 use native.Mathlib.Omega.{arith}
-use lib.ListN.{length, drop}
+use lib.ListN.{length, getD}
 use borrow.Author.Needs.{needs}
-use borrow.Author.Tests.{eq-eqb, ne-eqb}
-use Rattle.meaning.specs.Sketch.{distance}
-use Rattle.sketch.proofs.Places.{distance-step, distance-none}
+use Rattle.sketch.proofs.Places.{Counted, differ, counted-none, counted-more, counted-all}
 use Rattle.sketch.proofs.symbols.distance.Statement.{statement}
 use Rattle.sketch.proofs.symbols.distance.Tie as tie
 
 abbrev Inv-loop : tie.InvT-loop
-Inv-loop xs ys d₀ i₀ d i = (i ≤ length xs) × (d ≤ i) × (d + distance (drop i xs) (drop i ys) ≡ distance xs ys)
+Inv-loop xs ys d₀ i₀ d i = (i ≤ length xs) × Counted xs ys d i
 
 abbrev μ-loop : tie.MeasureT-loop
 μ-loop xs ys d₀ i₀ d i = length xs - i
 
 loop-holds : tie.Need-loop-holds Inv-loop μ-loop
-loop-holds c = search needs
+loop-holds c = (search needs, counted-none _ _)
 
-shared-slice-read-if1 : tie.Need-shared-slice-read-if1 Inv-loop μ-loop
-shared-slice-read-if1 c = search needs
+-- the count after the turn
+turned : (c : tie.In-loop Inv-loop μ-loop) →
+    let args = c .before .before .args in
+    let i = c .before .loop .i in
+    Counted (args .xs .now) (args .ys .now) (c .before .loop .d + differ (getD (args .xs .now) i 0) (getD (args .ys .now) i 0)) (i + 1)
+turned c = counted-more _ _ _ _ (omega arith) (omega arith) (c .before .loop .inv .1)
 
-shared-slice-read-if1-2 : tie.Need-shared-slice-read-if1-2 Inv-loop μ-loop
-shared-slice-read-if1-2 c = search needs
+shared-slice-read-d : tie.Need-shared-slice-read-d Inv-loop μ-loop
+shared-slice-read-d c = search needs
+
+shared-slice-read-d-2 : tie.Need-shared-slice-read-d-2 Inv-loop μ-loop
+shared-slice-read-d-2 c = search needs
+
+cast-d : tie.Need-cast-d Inv-loop μ-loop
+cast-d c = search needs
 
 add-d : tie.Need-add-d Inv-loop μ-loop
-add-d c = search needs
+add-d c = omega (arith, turned (c .before .before) .0)
 
 add-i : tie.Need-add-i Inv-loop μ-loop
 add-i c = search needs
@@ -36,23 +42,13 @@ loop-less : tie.Need-loop-less Inv-loop μ-loop
 loop-less c = search needs
 
 loop-again : tie.Need-loop-again Inv-loop μ-loop
-loop-again c =
-    let at-loop = c .before .before .before .before in
-    let args = at-loop .before .args in
-    let step = distance-step (args .xs .now) (args .ys .now) (at-loop .loop .i) (omega arith) (omega arith) in
-    ⊎-elim
-    (λ w. omega (arith, rw (ne-eqb _ _ (w .0 .taken)) at step))
-    (λ w. omega (arith, rw (eq-eqb _ _ (w .0 .left)) at step))
-    (c .if1 .came)
+loop-again c = (omega arith, turned (c .before .before))
 
 cast-result : tie.Need-cast-result Inv-loop μ-loop
-cast-result c = omega arith
+cast-result c = search needs
 
 returns : tie.Need-returns Inv-loop μ-loop
-returns c =
-    let at-loop = c .before in
-    let args = at-loop .before .args in
-    omega (arith, distance-none (args .xs .now) (drop (at-loop .loop .i) (args .ys .now)) (at-loop .loop .i) (c .loop-test .left))
+returns c = counted-all _ _ _ _ (c .loop-test .left) (c .before .loop .inv .1)
 
 pub distance-spec : {M : Type 1} → statement M
 distance-spec =
@@ -61,8 +57,9 @@ distance-spec =
     Inv-loop
     μ-loop
     loop-holds
-    shared-slice-read-if1
-    shared-slice-read-if1-2
+    shared-slice-read-d
+    shared-slice-read-d-2
+    cast-d
     add-d
     add-i
     loop-less

@@ -1,8 +1,9 @@
 -- `in_range` is `inRange`: the bits taken so far, and the range of what is left, decide it.
-use mathlib.Core.Path.{_≡_, sym, _∙_}
 use mathlib.Core.Bool.{_&&_}
+use mathlib.Core.Path.{_≡_, sym, _∙_}
 use Prim.Native.Nat.{_-_, _^_, _<_, _≤_}
 use native.Mathlib.Omega.{arith}
+use lib.Bits.{or-lt}
 use lib.Dec.{ltb}
 use lib.ListN.{length, drop}
 use lib.Pow.{pow-pos}
@@ -11,7 +12,6 @@ use borrow.Author.Tests.{lt-ltb}
 use Rattle.meaning.specs.Sketch.{inRange}
 use Rattle.sketch.proofs.Places.{range-end, range-more}
 use Rattle.sketch.proofs.Width.{shifted}
-use lib.Bits.{or-lt}
 use Rattle.sketch.proofs.symbols.in_range.Statement.{statement}
 use Rattle.sketch.proofs.symbols.in_range.Tie as tie
 

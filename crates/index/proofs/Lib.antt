@@ -1,0 +1,5 @@
+pub mod Opens
+pub mod Questions
+pub mod RightsCalls
+pub mod Runs
+pub mod Shows

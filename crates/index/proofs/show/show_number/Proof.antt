@@ -1,0 +1,15 @@
+-- `show_number` gives the number that `find_row` finds.
+use borrow.Author.Needs.{needs}
+use Rattle.index.specs.Show.{placeOf}
+use Rattle.index.proofs.show.show_number.Statement.{statement}
+use Rattle.index.proofs.show.show_number.Tie as tie
+
+find-row-requires : tie.Need-find-row-requires
+find-row-requires c κs = search needs
+
+returns : tie.Need-returns
+unfolding placeOf
+returns c = rw (c .find-row .ensures)
+
+pub show-number-spec : {M : Type 1} → statement M
+show-number-spec = tie.close (tie.spec find-row-requires returns)

@@ -1,0 +1,101 @@
+// Show, for a reader: the page's row of the sketch table itself, or the number of the question that refuses it.
+ghost use mathlib.Core.Path.{_≡_};
+ghost use mathlib.Core.Bool.{_&&_};
+ghost use mathlib.Core.List.{[]};
+ghost use Prim.Native.Nat.{_+_, _≤_, _<_};
+ghost use lib.ListN.{length};
+ghost use Rattle.meaning.specs.Ledger.{show};
+ghost use Rattle.layout.specs.Settings.{settingsLength};
+ghost use Rattle.layout.specs.Pages.{isLive, classOf};
+ghost use Rattle.rights.specs.Register.{opens};
+ghost use Rattle.promises.specs.Tables.{showTables};
+ghost use Rattle.promises.specs.Answers.{number};
+ghost use Rattle.promises.specs.Calls.{startShown, rowShown};
+ghost use Rattle.index.specs.Show.{noRow, placeOf};
+use crate::tables;
+use layout::Opening;
+
+const READERS: u32 = 256;
+
+// The number of a refusal, or 0 with the place of the row in the sketch table. A refusal has the place of no bytes at the table's start.
+pub struct Place {
+    pub number: u32,
+    pub start: u32,
+    pub length: u32,
+}
+
+fn refused(number: u32) -> Place
+    ensures { λ r. ⌜ r ≡ noRow number ⌝ }
+{
+    Place {
+        number: number,
+        start: 0,
+        length: 0,
+    }
+}
+
+// 9: is the page live, and its class open to the reader? Of a table of cap pages.
+fn is_shown(settings: &[u32], pages: &[u32], cap: usize, reader: usize, page: usize) -> bool
+    requires { ⌜ (settingsLength ≤ length (now settings)) × (reader < 256) ⌝ }
+    requires { ⌜ cap + page < length (now pages) ⌝ }
+    ensures { λ r. ⌜ r ≡ isLive (now (pages .entry)) page && opens (now (settings .entry)) reader (classOf (now (pages .entry)) cap page) ⌝ }
+{
+    if !layout::pages::is_live(pages, page) {
+        return false;
+    }
+    rights::is_open_to(settings, reader, layout::pages::class_of(pages, cap, page))
+}
+
+// Where the page's row stands.
+pub fn find_row(settings: &[u32], pages: &[u32], sketches: &[u8], reader: u32, page: u32) -> Place
+    ensures { λ r. ⌜ r ≡ placeOf (showTables (now (settings .entry)) (now (pages .entry)) (now (sketches .entry))) reader page ⌝ }
+{
+    let h = match layout::settings::opening(settings) {
+        Opening::Refused(number) => return refused(number),
+        Opening::Shown(h) => h,
+    };
+    if !tables::long_pages(h, pages, sketches) {
+        return refused(6);
+    }
+    if READERS <= reader {
+        return refused(7);
+    }
+    let cap = h.pages;
+    if cap <= page as usize {
+        return refused(8);
+    }
+    if !is_shown(settings, pages, cap, reader as usize, page as usize) {
+        return refused(9);
+    }
+    let m = h.m as u32;
+    Place {
+        number: 0,
+        start: page * m,
+        length: m,
+    }
+}
+
+// The refusal's number, or 0 where the row is shown.
+pub fn show_number(settings: &[u32], pages: &[u32], sketches: &[u8], reader: u32, page: u32) -> u32
+    ensures { λ r. ⌜ r ≡ number (showTables (now (settings .entry)) (now (pages .entry)) (now (sketches .entry))) [] (show reader page) ⌝ }
+{
+    find_row(settings, pages, sketches, reader, page).number
+}
+
+// The row itself, or an empty part.
+pub fn show<'a>(
+    settings: &[u32],
+    pages: &[u32],
+    sketches: &'a [u8],
+    reader: u32,
+    page: u32,
+) -> &'a [u8]
+    ensures { λ r. ⌜ now r ≡ rowShown (showTables (now (settings .entry)) (now (pages .entry)) (now (sketches .entry))) reader page ⌝ }
+    ensures { λ r. ⌜ r .ptr .0 ≡ sketches .entry .ptr .0 ⌝ }
+    ensures { λ r. ⌜ r .ptr .1 ≡ sketches .entry .ptr .1 + startShown (showTables (now (settings .entry)) (now (pages .entry)) (now (sketches .entry))) reader page ⌝ }
+{
+    let at = find_row(settings, pages, sketches, reader, page);
+    let start = at.start as usize;
+    let end = start + (at.length as usize);
+    &sketches[start..end]
+}

@@ -1,0 +1,40 @@
+-- `write_page` is `withPage`.
+use mathlib.Core.Path.{refl}
+use borrow.Author.Needs.{needs}
+use Rattle.layout.specs.Pages.{withPage}
+use Rattle.layout.proofs.pages.write_page.Statement.{statement}
+use Rattle.layout.proofs.pages.write_page.Tie as tie
+
+add-class-at : tie.Need-add-class-at
+add-class-at c = search needs
+
+mul-pages : tie.Need-mul-pages
+mul-pages c = search needs
+
+slice-write-pages : tie.Need-slice-write-pages
+slice-write-pages c = search needs
+
+mul-pages-2 : tie.Need-mul-pages-2
+mul-pages-2 c = search needs
+
+slice-write-pages-2 : tie.Need-slice-write-pages-2
+slice-write-pages-2 c = search needs
+
+same-length : tie.Need-same-length
+same-length c = search needs
+
+returns : tie.Need-returns
+unfolding withPage
+returns c = refl
+
+pub write-page-spec : {M : Type 1} → statement M
+write-page-spec =
+    tie.close
+    (tie.spec
+    add-class-at
+    mul-pages
+    slice-write-pages
+    mul-pages-2
+    slice-write-pages-2
+    same-length
+    returns)

@@ -1,0 +1,30 @@
+-- The classes open to a reader, as a set in two words.
+use Prim.Native.Nat.{ℕ, _+_, _*_, _%_}
+use mathlib.Core.Bool.{Bool, cond, _&&_}
+use mathlib.Core.List.{List, [], _∷_}
+use lib.Dec.{ltb}
+use lib.Bits.{bitOr}
+use lib.ListN.{getD}
+use Rattle.words.specs.Bits.{bit, bitsOf}
+use Rattle.layout.specs.Settings.{membersAt, grantsAt}
+use Rattle.rights.specs.declared.Classes.{Classes}
+
+-- is the class in the set? A class above 63 is in none
+unfoldable pub isOpen : Classes → ℕ → Bool
+isOpen k class = ltb class 64 && bit (cond (ltb class 32) (k .low) (k .high)) (class % 32)
+
+-- a set with the classes granted to a group
+unfoldable pub withGroup : List ℕ → Classes → ℕ → Classes
+withGroup ws k g = record {
+  low = bitOr (k .low) (getD ws (grantsAt + 2 * g) 0);
+  high = bitOr (k .high) (getD ws (grantsAt + 2 * g + 1) 0);
+}
+
+-- a set with the classes granted to each group of a list
+unfoldable pub withGroups : List ℕ → Classes → List ℕ → Classes
+withGroups ws k [] = k
+withGroups ws k (g ∷ gs) = withGroups ws (withGroup ws k g) gs
+
+-- the classes granted to the groups that have the reader as a member
+unfoldable pub openClasses : List ℕ → ℕ → Classes
+openClasses ws reader = withGroups ws (record { low = 0; high = 0 }) (bitsOf (getD ws (membersAt + reader) 0))
