@@ -11,8 +11,10 @@ test:
 	@.ci/run
 
 # what the proved crates offer to C, as archives
+ARCHIVES = sketch capi
 archives:
-	@rt staticlib sketch > target/staticlib.log 2>&1 || { cat target/staticlib.log; exit 1; }
+	@mkdir -p target
+	@for name in $(ARCHIVES); do rt staticlib $$name > target/staticlib.log 2>&1 || { cat target/staticlib.log; exit 1; }; done
 
 check-rust: archives
 	@$(CARGO) test $(TESTS)

@@ -2,6 +2,8 @@
 fn main() {
     let root = std::env::var("CARGO_MANIFEST_DIR").unwrap();
     println!("cargo:rustc-link-search=native={root}/../target/staticlib");
-    println!("cargo:rustc-link-lib=static=sketch");
-    println!("cargo:rerun-if-changed={root}/../target/staticlib/libsketch.a");
+    for name in ["sketch", "capi"] {
+        println!("cargo:rustc-link-lib=static={name}");
+        println!("cargo:rerun-if-changed={root}/../target/staticlib/lib{name}.a");
+    }
 }

@@ -2,3 +2,5 @@
 pub mod calls;
 pub mod plain;
 pub mod random;
+pub mod tables;
+pub mod trees;

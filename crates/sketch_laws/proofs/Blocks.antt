@@ -58,7 +58,7 @@ module _ (m q : ℕ) where
   block-range b j xs r = range-take b (blockLength m q j) (drop (blockStart m q j) xs) (range-drop b (blockStart m q j) xs r)
 
   pub block-packed : (b j : ℕ) (xs : List ℕ) → j < q → length xs ≡ m → length (pack b (block m q j xs)) ≡ packedLength b (blockLength m q j)
-  block-packed b j xs h e = pack-length b (block m q j xs) ∙ ap (packedLength b) (block-length j xs h e)
+  block-packed b j xs h e = pack-length b (blockLength m q j) (block m q j xs) (block-length j xs h e)
 
   -- ---- the distance by blocks
   blocks-distance : (xs ys : List ℕ) → length xs ≡ length ys → (n : ℕ)
@@ -100,7 +100,8 @@ near-block m q r xs ys h e f l =
     pigeonhole (λ j. distance (block m q j xs) (block m q j ys)) q r h (omega (arith, distance-blocks m q xs ys h e f))
 
 -- the same of the packed blocks
-pub near-packed : (b m q r : ℕ) (xs ys : List ℕ) → 0 < b → b ≤ 8 → 0 < q → length xs ≡ m → length ys ≡ m → inRange b xs ≡ true → inRange b ys ≡ true → distance xs ys ≤ r
+pub near-packed : (b m q r : ℕ) (xs ys : List ℕ) → 0 < b → b ≤ 8 → 0 < q → length xs ≡ m → length ys ≡ m
+    → inRange b xs ≡ true → inRange b ys ≡ true → distance xs ys ≤ r
     → (j : ℕ) × (j < q) × (packedDistance b (pack b (block m q j xs)) (pack b (block m q j ys)) ≤ r / q)
 near-packed b m q r xs ys lo hi h e f x y l =
     let near : (j : ℕ) × (j < q) × (distance (block m q j xs) (block m q j ys) ≤ r / q) = near-block m q r xs ys h e f l in

@@ -98,7 +98,7 @@ byte-distance-symbols b cs ds e h r s =
     (λ i. not (eqb (group b (packByte b cs) i) (group b (packByte b ds) i)))
     (λ i. not (eqb (getD cs i 0) (getD ds i 0)))
     (perByte b)
-    (λ i l. rw (group-byte b cs i r, group-byte b ds i s))
+    (λ i l. rw (group-byte b i cs r, group-byte b i ds s))
     ∙ count-other (perByte b) cs ds e h
 
 -- ---- all bytes

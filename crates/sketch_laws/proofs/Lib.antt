@@ -6,3 +6,4 @@ pub mod ByteDistance
 pub mod Prefix
 pub mod Blocks
 pub mod Walk
+pub mod Example

@@ -89,7 +89,7 @@ module _ (p : ℕ) where
   in-cond true us h = h
   in-cond false us h = absurd (false≢true h)
 
--- a test passes on a list where it passes on each number in it
+-- a test passes on a list exactly where it passes on each number in it
 pub all-in : (t : ℕ → Bool) (p : ℕ) (us : List ℕ) → all t us ≡ true → any (eqb p) us ≡ true → t p ≡ true
 unfolding all any
 all-in t p [] a h = absurd (false≢true h)
@@ -106,11 +106,6 @@ in-all t (u ∷ us) h =
     and-intro (t u) (all t us)
     (h u (or-first (eqb u u) (any (eqb u) us) (eq-eqb u u refl)))
     (in-all t us (λ p i. h p (or-second (eqb p u) (any (eqb p) us) i)))
-
-pub sum-append : (xs ys : List ℕ) → sum (xs ++ ys) ≡ sum xs + sum ys
-unfolding sum
-sum-append [] ys = omega arith
-sum-append (x ∷ xs) ys = omega (arith, sum-append xs ys)
 
 -- ---- 0, 1, .., n - 1
 length-from : (k n : ℕ) → length (from k n) ≡ n
@@ -159,17 +154,17 @@ module _ (p : ℕ → Bool) where
   all-upto zero h = refl
   all-upto (suc n) h = all-suc n ∙ and-intro (all p (upto n)) (p n) (all-upto n (λ i l. h i (omega arith))) (h n (omega arith))
 
-  pub upto-all : (n : ℕ) → all p (upto n) ≡ true → (i : ℕ) → i < n → p i ≡ true
-  upto-all zero e i h = absurd (not-suc-le-zero h)
-  upto-all (suc n) e i h =
+  pub upto-all : (n i : ℕ) → all p (upto n) ≡ true → i < n → p i ≡ true
+  upto-all zero i e h = absurd (not-suc-le-zero h)
+  upto-all (suc n) i e h =
       let both : all p (upto n) && p n ≡ true = sym (all-suc n) ∙ e in
       ⊎-elim
       (λ q. ap p q ∙ and-second (all p (upto n)) (p n) both)
-      (upto-all n (and-first (all p (upto n)) (p n) both) i)
+      (upto-all n i (and-first (all p (upto n)) (p n) both))
       (eq-or-lt-of-le (le-of-suc-le-suc h))
 
   pub upto-not : (n i : ℕ) → i < n → p i ≡ false → all p (upto n) ≡ false
-  upto-not n i h e = not-so (all p (upto n)) (λ a. false≢true (sym e ∙ upto-all n a i h))
+  upto-not n i h e = not-so (all p (upto n)) (λ a. false≢true (sym e ∙ upto-all n i a h))
 
   pub count-upto-le : (i n : ℕ) → i ≤ n → count p (upto i) ≤ count p (upto n)
   count-upto-le i n h = le-ind (λ (m : ℕ). count p (upto i) ≤ count p (upto m)) (le-refl (count p (upto i))) (λ m l r. omega (arith, count-suc m)) n h
@@ -188,7 +183,12 @@ count-same p q (suc n) h =
     ∙ ap₂ (λ (c : ℕ) (t : Bool). c + cond t 1 0) (count-same p q n (λ i l. h i (omega arith))) (h n (omega arith))
     ∙ sym (count-suc q n)
 
--- ---- a sum over 0, 1, .., n - 1
+-- ---- sums
+pub sum-append : (xs ys : List ℕ) → sum (xs ++ ys) ≡ sum xs + sum ys
+unfolding sum
+sum-append [] ys = omega arith
+sum-append (x ∷ xs) ys = omega (arith, sum-append xs ys)
+
 pub sum-suc : (f : ℕ → ℕ) (n : ℕ) → sum (map f (upto (suc n))) ≡ sum (map f (upto n)) + f n
 unfolding sum
 sum-suc f n =

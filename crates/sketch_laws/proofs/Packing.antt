@@ -2,9 +2,10 @@
 -- Each law is over the bits a symbol, b.
 use Prim.Native.Nat.{ℕ, zero, suc, _+_, _*_, _-_, _/_, _%_, _^_, _≤_, _<_}
 use native.Mathlib.Omega.{arith}
-use native.Mathlib.Nat.{div-zero, le-mul-of-pos-right, not-suc-le-zero, not-le-of-lt, lt-of-lt-of-le, eq-zero-or-pos, le-div-iff-mul-le, div-mul-le-self, div-add-mod', mod-lt, mod-eq-of-lt, mul-le-mul-left, mul-le-mul-right, min-le-left, mul-zero, mul-suc, mul-comm, zero-mul, div-div-eq-div-mul, zero-add, zero-div, zero-mod, div-one, mod-one, add-mul-mod-self-left, add-mul-div-left, div-eq-of-lt, add-comm}
-use mathlib.Core.Path.{_≡_, refl, sym, ap, _∙_}
+use native.Mathlib.Nat.{div-zero, le-mul-of-pos-right, not-suc-le-zero, not-le-of-lt, lt-of-lt-of-le, eq-zero-or-pos, le-div-iff-mul-le, div-mul-le-self, div-add-mod', mod-lt, mod-eq-of-lt}
+use native.Mathlib.Nat.{mul-le-mul-left, mul-le-mul-right, min-le-left, mul-zero, mul-suc, mul-comm, zero-mul, div-div-eq-div-mul, zero-add, zero-div, zero-mod, div-one, mod-one, add-mul-mod-self-left, add-mul-div-left, div-eq-of-lt, add-comm}
 use native.Mathlib.Decide.{decLe, decLt}
+use mathlib.Core.Path.{_≡_, refl, sym, ap, _∙_}
 use mathlib.Core.Logic.{_↔_, ⊎-elim, by-cases}
 use mathlib.Core.Bool.{true, false}
 use mathlib.Core.List.{List, [], _∷_, _++_, map, map-append}
@@ -21,11 +22,11 @@ use Rattle.sketch_laws.proofs.Lists.{not-so, and-intro, and-first, and-
 
 -- ---- symbols in range
 module _ (b : ℕ) where
-  pub range-at : (xs : List ℕ) (i : ℕ) → inRange b xs ≡ true → getD xs i 0 < 2 ^ b
+  pub range-at : (i : ℕ) (xs : List ℕ) → inRange b xs ≡ true → getD xs i 0 < 2 ^ b
   unfolding inRange all
-  range-at [] i r = pow-pos b
-  range-at (x ∷ xs) zero r = ltb-true x (2 ^ b) (and-first (ltb x (2 ^ b)) (inRange b xs) r)
-  range-at (x ∷ xs) (suc i) r = range-at xs i (and-second (ltb x (2 ^ b)) (inRange b xs) r)
+  range-at i [] r = pow-pos b
+  range-at zero (x ∷ xs) r = ltb-true x (2 ^ b) (and-first (ltb x (2 ^ b)) (inRange b xs) r)
+  range-at (suc i) (x ∷ xs) r = range-at i xs (and-second (ltb x (2 ^ b)) (inRange b xs) r)
 
   pub range-of : (xs : List ℕ) → ((i : ℕ) → i < length xs → getD xs i 0 < 2 ^ b) → inRange b xs ≡ true
   unfolding inRange all
@@ -36,16 +37,16 @@ module _ (b : ℕ) where
   pub range-take : (n : ℕ) (xs : List ℕ) → inRange b xs ≡ true → inRange b (take n xs) ≡ true
   range-take n xs r =
       range-of (take n xs)
-      (λ i l. rw (getD-take n xs i 0 (omega (arith, length-take n xs))) (range-at xs i r))
+      (λ i l. rw (getD-take n xs i 0 (omega (arith, length-take n xs))) (range-at i xs r))
 
   pub range-drop : (n : ℕ) (xs : List ℕ) → inRange b xs ≡ true → inRange b (drop n xs) ≡ true
-  range-drop n xs r = range-of (drop n xs) (λ i l. rw (getD-drop n xs i 0) (range-at xs (n + i) r))
+  range-drop n xs r = range-of (drop n xs) (λ i l. rw (getD-drop n xs i 0) (range-at (n + i) xs r))
 
   pub range-symbols : (k : ℕ) (xs : List ℕ) → inRange b xs ≡ true → inRange b (symbolsOf b k xs) ≡ true
   range-symbols k xs r = range-take (perByte b) (drop (k * perByte b) xs) (range-drop (k * perByte b) xs r)
 
-  pub range-not : (xs : List ℕ) (i : ℕ) → 2 ^ b ≤ getD xs i 0 → inRange b xs ≡ false
-  range-not xs i h = not-so (inRange b xs) (λ r. not-le-of-lt (range-at xs i r) h)
+  pub range-not : (i : ℕ) (xs : List ℕ) → 2 ^ b ≤ getD xs i 0 → inRange b xs ≡ false
+  range-not i xs h = not-so (inRange b xs) (λ r. not-le-of-lt (range-at i xs r) h)
 
 -- ---- one byte
 module _ (b : ℕ) where
@@ -59,20 +60,20 @@ module _ (b : ℕ) where
   byte-append (c ∷ cs) ds = rw (byte-append cs ds, width-suc (length cs)) (omega arith)
 
   -- one symbol more, from either end
-  pub byte-suc : (cs : List ℕ) (i : ℕ) → i < length cs → packByte b (take (suc i) cs) ≡ packByte b (take i cs) + getD cs i 0 * 2 ^ (b * i)
+  pub byte-suc : (i : ℕ) (cs : List ℕ) → i < length cs → packByte b (take (suc i) cs) ≡ packByte b (take i cs) + getD cs i 0 * 2 ^ (b * i)
   unfolding packByte
-  byte-suc cs i h =
+  byte-suc i cs h =
       ap (packByte b) (take-suc cs i 0 h) ∙ byte-append (take i cs) (getD cs i 0 ∷ []) ∙ rw (length-take-le i cs (omega arith)) (omega arith)
 
-  pub byte-drop : (cs : List ℕ) (i : ℕ) → i < length cs → packByte b (drop i cs) ≡ getD cs i 0 + 2 ^ b * packByte b (drop (suc i) cs)
+  pub byte-drop : (i : ℕ) (cs : List ℕ) → i < length cs → packByte b (drop i cs) ≡ getD cs i 0 + 2 ^ b * packByte b (drop (suc i) cs)
   unfolding packByte
-  byte-drop cs i h = rw (drop-cons cs i 0 h)
+  byte-drop i cs h = rw (drop-cons cs i 0 h)
 
   pub byte-lt : (cs : List ℕ) → inRange b cs ≡ true → packByte b cs < 2 ^ (b * length cs)
   unfolding packByte inRange all
   byte-lt [] r = pow-pos (b * 0)
   byte-lt (c ∷ cs) r =
-      let h : c < 2 ^ b = range-at b (c ∷ cs) 0 r in
+      let h : c < 2 ^ b = range-at b 0 (c ∷ cs) r in
       let l : packByte b cs < 2 ^ (b * length cs) = byte-lt cs (and-second (ltb c (2 ^ b)) (inRange b cs) r) in
       omega (arith, width-suc (length cs), mul-le-mul-left (2 ^ b) l)
 
@@ -82,14 +83,14 @@ module _ (b : ℕ) where
       rw (width-suc i, mul-comm (2 ^ (b * i)) (2 ^ b), ← div-div-eq-div-mul (c + 2 ^ b * v) (2 ^ b) (2 ^ (b * i)), add-mul-div-left c v (pow-pos b), div-eq-of-lt h, zero-add v)
 
   -- the symbols of a byte are its groups
-  pub group-byte : (cs : List ℕ) (i : ℕ) → inRange b cs ≡ true → group b (packByte b cs) i ≡ getD cs i 0
+  pub group-byte : (i : ℕ) (cs : List ℕ) → inRange b cs ≡ true → group b (packByte b cs) i ≡ getD cs i 0
   unfolding group packByte inRange all
-  group-byte [] i r = rw (zero-div (2 ^ (b * i)), zero-mod (2 ^ b))
-  group-byte (c ∷ cs) zero r =
+  group-byte i [] r = rw (zero-div (2 ^ (b * i)), zero-mod (2 ^ b))
+  group-byte zero (c ∷ cs) r =
       rw (mul-zero b, div-one (c + 2 ^ b * packByte b cs), add-mul-mod-self-left c (2 ^ b) (packByte b cs))
-      (mod-eq-of-lt (range-at b (c ∷ cs) 0 r))
-  group-byte (c ∷ cs) (suc i) r =
-      group-tail c (packByte b cs) i (range-at b (c ∷ cs) 0 r) ∙ group-byte cs i (and-second (ltb c (2 ^ b)) (inRange b cs) r)
+      (mod-eq-of-lt (range-at b 0 (c ∷ cs) r))
+  group-byte (suc i) (c ∷ cs) r =
+      group-tail c (packByte b cs) i (range-at b 0 (c ∷ cs) r) ∙ group-byte i cs (and-second (ltb c (2 ^ b)) (inRange b cs) r)
 
   -- the s lowest groups of a byte make up its b × s lowest bits
   pub byte-groups : (v s : ℕ) → packByte b (map (group b v) (upto s)) ≡ v % 2 ^ (b * s)
@@ -137,9 +138,9 @@ module _ (b : ℕ) where
   packs-length zero xs = refl
   packs-length (suc n) xs = ap suc (packs-length n (drop (perByte b) xs))
 
-  pub pack-length : (xs : List ℕ) → length (pack b xs) ≡ packedLength b (length xs)
+  pub pack-length : (n : ℕ) (xs : List ℕ) → length xs ≡ n → length (pack b xs) ≡ packedLength b n
   unfolding pack
-  pack-length xs = packs-length (packedLength b (length xs)) xs
+  pack-length n xs e = packs-length (packedLength b (length xs)) xs ∙ ap (packedLength b) e
 
   packs-at : (n k : ℕ) (xs : List ℕ) → k < n → getD (packBytes b n xs) k 0 ≡ packByte b (symbolsOf b k xs)
   unfolding packBytes
@@ -158,29 +159,29 @@ module _ (b : ℕ) where
       (eq-zero-or-pos (perByte b))
 
   -- byte k has the symbols from k × z on; past the end there are none
-  pub pack-at : (xs : List ℕ) (k : ℕ) → getD (pack b xs) k 0 ≡ packByte b (symbolsOf b k xs)
+  pub pack-at : (k : ℕ) (xs : List ℕ) → getD (pack b xs) k 0 ≡ packByte b (symbolsOf b k xs)
   unfolding pack packByte
-  pack-at xs k =
+  pack-at k xs =
       by-cases (decLt k (packedLength b (length xs)))
       (packs-at (packedLength b (length xs)) k xs)
       (λ h.
       let past : packedLength b (length xs) ≤ k = omega arith in
-      List·getD-eq-default (pack b xs) 0 (omega (arith, pack-length xs)) ∙ rw (past-none (length xs) k xs refl past))
+      List·getD-eq-default (pack b xs) 0 (omega (arith, pack-length (length xs) xs refl)) ∙ rw (past-none (length xs) k xs refl past))
 
-  pub symbols-length : (xs : List ℕ) (k : ℕ) → length (symbolsOf b k xs) ≡ symbolsAt b (length xs) k
+  pub symbols-length : (n k : ℕ) (xs : List ℕ) → length xs ≡ n → length (symbolsOf b k xs) ≡ symbolsAt b n k
   unfolding symbolsAt
-  symbols-length xs k = rw (length-take (perByte b) (drop (k * perByte b) xs), length-drop (k * perByte b) xs)
+  symbols-length n k xs e = rw (length-take (perByte b) (drop (k * perByte b) xs), length-drop (k * perByte b) xs, e)
 
-  pub pack-lt : (xs : List ℕ) (k : ℕ) → inRange b xs ≡ true → getD (pack b xs) k 0 < 2 ^ (b * symbolsAt b (length xs) k)
-  pack-lt xs k r =
-      rw (pack-at xs k, ← symbols-length xs k)
+  pub pack-lt : (n k : ℕ) (xs : List ℕ) → length xs ≡ n → inRange b xs ≡ true → getD (pack b xs) k 0 < 2 ^ (b * symbolsAt b n k)
+  pack-lt n k xs e r =
+      rw (pack-at k xs, ← symbols-length n k xs e)
       (byte-lt b (symbolsOf b k xs) (range-symbols b k xs r))
 
-  pub pack-packable : (xs : List ℕ) → inRange b xs ≡ true → allPackable b (length xs) (pack b xs) ≡ true
+  pub pack-packable : (n : ℕ) (xs : List ℕ) → length xs ≡ n → inRange b xs ≡ true → allPackable b n (pack b xs) ≡ true
   unfolding allPackable packable
-  pack-packable xs r =
-      all-upto (λ k. packable b (length xs) k (getD (pack b xs) k 0)) (packedLength b (length xs))
-      (λ k l. lt-ltb (getD (pack b xs) k 0) (2 ^ (b * symbolsAt b (length xs) k)) (pack-lt xs k r))
+  pack-packable n xs e r =
+      all-upto (λ k. packable b n k (getD (pack b xs) k 0)) (packedLength b n)
+      (λ k l. lt-ltb (getD (pack b xs) k 0) (2 ^ (b * symbolsAt b n k)) (pack-lt n k xs e r))
 
   -- the bits of the symbols of byte k are in one byte
   pub symbols-fit : (n k : ℕ) → 2 ^ (b * symbolsAt b n k) ≤ 256
@@ -193,8 +194,8 @@ module _ (b : ℕ) where
   unfolding packable
   packable-byte n k v h = lt-of-lt-of-le (ltb-true v (2 ^ (b * symbolsAt b n k)) h) (symbols-fit n k)
 
-  pub pack-byte : (xs : List ℕ) (k : ℕ) → inRange b xs ≡ true → getD (pack b xs) k 0 < 256
-  pack-byte xs k r = lt-of-lt-of-le (pack-lt xs k r) (symbols-fit (length xs) k)
+  pub pack-byte : (k : ℕ) (xs : List ℕ) → inRange b xs ≡ true → getD (pack b xs) k 0 < 256
+  pack-byte k xs r = lt-of-lt-of-le (pack-lt (length xs) k xs refl r) (symbols-fit (length xs) k)
 
 -- ---- bytes to symbols
 module _ (b : ℕ) where
@@ -202,9 +203,9 @@ module _ (b : ℕ) where
   unfolding unpack
   unpack-length n bs = length-map (upto n) (λ i. group b (getD bs (i / perByte b) 0) (i % perByte b)) ∙ length-upto n
 
-  pub unpack-at : (n : ℕ) (bs : List ℕ) (i : ℕ) → i < n → getD (unpack b n bs) i 0 ≡ group b (getD bs (i / perByte b) 0) (i % perByte b)
+  pub unpack-at : (n i : ℕ) (bs : List ℕ) → i < n → getD (unpack b n bs) i 0 ≡ group b (getD bs (i / perByte b) 0) (i % perByte b)
   unfolding unpack
-  unpack-at n bs i h = upto-at (λ i. group b (getD bs (i / perByte b) 0) (i % perByte b)) n i 0 h
+  unpack-at n i bs h = upto-at (λ i. group b (getD bs (i / perByte b) 0) (i % perByte b)) n i 0 h
 
   pub unpack-range : (n : ℕ) (bs : List ℕ) → inRange b (unpack b n bs) ≡ true
   unfolding group
@@ -212,16 +213,16 @@ module _ (b : ℕ) where
       range-of b (unpack b n bs)
       (λ i l.
       let h : i < n = omega (arith, unpack-length n bs) in
-      rw (unpack-at n bs i h) (mod-lt (getD bs (i / perByte b) 0 / 2 ^ (b * (i % perByte b))) (pow-pos b)))
+      rw (unpack-at n i bs h) (mod-lt (getD bs (i / perByte b) 0 / 2 ^ (b * (i % perByte b))) (pow-pos b)))
 
   -- the symbols that byte k gives
-  unpack-part : (n : ℕ) (bs : List ℕ) (k : ℕ)
+  unpack-part : (n k : ℕ) (bs : List ℕ)
       → symbolsOf b k (unpack b n bs) ≡ map (group b (getD bs k 0)) (upto (symbolsAt b n k))
   unfolding symbolsAt
-  unpack-part n bs k =
+  unpack-part n k bs =
       let s : ℕ = symbolsAt b n k in
       let part : List ℕ = symbolsOf b k (unpack b n bs) in
-      let long : length part ≡ s = symbols-length b (unpack b n bs) k ∙ ap (λ (i : ℕ). symbolsAt b i k) (unpack-length n bs) in
+      let long : length part ≡ s = symbols-length b n k (unpack b n bs) (unpack-length n bs) in
       ext-getD 0 part (map (group b (getD bs k 0)) (upto s))
       (long ∙ sym (length-map (upto s) (group b (getD bs k 0)) ∙ length-upto s))
       (λ i l.
@@ -229,30 +230,31 @@ module _ (b : ℕ) where
       let z : i < perByte b = omega arith in
       getD-take (perByte b) (drop (k * perByte b) (unpack b n bs)) i 0 z
       ∙ getD-drop (k * perByte b) (unpack b n bs) i 0
-      ∙ unpack-at n bs (k * perByte b + i) (omega arith)
+      ∙ unpack-at n (k * perByte b + i) bs (omega arith)
       ∙ rw (digits-div k z, digits-mod k z) (sym (upto-at (group b (getD bs k 0)) s i 0 h)))
 
   pub pack-unpack : (n : ℕ) (bs : List ℕ) → length bs ≡ packedLength b n → allPackable b n bs ≡ true → pack b (unpack b n bs) ≡ bs
   unfolding allPackable packable
   pack-unpack n bs l h =
-      let long : length (pack b (unpack b n bs)) ≡ packedLength b n = pack-length b (unpack b n bs) ∙ ap (packedLength b) (unpack-length n bs) in
+      let long : length (pack b (unpack b n bs)) ≡ packedLength b n = pack-length b n (unpack b n bs) (unpack-length n bs) in
       ext-getD 0 (pack b (unpack b n bs)) bs (long ∙ sym l)
       (λ k i.
-      pack-at b (unpack b n bs) k
-      ∙ ap (packByte b) (unpack-part n bs k)
+      pack-at b k (unpack b n bs)
+      ∙ ap (packByte b) (unpack-part n k bs)
       ∙ byte-groups b (getD bs k 0) (symbolsAt b n k)
       ∙ mod-eq-of-lt
       (ltb-true (getD bs k 0) (2 ^ (b * symbolsAt b n k))
-      (upto-all (λ k. packable b n k (getD bs k 0)) (packedLength b n) h k (omega arith))))
+      (upto-all (λ k. packable b n k (getD bs k 0)) (packedLength b n) k h (omega arith))))
 
-  pub unpack-pack : (xs : List ℕ) → 0 < b → b ≤ 8 → inRange b xs ≡ true → unpack b (length xs) (pack b xs) ≡ xs
-  unpack-pack xs lo hi r =
+  pub unpack-pack : (n : ℕ) (xs : List ℕ) → 0 < b → b ≤ 8 → length xs ≡ n → inRange b xs ≡ true → unpack b n (pack b xs) ≡ xs
+  unpack-pack n xs lo hi e r =
       let z : ℕ = perByte b in
-      ext-getD 0 (unpack b (length xs) (pack b xs)) xs (unpack-length (length xs) (pack b xs))
+      let long : length (unpack b n (pack b xs)) ≡ n = unpack-length n (pack b xs) in
+      ext-getD 0 (unpack b n (pack b xs)) xs (long ∙ sym e)
       (λ i l.
-      unpack-at (length xs) (pack b xs) i (omega (arith, unpack-length (length xs) (pack b xs)))
-      ∙ ap (λ (v : ℕ). group b v (i % z)) (pack-at b xs (i / z))
-      ∙ group-byte b (symbolsOf b (i / z) xs) (i % z) (range-symbols b (i / z) xs r)
+      unpack-at n i (pack b xs) (omega arith)
+      ∙ ap (λ (v : ℕ). group b v (i % z)) (pack-at b (i / z) xs)
+      ∙ group-byte b (i % z) (symbolsOf b (i / z) xs) (range-symbols b (i / z) xs r)
       ∙ getD-take z (drop (i / z * z) xs) (i % z) 0 (mod-lt i (per-byte-pos b lo hi))
       ∙ getD-drop (i / z * z) xs (i % z) 0
       ∙ ap (λ (j : ℕ). getD xs j 0) (div-add-mod' i z))

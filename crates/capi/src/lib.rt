@@ -1,0 +1,88 @@
+// The calls on an index for C: tables as a pointer and a length, the refusal's number as the result. No logic of their own: each
+// contract is the call's. include/vetchdawn.h declares them.
+ghost use mathlib.Core.Path.{_≡_};
+ghost use mathlib.Core.List.{[]};
+ghost use Rattle.meaning.specs.Ledger.{join, leave, grant, revoke, show};
+ghost use Rattle.promises.specs.Tables.{tables, showTables};
+ghost use Rattle.promises.specs.Answers.{number};
+ghost use Rattle.promises.specs.Calls.{OpenPromise, settingsGiven, RightsPromise, startShown, lengthShown};
+
+#[no_mangle]
+pub extern "C" fn vetch_open(
+    settings: &mut [u32],
+    nodes: &mut [u32],
+    pages: &mut [u32],
+    sketches: &[u8],
+    working: &[u32],
+    b: u32,
+    m: u32,
+    q: u32,
+    page_capacity: u32,
+    node_capacity: u32,
+    thresholds: &[u16],
+) -> u32
+    ensures { λ r. ⌜ OpenPromise (settingsGiven b m q «page_capacity» «node_capacity» (now (thresholds .entry))) (tables (now (settings .entry)) (now (nodes .entry)) (now (pages .entry)) (now (sketches .entry)) (now (working .entry))) r (now (settings .exit)) (now (nodes .exit)) (now (pages .exit)) ⌝ }
+{
+    index::open::open(
+        settings,
+        nodes,
+        pages,
+        sketches,
+        working,
+        b,
+        m,
+        q,
+        page_capacity,
+        node_capacity,
+        thresholds,
+    )
+}
+
+#[no_mangle]
+pub extern "C" fn vetch_join(settings: &mut [u32], reader: u32, group: u32) -> u32
+    ensures { λ r. ⌜ RightsPromise (join reader group) (now (settings .entry)) r (now (settings .exit)) ⌝ }
+{
+    index::register::join(settings, reader, group)
+}
+
+#[no_mangle]
+pub extern "C" fn vetch_leave(settings: &mut [u32], reader: u32, group: u32) -> u32
+    ensures { λ r. ⌜ RightsPromise (leave reader group) (now (settings .entry)) r (now (settings .exit)) ⌝ }
+{
+    index::register::leave(settings, reader, group)
+}
+
+#[no_mangle]
+pub extern "C" fn vetch_grant(settings: &mut [u32], group: u32, class: u32) -> u32
+    ensures { λ r. ⌜ RightsPromise (grant group class) (now (settings .entry)) r (now (settings .exit)) ⌝ }
+{
+    index::register::grant(settings, group, class)
+}
+
+#[no_mangle]
+pub extern "C" fn vetch_revoke(settings: &mut [u32], group: u32, class: u32) -> u32
+    ensures { λ r. ⌜ RightsPromise (revoke group class) (now (settings .entry)) r (now (settings .exit)) ⌝ }
+{
+    index::register::revoke(settings, group, class)
+}
+
+// An exported function cannot return a part of a slice: the row is given by its start and length in the sketch table.
+#[no_mangle]
+pub extern "C" fn vetch_show(
+    settings: &[u32],
+    pages: &[u32],
+    sketches: &[u8],
+    reader: u32,
+    page: u32,
+    start: &mut u32,
+    length: &mut u32,
+) -> u32
+    ensures { λ r. ⌜ r ≡ number (showTables (now (settings .entry)) (now (pages .entry)) (now (sketches .entry))) [] (show reader page) ⌝ }
+    ensures { λ r. ⌜ now (start .exit) ≡ startShown (showTables (now (settings .entry)) (now (pages .entry)) (now (sketches .entry))) reader page ⌝ }
+    ensures { λ r. ⌜ now (length .exit) ≡ lengthShown (showTables (now (settings .entry)) (now (pages .entry)) (now (sketches .entry))) reader page ⌝ }
+{
+    let at = index::show::find_row(settings, pages, sketches, reader, page);
+    *start = at.start;
+    *length = at.length;
+    at.number
+}

@@ -1,0 +1,128 @@
+-- A small history whose tables compute, so that no hypothesis of the theorem is empty; and a page added to its tables.
+use mathlib.Core.Path.{_≡_, refl, sym}
+use mathlib.Core.Bool.{true}
+use mathlib.Core.List.{List, [], _∷_}
+use Prim.Native.Nat.{ℕ, _+_}
+use lib.ListN.{length, getD, set, replicate}
+use Rattle.meaning.specs.Lists.{all, any, keep, onto, from, upto, sum}
+use Rattle.meaning.specs.Refusal.{firstNo}
+use Rattle.meaning.specs.Ledger.{Settings, Event, opening, add, join, grant, accept, step, ledger, withRows, withMembers, withGrants, putRow, calledFor, listed}
+use Rattle.meaning.specs.Forest.{blockBytes, forest, forestAfter, eachFrom, totalNodes}
+use Rattle.meaning.specs.Sketch.{distance, inRange, perByte, packedLength, blockLength}
+use Rattle.meaning.specs.Trie.{fresh, addLeaf, insert, nodes}
+use Rattle.meaning.specs.Rights.{samePair, stands, write, openTo}
+use Rattle.meaning.specs.SketchCalls.{sketchLimits}
+use Rattle.meaning.specs.Questions.{inLimits, asked, byLedger}
+use Rattle.words.specs.Bits.{bit, withBit, withFlag}
+use Rattle.layout.specs.Settings.{header, settingsOf, showsOpening}
+use Rattle.layout.specs.Pages.{withPage, withRow}
+use Rattle.layout.specs.Lengths.{nodesLength, pagesLength, sketchesLength, workingLength}
+use Rattle.layout.specs.Working.{mapWords, summaryWords}
+use Rattle.rights.specs.Register.{withMember, withGrant}
+use Rattle.promises.specs.Tables.{Tables, withSettings}
+use Rattle.promises.specs.Answers.{longFor, longSettings, longNodes, longPages, longWorking, entered, shown56, number, freeLink, freshSettings, freshChain, freshState, freshNodes, freshPages, opened, registered}
+use Rattle.promises.specs.Calls.{OpenPromise, RightsPromise}
+use Rattle.store.specs.Calls.{SameRest, PageAdded}
+use Rattle.history.specs.Relation.{toStore}
+use Rattle.history.specs.History.{event, History, begun, called, admitted, judged}
+use Rattle.history.proofs.Represents.{Represents}
+use Rattle.history.proofs.Steps.{adds}
+use Rattle.history.proofs.Contracts.{numberAlone, from-open, from-rights}
+use Rattle.history.proofs.Main.{represents}
+use Rattle.history.proofs.Exist.{of-length}
+
+s : Settings
+s = record { bits = 2; symbols = 4; blocks = 2; pages = 3; nodes = 5; thresholds = replicate 64 1 }
+
+-- tables a little too long, with anything in them
+held : Tables
+held = record { settings = replicate 393 9; nodes = replicate 52 8; pages = replicate 13 1; sketches = replicate 12 3; working = replicate 9 7 }
+
+first : Tables
+first = opened s held
+
+opening-promise : OpenPromise s held 0 (first .settings) (first .nodes) (first .pages)
+unfolding s held first number entered longSettings longFor longNodes longPages longWorking nodesLength pagesLength sketchesLength workingLength mapWords summaryWords inLimits sketchLimits asked firstNo all
+opening-promise = record { answers = refl; settings-left = refl; nodes-left = refl; pages-left = refl }
+
+second : List ℕ
+second = withMember (first .settings) 5 1 true
+
+third : List ℕ
+third = withGrant second 1 3 true
+
+join-promise : RightsPromise (join 5 1) (first .settings) 0 second
+unfolding s held first second opened freshSettings freeLink header onto number entered shown56 longSettings longFor showsOpening settingsOf inLimits sketchLimits asked firstNo all registered
+join-promise = record { answers = refl; settings-left = refl }
+
+grant-promise : RightsPromise (grant 1 3) second 0 third
+unfolding s held first second third opened freshSettings freeLink header onto number entered shown56 longSettings longFor showsOpening settingsOf inLimits sketchLimits asked firstNo all registered withFlag withBit bit
+grant-promise = record { answers = refl; settings-left = refl }
+
+events : List Event
+events = event (grant 1 3) 0 ∷ event (join 5 1) 0 ∷ event (opening s) 0 ∷ []
+
+opened-tables : Tables
+opened-tables = withSettings first third
+
+history : History events opened-tables
+unfolding events opened-tables first opened
+history =
+    let begins = begun s held (numberAlone 0) first (from-open held 0 s (first .settings) (first .nodes) (first .pages) opening-promise) refl in
+    let joins = called begins (join 5 1) (numberAlone 0) (withSettings first second) (from-rights first 0 (join 5 1) second join-promise) in
+    called joins (grant 1 3) (numberAlone 0) (withSettings first third) (from-rights (withSettings first second) 0 (grant 1 3) third grant-promise)
+
+shown : Represents opened-tables (ledger events)
+shown = represents history .tables
+
+-- and there is one of every length
+of-any-length : (n : ℕ) → (es : List Event) × (T : Tables) × (History es T) × (length es ≡ n + 1)
+of-any-length = of-length s held (sym (opening-promise .answers))
+
+-- the words of reader 5 and of group 1
+words : (getD third 75 0 ≡ 2) × (getD third 328 0 ≡ 8)
+unfolding s held first second third opened freshSettings freeLink header onto withFlag withBit bit
+words = (refl, refl)
+
+-- a page added, whatever the words of its tries
+x : List ℕ
+x = 0 ∷ 1 ∷ 2 ∷ 3 ∷ []
+
+added-tables : Tables
+added-tables = record {
+  settings = third;
+  nodes = onto (replicate 50 6) (held .nodes);
+  pages = set (withPage 3 (first .pages) 1 3) 7 5;
+  sketches = withRow 4 (held .sketches) 1 x;
+  working = held .working;
+}
+
+same-rest : SameRest (toStore opened-tables) (toStore added-tables)
+unfolding s x held first second third opened-tables added-tables opened freshSettings freshNodes freshChain freshState freshPages nodesLength pagesLength freeLink header onto upto from settingsOf withPage withRow withFlag withBit bit
+same-rest = record {
+  settings = refl;
+  nodes = refl;
+  pages = refl;
+  sketches = refl;
+  working = refl;
+  header = refl;
+  settings-rest = refl;
+  nodes-rest = refl;
+  pages-rest = refl;
+}
+
+added : PageAdded (toStore opened-tables) (toStore added-tables) 1 3 x
+unfolding s x held first second third opened-tables added-tables opened freshSettings freshPages pagesLength freeLink header onto settingsOf withPage withRow withFlag withBit bit
+added = record { pages = refl; sketches = refl }
+
+accepts : judged opened-tables (ledger events) (forest events) (add 1 3 x) ≡ 0
+unfolding s x events judged admitted asked byLedger firstNo inRange all any forest forestAfter ledger step accept withMembers withGrants putRow eachFrom blockBytes packedLength perByte blockLength totalNodes sum insert addLeaf nodes fresh
+accepts = refl
+
+shown-page : Represents added-tables (ledger (event (add 1 3 x) 0 ∷ events))
+unfolding ledger step opened-tables added-tables first opened
+shown-page = adds opened-tables (ledger events) shown added-tables same-rest refl (forest events) 1 3 x added accepts
+
+lists : listed (ledger (event (add 1 3 x) 0 ∷ events)) 5 0 x ≡ 1 ∷ []
+unfolding x events ledger step accept withRows withMembers withGrants putRow write listed calledFor keep openTo stands any samePair upto from distance
+lists = refl

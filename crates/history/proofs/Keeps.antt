@@ -1,0 +1,157 @@
+-- Each call keeps the invariant: afterwards the tables show the ledger after its step, and the store is sound with the tries after it.
+use Prim.Native.Nat.{ℕ}
+use native.Mathlib.Omega.{arith}
+use mathlib.Core.Path.{_≡_, refl, sym, ap, _∙_, subst}
+use mathlib.Core.Bool.{Bool, true, false, cond, not}
+use mathlib.Core.Logic.{_≢_}
+use mathlib.Core.List.{List, [], _∷_}
+use lib.Dec.{ltb, eqb}
+use lib.ListN.{length, replicate, length-replicate}
+use borrow.Author.Tests.{eqb-true, eqb-false, eq-eqb, ne-eqb, ltb-true}
+use Rattle.meaning.specs.Lists.{all}
+use Rattle.meaning.specs.Refusal.{Question, firstNo}
+use Rattle.meaning.specs.Trie.{Tree, fresh}
+use Rattle.meaning.specs.Ledger.{Settings, Ledger, Call, opening, add, drop, join, leave, grant, revoke, search, show, check, accept, step}
+use Rattle.meaning.specs.Forest.{forestAfter}
+use Rattle.meaning.specs.Questions.{asked, byLedger}
+use Rattle.layout.specs.Lengths.{workingLength}
+use Rattle.layout.proofs.Tests.{and-left, and-right}
+use Rattle.promises.specs.Tables.{Tables, withSettings, pageClass, pageRow, rowsOf}
+use Rattle.promises.specs.Answers.{entered, shown56, registered}
+use Rattle.store.specs.Sound.{Sound}
+use Rattle.store.specs.Calls.{workingLeft}
+use Rattle.history.specs.Relation.{Answer, toStore, withWorking, Registers, Promised}
+use Rattle.history.specs.History.{event, admitted, judged, zeroed}
+use Rattle.history.proofs.Represents.{Represents, given-eq, long-working, past-6}
+use Rattle.history.proofs.Opening.{onto-length, started, entered-4-5, left-by}
+use Rattle.history.proofs.Steps.{RightsLeft, joins, leaves, grants, revokes, works, drops, adds}
+use Rattle.history.proofs.FreshStore.{fresh-store}
+use Rattle.history.proofs.Store.{sound-others, sound-working, sound-back}
+use Rattle.history.proofs.Numbers.{Shows, numbers}
+
+-- the tries after a call that gave this number
+abbrev pub triesAfter : Ledger → Call → ℕ → List Tree → List Tree
+triesAfter L c n F = cond (not (eqb n 0)) F (forestAfter (L .settings) (L .rows) c F)
+
+-- accepted or refused
+stepped : (T′ : Tables) (L : Ledger) (F : List Tree) (c : Call) (n : ℕ) → (n ≡ 0 → Shows T′ (accept c L) (forestAfter (L .settings) (L .rows) c F))
+    → (n ≢ 0 → Shows T′ L F) → Shows T′ (step (event c n) L) (triesAfter L c n F)
+unfolding step
+stepped T′ L F c n done still = go (eqb n 0) refl
+  where
+    go : (t : Bool) → eqb n 0 ≡ t → Shows T′ (cond (not t) L (accept c L)) (cond (not t) F (forestAfter (L .settings) (L .rows) c F))
+    go true e = done (eqb-true n 0 e)
+    go false e = still (eqb-false n 0 e)
+
+-- ---- an opening, whatever the tables held
+module _ (s : Settings) (T : Tables) (a : Answer) (T′ : Tables) (p : Promised (opening s) T a T′) where
+  pub begins : (L : Ledger) → a .number ≡ 0 → Shows T′ (accept (opening s) L) (replicate (s .blocks) fresh)
+  begins L e =
+      let h = entered-4-5 s T (sym (p .0 .answers) ∙ e) in
+      rw (left-by s T a T′ p, eq-eqb (a .number) 0 e) (record { tables = started s (h .0) T (h .1) L; store = fresh-store s (h .0) T (h .1) })
+
+-- ---- a number is 0 or that of a question that is asked
+pub number-in : (P : ℕ → Bool) (qs : List Question) → P 0 ≡ true → all (λ q. P (q .number)) qs ≡ true → P (firstNo qs) ≡ true
+unfolding all firstNo
+number-in P [] z h = z
+number-in P (q ∷ qs) z h = go (q .passed) (number-in P qs z (and-right (P (q .number)) _ h))
+  where
+    go : (t : Bool) → P (firstNo qs) ≡ true → P (cond t (firstNo qs) (q .number)) ≡ true
+    go true r = r
+    go false r = and-left (P (q .number)) _ h
+
+not-14 : (qs : List Question) → all (λ q. ltb (q .number) 14) qs ≡ true → firstNo qs ≢ 14
+not-14 qs h e = omega (arith, ltb-true (firstNo qs) 14 (number-in (λ n. ltb n 14) qs refl h))
+
+-- the tables that an add or a drop does not take, and those that it takes
+pub rejoin : (T T′ : Tables) → toStore T′ ≡ toStore T → T′ .working ≡ T .working → T′ ≡ T
+rejoin T T′ e w = λ i. withWorking (e i) (w i)
+
+module _ (T : Tables) (L : Ledger) (F : List Tree) (W : Shows T L F) where
+  abbrev R : Represents T L
+  R = W .tables
+
+  -- ---- add and drop
+  rows-taken : rowsOf (toStore T) ≡ L .rows
+  unfolding rowsOf pageClass pageRow
+  rows-taken = sym (R .rows)
+
+  abbrev S : Sound (toStore T) F
+  S = sound-working T F [] (W .store)
+
+  module _ (a : Answer) (T′ : Tables) where
+    adding : (p c : ℕ) (x : List ℕ) → Promised (add p c x) T a T′ → Shows T′ (step (event (add p c x) (a .number)) L) (triesAfter L (add p c x) (a .number) F)
+    unfolding judged admitted asked all
+    adding p c x h =
+        let n = numbers T L F W (add p c x) a T′ h in
+        let k = h .0 .sound F S in
+        stepped T′ L F (add p c x) (a .number)
+        (λ e. record {
+          tables = adds T L R T′ (h .0 .rest) (h .1) F p c x (k .page e) (sym n ∙ e);
+          store = sound-back T′ _ (rw (rows-taken, given-eq T L R) at (k .tries e));
+        })
+        (λ e. rw (rejoin T T′ (h .0 .refused e (λ z. not-14 (asked (byLedger L F) (add p c x)) refl (sym n ∙ z))) (h .1)) W)
+
+    dropping : (p : ℕ) → Promised (drop p) T a T′ → Shows T′ (step (event (drop p) (a .number)) L) (triesAfter L (drop p) (a .number) F)
+    unfolding judged admitted asked all
+    dropping p h =
+        let n = numbers T L F W (drop p) a T′ h in
+        let k = h .0 .sound F S in
+        stepped T′ L F (drop p) (a .number)
+        (λ e. record {
+          tables = drops T L R T′ (h .0 .rest) (h .1) F p (k .page e) (sym n ∙ e);
+          store = sound-back T′ _ (rw (rows-taken, given-eq T L R) at (k .tries e));
+        })
+        (λ e. rw (rejoin T T′ (h .0 .refused e (λ z. not-14 (asked (byLedger L F) (drop p)) refl (sym n ∙ z))) (h .1)) W)
+
+    -- ---- join, leave, grant, revoke
+    registers : (c : Call) → Registers c T a T′ → forestAfter (L .settings) (L .rows) c F ≡ F
+        → (a .number ≡ 0 → RightsLeft T (registered c (T .settings)) (accept c L)) → Shows T′ (step (event c (a .number)) L) (triesAfter L c (a .number) F)
+    registers c h f r =
+        stepped T′ L F c (a .number)
+        (λ e.
+        let k = r e in
+        rw (left, eq-eqb (a .number) 0 e, f) (record {
+          tables = k .tables;
+          store = sound-others T (registered c (T .settings)) (T .working) (k .head) (k .link) F (W .store);
+        }))
+        (λ e. rw (left, ne-eqb (a .number) 0 e) W)
+      where
+        go : (t : Bool) → withSettings T (cond t (registered c (T .settings)) (T .settings)) ≡ cond t (withSettings T (registered c (T .settings))) T
+        go true = refl
+        go false = refl
+
+        left : T′ ≡ cond (eqb (a .number) 0) (withSettings T (registered c (T .settings))) T
+        left = h .1 ∙ rw (h .0 .settings-left, ← h .0 .answers) (go (eqb (a .number) 0))
+
+  -- ---- search and check
+  pub zeros-left : (c : Call) → entered T c ≡ shown56 T c → workingLeft T c ≡ zeroed L (T .working)
+  unfolding workingLeft zeroed
+  zeros-left c e = rw (e, past-6 T L R c, given-eq T L R)
+
+  working : (c : Call) (n : ℕ) (T′ : Tables) → T′ ≡ withWorking T (T′ .working) → T′ .working ≡ zeroed L (T .working)
+      → accept c L ≡ L → forestAfter (L .settings) (L .rows) c F ≡ F → Shows T′ (step (event c n) L) (triesAfter L c n F)
+  working c n T′ e z l f = stepped T′ L F c n (λ i. rw (l, f) shows) (λ i. shows)
+    where
+      long : length (zeroed L (T .working)) ≡ length (T .working)
+      long = unfold zeroed in onto-length (replicate (workingLength (L .settings)) 0) (T .working) (simp length-replicate (long-working T L R))
+
+      shows : Shows T′ L F
+      shows = subst (λ (U : Tables). Shows U L F) (sym e) (record {
+        tables = works T L R (T′ .working) (ap length z ∙ long);
+        store = sound-working T F (T′ .working) (W .store);
+      })
+
+  -- ---- every call
+  pub goes-on : (c : Call) (a : Answer) (T′ : Tables) → Promised c T a T′ → Shows T′ (step (event c (a .number)) L) (triesAfter L c (a .number) F)
+  unfolding forestAfter accept entered
+  goes-on (opening s) a T′ p = stepped T′ L F (opening s) (a .number) (begins s T a T′ p L) (λ e. rw (left-by s T a T′ p, ne-eqb (a .number) 0 e) W)
+  goes-on (add q c x) a T′ p = adding a T′ q c x p
+  goes-on (drop q) a T′ p = dropping a T′ q p
+  goes-on (join r g) a T′ p = registers a T′ (join r g) p refl (λ e. joins T L R F r g (sym (numbers T L F W (join r g) a T′ p) ∙ e))
+  goes-on (leave r g) a T′ p = registers a T′ (leave r g) p refl (λ e. leaves T L R F r g (sym (numbers T L F W (leave r g) a T′ p) ∙ e))
+  goes-on (grant g c) a T′ p = registers a T′ (grant g c) p refl (λ e. grants T L R F g c (sym (numbers T L F W (grant g c) a T′ p) ∙ e))
+  goes-on (revoke g c) a T′ p = registers a T′ (revoke g c) p refl (λ e. revokes T L R F g c (sym (numbers T L F W (revoke g c) a T′ p) ∙ e))
+  goes-on (search r d x o) a T′ p = working (search r d x o) (a .number) T′ (p .1) (p .0 .working-left ∙ zeros-left (search r d x o) refl) refl refl
+  goes-on (show r q) a T′ p = rw (p .2) (stepped T L F (show r q) (a .number) (λ e. W) (λ e. W))
+  goes-on check a T′ p = working check (a .number) T′ (p .1) (p .0 .working-left ∙ zeros-left check refl) refl refl

@@ -1,0 +1,16 @@
+pub mod Lists
+pub mod Pages
+pub mod Represents
+pub mod Opening
+pub mod Steps
+pub mod Searches
+pub mod Claims
+pub mod FreshStore
+pub mod Store
+pub mod Numbers
+pub mod Keeps
+pub mod Main
+pub mod Foreign
+pub mod Contracts
+pub mod Exist
+pub mod Example

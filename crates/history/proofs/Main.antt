@@ -1,0 +1,124 @@
+-- The claim about whole histories (demand 3).
+use Prim.Native.Nat.{ℕ, _≤_}
+use native.Mathlib.Omega.{arith}
+use mathlib.Core.Path.{_≡_, refl, sym, ap, _∙_}
+use mathlib.Core.Bool.{cond}
+use mathlib.Core.List.{List, []}
+use lib.Dec.{leb, eqb}
+use lib.ListN.{length, take, length-map}
+use lib.Seq.{take-at}
+use borrow.Author.Tests.{ne-eqb, le-leb}
+use Rattle.meaning.specs.Lists.{onto}
+use Rattle.meaning.specs.Refusal.{firstNo}
+use Rattle.meaning.specs.Questions.{asked}
+use Rattle.meaning.specs.Trie.{Tree}
+use Rattle.meaning.specs.Ledger.{Ledger, Event, search, show, check, step, unopened, ledger, calledFor, listed}
+use Rattle.meaning.specs.Forest.{forest, forestAfter}
+use Rattle.promises.specs.Tables.{Tables, pageRow, scan}
+use Rattle.promises.specs.Answers.{entered}
+use Rattle.promises.specs.Calls.{rowShown}
+use Rattle.history.specs.Relation.{Answer, toShow, Promised}
+use Rattle.history.specs.History.{History, begun, called, foreign, admitted, judged, RightlyPut, Found, sketchIn, Claim, Agree}
+use Rattle.history.proofs.Lists.{passed}
+use Rattle.history.proofs.Represents.{found-eq, number-eq}
+use Rattle.history.proofs.Searches.{ordered, refuses, finds, shows-row}
+use Rattle.history.proofs.Searches.{agreed as agreed-in}
+use Rattle.history.proofs.Numbers.{Shows, early, numbers, number-show}
+use Rattle.history.proofs.Keeps.{begins, zeros-left, goes-on}
+
+-- after every history the tables show the ledger, and the store is sound with the tries of demand 2
+pub represents : {es : List Event} {T : Tables} → History es T → Shows T (ledger es) (forest es)
+unfolding ledger step forest forestAfter
+represents (begun s T₀ a T p e) = begins s T₀ a T p unopened e
+represents (called {es} {T} h c a T′ p) = goes-on T (ledger es) (forest es) (represents h) c a T′ p
+represents (foreign h c T₀ a T₁ p l m) = rw (ne-eqb (a .number) 0 (omega arith)) (represents h)
+
+-- a search rightly put gives what the ledger calls for
+module _ (T : Tables) (L : Ledger) (F : List Tree) (W : Shows T L F) where
+  put-early : (reader radius : ℕ) (x : List ℕ) → RightlyPut L reader radius x → early T reader radius x ≡ 0
+  put-early reader radius x r =
+      let l : length (calledFor L reader radius x) ≤ length (scan T reader radius x) = omega (arith, found-eq T L (W .tables) reader radius x (r .reads)) in
+      refuses T L (W .tables) [] reader radius x (scan T reader radius x) r
+      ∙ rw (le-leb (length (calledFor L reader radius x)) (length (scan T reader radius x)) l)
+
+  found : (reader radius : ℕ) (x o : List ℕ) (a : Answer) (T′ : Tables) → Promised (search reader radius x o) T a T′
+      → RightlyPut L reader radius x → Found L reader radius x o (a .number) (a .count) (a .list)
+  found reader radius x o a T′ p r =
+      finds T L (W .tables) [] reader radius x o r (a .number) (a .count) (a .list) (p .0 .sound F (W .store) (put-early reader radius x r))
+
+  row-shown : (reader p : ℕ) → rowShown (toShow T) reader p ≡ cond (eqb (judged T L F (show reader p)) 0) (sketchIn (L .rows) p) []
+  unfolding rowShown pageRow
+  row-shown reader p = rw (number-show T F reader p, number-eq T L (W .tables) F (show reader p)) (shows-row T L (W .tables) F reader p)
+
+-- the theorem
+pub theorem : {es : List Event} {T : Tables} → History es T → Claim T (ledger es) (forest es)
+unfolding entered judged admitted asked firstNo
+theorem {es} {T} h = record {
+  refusals = numbers T L F W;
+  searches = found T L F W;
+  once = ordered T L (W .tables);
+  shows = λ reader q a T′ p. p .1 ∙ row-shown T L F W reader q;
+  checks = λ a T′ p. p .0 .whole (numbers T L F W check a T′ p) F (W .store);
+  searched = λ reader radius x o a T′ p. p .0 .working-left ∙ zeros-left T L F W (search reader radius x o) refl;
+  checked = λ a T′ p. p .0 .working-left ∙ zeros-left T L F W check refl;
+  sound = W .store;
+}
+  where
+    L : Ledger
+    L = ledger es
+
+    F : List Tree
+    F = forest es
+
+    W : Shows T L F
+    W = represents h
+
+-- ---- two histories that agree
+
+pub agreed : {es fs : List Event} {T U : Tables} → History es T → History fs U → (reader radius : ℕ) (x : List ℕ)
+    → Agree (ledger es) (ledger fs) reader radius x → listed (ledger es) reader radius x ≡ listed (ledger fs) reader radius x
+agreed {es} {fs} {T} {U} h k = agreed-in T U (ledger es) (ledger fs) (represents h .tables) (represents k .tables)
+
+counted : (L : Ledger) (reader radius : ℕ) (x : List ℕ) → length (listed L reader radius x) ≡ length (calledFor L reader radius x)
+unfolding listed
+counted L reader radius x = length-map (calledFor L reader radius x) (λ r. r .page)
+
+-- the count and the list that an accepted search gave
+gave : (L : Ledger) (reader radius : ℕ) (x o : List ℕ) (n count : ℕ) (after : List ℕ) → Found L reader radius x o n count after → n ≡ 0
+    → (count ≡ length (listed L reader radius x)) × (take count after ≡ listed L reader radius x)
+unfolding onto
+gave L reader radius x o n count after f e =
+    let l = counted L reader radius x in
+    let t = passed 13 (leb (length (calledFor L reader radius x)) (length o)) 0 (omega arith) (sym (f .refusal) ∙ e) in
+    (f .rows ∙ sym l, rw (f .output, t .0, f .rows) (take-at (listed L reader radius x) _ (length (calledFor L reader radius x)) l))
+
+-- a search rightly put after each
+module _ {es fs : List Event} {T U : Tables} (h : History es T) (k : History fs U) (reader radius : ℕ) (x : List ℕ)
+    (agree : Agree (ledger es) (ledger fs) reader radius x) (put : RightlyPut (ledger es) reader radius x) (put′ : RightlyPut (ledger fs) reader radius x)
+    (o o′ : List ℕ) (a a′ : Answer) (T′ U′ : Tables)
+    (p : Promised (search reader radius x o) T a T′) (p′ : Promised (search reader radius x o′) U a′ U′) where
+  abbrev f : Found (ledger es) reader radius x o (a .number) (a .count) (a .list)
+  f = theorem h .searches reader radius x o a T′ p put
+
+  abbrev f′ : Found (ledger fs) reader radius x o′ (a′ .number) (a′ .count) (a′ .list)
+  f′ = theorem k .searches reader radius x o′ a′ U′ p′ put′
+
+  q : listed (ledger es) reader radius x ≡ listed (ledger fs) reader radius x
+  q = agreed h k reader radius x agree
+
+  c : length (calledFor (ledger es) reader radius x) ≡ length (calledFor (ledger fs) reader radius x)
+  c = sym (counted (ledger es) reader radius x) ∙ ap length q ∙ counted (ledger fs) reader radius x
+
+  -- they give equal counts, and with outputs long enough equal lists
+  pub equal-counts : a .count ≡ a′ .count
+  equal-counts = f .rows ∙ c ∙ sym (f′ .rows)
+
+  pub equal-lists : a .number ≡ 0 → a′ .number ≡ 0 → take (a .count) (a .list) ≡ take (a′ .count) (a′ .list)
+  equal-lists n n′ =
+      gave (ledger es) reader radius x o (a .number) (a .count) (a .list) f n .1
+      ∙ q
+      ∙ sym (gave (ledger fs) reader radius x o′ (a′ .number) (a′ .count) (a′ .list) f′ n′ .1)
+
+  -- lent the same output they are refused alike, and leave it alike
+  pub equal-answers : o ≡ o′ → (a .number ≡ a′ .number) × (a .list ≡ a′ .list)
+  equal-answers e = (f .refusal ∙ rw (c, e) (sym (f′ .refusal)), f .output ∙ rw (c, q, e) (sym (f′ .output)))

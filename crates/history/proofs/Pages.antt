@@ -1,0 +1,97 @@
+-- The rows of the live pages, read off the page table and the sketch table, before and after a write.
+use mathlib.Core.Path.{_≡_, refl, sym, _∙_}
+use mathlib.Core.Bool.{Bool, true, false, cond, not}
+use mathlib.Core.Logic.{_≢_}
+use mathlib.Core.List.{List}
+use Prim.Native.Nat.{ℕ, _*_, _≤_, _<_}
+use native.Mathlib.Omega.{arith}
+use lib.Dec.{eqb}
+use lib.ListN.{length, take}
+use borrow.Author.Tests.{eqb-true, eqb-false}
+use Rattle.meaning.specs.Lists.{keep}
+use Rattle.meaning.specs.Ledger.{Row, putRow}
+use Rattle.layout.specs.Pages.{isLive, classOf, rowOf, withPage, withoutPage}
+use Rattle.layout.specs.Settings.{membersAt}
+use Rattle.layout.proofs.Words.{live-kept, class-kept, live-written, live-written-other, class-written, class-written-other, live-struck, live-struck-other, class-struck}
+use Rattle.layout.proofs.Written.{settings-kept}
+use Rattle.promises.specs.Tables.{Tables, given, pageClass, pageRow, rowsFrom, rowsOf}
+use Rattle.history.proofs.Lists.{rows-upto, rows-put, rows-strike}
+
+-- the rows of P pages, m symbols a row
+abbrev pub rowAt : ℕ → ℕ → List ℕ → List ℕ → ℕ → Row
+rowAt P m pages sketches p = record { page = p; class = classOf pages P p; sketch = rowOf m sketches p }
+
+abbrev pub rowsIn : ℕ → ℕ → List ℕ → List ℕ → List Row
+rowsIn P m pages sketches = rowsFrom (isLive pages) (rowAt P m pages sketches) 0 P
+
+-- ---- they are read off the first 2 × P words of the page table: the links behind are not read
+
+rows-same : (P m : ℕ) (pages pages′ sketches sketches′ : List ℕ) → take (2 * P) pages′ ≡ take (2 * P) pages
+    → ((i : ℕ) → i < P → rowOf m sketches′ i ≡ rowOf m sketches i) → rowsIn P m pages′ sketches′ ≡ rowsIn P m pages sketches
+rows-same P m pages pages′ sketches sketches′ e rows =
+    rows-upto (isLive pages′) (isLive pages) (rowAt P m pages′ sketches′) (rowAt P m pages sketches) P
+    (live-kept P pages′ pages e)
+    (λ i h. cc (class-kept P pages′ pages e i h, rows i h))
+
+-- of all tables they read the header, these words and the rows of the sketch table
+pub rows-of : (T T′ : Tables) → take membersAt (T′ .settings) ≡ take membersAt (T .settings)
+    → take (2 * given T .pages) (T′ .pages) ≡ take (2 * given T .pages) (T .pages)
+    → ((i : ℕ) → i < given T .pages → rowOf (given T .symbols) (T′ .sketches) i ≡ rowOf (given T .symbols) (T .sketches) i) → rowsOf T′ ≡ rowsOf T
+unfolding rowsOf pageClass pageRow
+rows-of T T′ h e rows =
+    rw (settings-kept (T′ .settings) (T .settings) h)
+    (rows-same (given T .pages) (given T .symbols) (T .pages) (T′ .pages) (T .sketches) (T′ .sketches) e rows)
+
+-- ---- page p written, or struck out, and the links in any way
+
+module _ (P : ℕ) (pages pages′ : List ℕ) (p : ℕ) (page : p < P) (long : 2 * P ≤ length pages) where
+  module _ (struck : take (2 * P) pages′ ≡ take (2 * P) (withoutPage pages p)) (i : ℕ) (h : i < P) where
+    pub live-drop : isLive pages′ i ≡ cond (eqb i p) false (isLive pages i)
+    live-drop = live-kept P pages′ (withoutPage pages p) struck i h ∙ go (eqb i p) refl
+      where
+        go : (t : Bool) → eqb i p ≡ t → isLive (withoutPage pages p) i ≡ cond t false (isLive pages i)
+        go true e = rw (eqb-true i p e) (live-struck P pages p page (omega arith))
+        go false e = live-struck-other P pages p page (omega arith) i h (eqb-false i p e)
+
+    pub class-drop : classOf pages′ P i ≡ classOf pages P i
+    class-drop = class-kept P pages′ (withoutPage pages p) struck i h ∙ class-struck P pages p page (omega arith) i h
+
+  module _ (c : ℕ) (written : take (2 * P) pages′ ≡ take (2 * P) (withPage P pages p c)) (i : ℕ) (h : i < P) where
+    pub live-add : isLive pages′ i ≡ cond (eqb i p) true (isLive pages i)
+    live-add = live-kept P pages′ (withPage P pages p c) written i h ∙ go (eqb i p) refl
+      where
+        go : (t : Bool) → eqb i p ≡ t → isLive (withPage P pages p c) i ≡ cond t true (isLive pages i)
+        go true e = rw (eqb-true i p e) (live-written P pages p page (omega arith) c)
+        go false e = live-written-other P pages p page (omega arith) c i h (eqb-false i p e)
+
+    pub class-add : classOf pages′ P i ≡ cond (eqb i p) c (classOf pages P i)
+    class-add = class-kept P pages′ (withPage P pages p c) written i h ∙ go (eqb i p) refl
+      where
+        go : (t : Bool) → eqb i p ≡ t → classOf (withPage P pages p c) P i ≡ cond t c (classOf pages P i)
+        go true e = rw (eqb-true i p e) (class-written P pages p page (omega arith) c)
+        go false e = class-written-other P pages p page (omega arith) c i h (eqb-false i p e)
+
+  -- the rows afterwards
+  module _ (m : ℕ) (sketches sketches′ : List ℕ) where
+    pub rows-drop : take (2 * P) pages′ ≡ take (2 * P) (withoutPage pages p) → ((i : ℕ) → i < P → rowOf m sketches′ i ≡ rowOf m sketches i)
+        → keep (λ r. not (eqb (r .page) p)) (rowsIn P m pages sketches) ≡ rowsIn P m pages′ sketches′
+    rows-drop struck rows =
+        rows-strike (isLive pages) (rowAt P m pages sketches) (λ i. refl) p 0 P
+        ∙ rows-upto (λ i. cond (eqb i p) false (isLive pages i)) (isLive pages′) (rowAt P m pages sketches) (rowAt P m pages′ sketches′) P
+        (λ i h. sym (live-drop struck i h))
+        (λ i h. cc (class-drop struck i h, rows i h))
+
+    pub rows-add : (c : ℕ) (x : List ℕ) → isLive pages p ≡ false → take (2 * P) pages′ ≡ take (2 * P) (withPage P pages p c)
+        → rowOf m sketches′ p ≡ x → ((i : ℕ) → i < P → i ≢ p → rowOf m sketches′ i ≡ rowOf m sketches i)
+        → putRow (record { page = p; class = c; sketch = x }) (rowsIn P m pages sketches) ≡ rowsIn P m pages′ sketches′
+    rows-add c x free written here rows =
+        rows-put (isLive pages) (rowAt P m pages sketches) (λ i. refl) (record { page = p; class = c; sketch = x }) free 0 P (omega arith) (omega arith)
+        ∙ rows-upto (λ i. cond (eqb i p) true (isLive pages i)) (isLive pages′)
+        (λ i. cond (eqb i p) (record { page = p; class = c; sketch = x }) (rowAt P m pages sketches i)) (rowAt P m pages′ sketches′) P
+        (λ i h. sym (live-add c written i h))
+        (λ i h. go i h (eqb i p) refl (class-add c written i h))
+      where
+        go : (i : ℕ) → i < P → (t : Bool) → eqb i p ≡ t → classOf pages′ P i ≡ cond (eqb i p) c (classOf pages P i)
+            → cond t (record { page = p; class = c; sketch = x }) (rowAt P m pages sketches i) ≡ rowAt P m pages′ sketches′ i
+        go i h true e k = let q : i ≡ p = eqb-true i p e in let d : classOf pages′ P i ≡ c = k ∙ rw e in rw (d, q, here)
+        go i h false e k = let d : classOf pages′ P i ≡ classOf pages P i = k ∙ rw e in rw (d, rows i h (eqb-false i p e))

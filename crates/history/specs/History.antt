@@ -1,0 +1,104 @@
+-- Histories of calls, and the claim about them (demand 3; document 01, "The ledger").
+use mathlib.Core.Path.{_≡_}
+use Prim.Native.Nat.{ℕ, _≤_, _<_}
+use mathlib.Core.Bool.{Bool, true, cond, _&&_, not}
+use mathlib.Core.List.{List, [], _∷_, _++_}
+use lib.Dec.{ltb, leb, eqb}
+use lib.ListN.{length, replicate}
+use Rattle.meaning.specs.Lists.{all, any, onto}
+use Rattle.meaning.specs.Refusal.{Question, firstNo}
+use Rattle.meaning.specs.Sketch.{inRange}
+use Rattle.meaning.specs.Trie.{Tree}
+use Rattle.meaning.specs.Ledger.{Settings, Row, Ledger, Event, Call, opening, add, drop, join, leave, grant, revoke, search, show, check, calledFor, listed}
+use Rattle.meaning.specs.Questions.{asked, byLedger}
+use Rattle.layout.specs.Lengths.{workingLength}
+use Rattle.promises.specs.Tables.{Tables}
+use Rattle.promises.specs.Answers.{entered}
+use Rattle.store.specs.Sound.{Sound}
+use Rattle.history.specs.Relation.{Answer, Promised}
+
+-- a call that gave this number
+abbrev pub event : Call → ℕ → Event
+event c n = record { call = c; refused = not (eqb n 0) }
+
+-- the events, the last one first, and the tables that they have left
+pub data History : List Event → Tables → Type 0 where
+  -- an accepted opening, whatever the tables held before
+  begun : (s : Settings) (T₀ : Tables) (a : Answer) (T : Tables) → Promised (opening s) T₀ a T → a .number ≡ 0 → History (event (opening s) 0 ∷ []) T
+  -- a call, accepted or refused, that is lent the tables as the last one left them
+  called : {es : List Event} {T : Tables} → History es T → (c : Call) (a : Answer) (T′ : Tables) → Promised c T a T′
+      → History (event c (a .number) ∷ es) T′
+  -- a call that is lent anything, and refused by 4, 5 or 6: it changes nothing (proofs/Foreign.antt)
+  foreign : {es : List Event} {T : Tables} → History es T → (c : Call) (T₀ : Tables) (a : Answer) (T₁ : Tables) → Promised c T₀ a T₁
+      → 4 ≤ a .number → a .number ≤ 6 → History (event c (a .number) ∷ es) T
+
+-- 4 and 5 of an opening go by its arguments and the tables' lengths; every other call passes 5 and 6
+unfoldable pub admitted : Tables → Call → List Question
+admitted T (opening s) = entered T (opening s)
+admitted T (add p c x) = []
+admitted T (drop p) = []
+admitted T (join r g) = []
+admitted T (leave r g) = []
+admitted T (grant g c) = []
+admitted T (revoke g c) = []
+admitted T (search r d x o) = []
+admitted T (show r p) = []
+admitted T check = []
+
+-- the number of the first "no", as the ledger and the tries of demand 2 have it; 0 where there is none
+unfoldable pub judged : Tables → Ledger → List Tree → Call → ℕ
+judged T L F c = firstNo (admitted T c ++ asked (byLedger L F) c)
+
+-- a search passes 7, 10 and 11
+pub record RightlyPut (L : Ledger) (reader radius : ℕ) (x : List ℕ) : Type 0 where
+  pub reads : reader < 256
+  pub near : radius ≤ 64
+  pub whole : length x ≡ L .settings .symbols
+  pub symbols : inRange (L .settings .bits) x ≡ true
+
+-- what a search rightly put gives: number, count and output
+pub record Found (L : Ledger) (reader radius : ℕ) (x before : List ℕ) (number count : ℕ) (after : List ℕ) : Type 0 where
+  -- refused exactly when the output has fewer places than there are rows called for
+  pub refusal : number ≡ cond (leb (length (calledFor L reader radius x)) (length before)) 0 13
+  pub rows : count ≡ length (calledFor L reader radius x)
+  pub output : after ≡ cond (leb (length (calledFor L reader radius x)) (length before)) (onto (listed L reader radius x) before) before
+
+-- the sketch in a page's row
+unfoldable pub sketchIn : List Row → ℕ → List ℕ
+sketchIn [] p = []
+sketchIn (r ∷ rs) p = cond (eqb (r .page) p) (r .sketch) (sketchIn rs p)
+
+-- each number is below all that follow it
+unfoldable pub rising : List ℕ → Bool
+rising [] = true
+rising (x ∷ xs) = all (λ y. ltb x y) xs && rising xs
+
+-- a working table with zeros in its needed part
+unfoldable pub zeroed : Ledger → List ℕ → List ℕ
+zeroed L ws = onto (replicate (workingLength (L .settings)) 0) ws
+
+-- the claim: of the tables that a history has left, its ledger and the tries of demand 2
+pub record Claim (T : Tables) (L : Ledger) (F : List Tree) : Type 0 where
+  -- each further call is refused just where a question says no
+  pub refusals : (c : Call) (a : Answer) (T′ : Tables) → Promised c T a T′ → a .number ≡ judged T L F c
+  -- a search rightly put
+  pub searches : (reader radius : ℕ) (x o : List ℕ) (a : Answer) (T′ : Tables) → Promised (search reader radius x o) T a T′
+      → RightlyPut L reader radius x → Found L reader radius x o (a .number) (a .count) (a .list)
+  -- each page stands in its list once, and the numbers rise
+  pub once : (reader radius : ℕ) (x : List ℕ) → rising (listed L reader radius x) ≡ true
+  -- a show gives the page's row, and nothing where it is refused
+  pub shows : (reader p : ℕ) (a : Answer) (T′ : Tables) → Promised (show reader p) T a T′
+      → a .list ≡ cond (eqb (judged T L F (show reader p)) 0) (sketchIn (L .rows) p) []
+  -- a check says yes
+  pub checks : (a : Answer) (T′ : Tables) → Promised check T a T′ → a .yes ≡ true
+  -- a search and a check leave zeros in the needed part of the working table
+  pub searched : (reader radius : ℕ) (x o : List ℕ) (a : Answer) (T′ : Tables) → Promised (search reader radius x o) T a T′
+      → T′ .working ≡ zeroed L (T .working)
+  pub checked : (a : Answer) (T′ : Tables) → Promised check T a T′ → T′ .working ≡ zeroed L (T .working)
+  -- the store is sound, and its tries are those
+  pub sound : Sound T F
+
+-- the rows called for have the same page numbers
+abbrev pub Agree : Ledger → Ledger → ℕ → ℕ → List ℕ → Type 0
+Agree L M reader radius x =
+    (p : ℕ) → any (λ r. eqb (r .page) p) (calledFor L reader radius x) ≡ any (λ r. eqb (r .page) p) (calledFor M reader radius x)

@@ -1,0 +1,2 @@
+pub mod Relation
+pub mod History

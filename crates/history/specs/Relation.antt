@@ -1,0 +1,56 @@
+-- What every call promises, as one relation on a history's tables. Each case cites the record that the call's own contract cites, over
+-- the tables that the call takes, and says that every other table, and each one that it takes only to read, is as it was.
+use Prim.Native.Nat.{ℕ}
+use mathlib.Core.Path.{_≡_}
+use mathlib.Core.Bool.{Bool}
+use mathlib.Core.List.{List, []}
+use Rattle.meaning.specs.Ledger.{Call, opening, add, drop, join, leave, grant, revoke, search, show, check}
+use Rattle.promises.specs.Tables.{Tables, withSettings}
+use Rattle.promises.specs.Answers.{number}
+use Rattle.promises.specs.Calls.{OpenPromise, RightsPromise, rowShown}
+use Rattle.store.specs.Calls.{AddPromise, DropPromise, SearchPromise, CheckPromise}
+
+-- what a call gives; a part that it does not give is not looked at
+pub record Answer : Type 0 where
+  -- of the question that refuses it, or 0
+  pub number : ℕ
+  -- a search: the count given
+  pub count : ℕ
+  -- a search: its output afterwards; a show: the row
+  pub list : List ℕ
+  -- a check
+  pub yes : Bool
+
+-- the tables that an add or a drop takes, and those that a show takes; a table that is not taken stands as []
+abbrev pub toStore : Tables → Tables
+toStore T = record { settings = T .settings; nodes = T .nodes; pages = T .pages; sketches = T .sketches; working = [] }
+
+abbrev pub toShow : Tables → Tables
+toShow T = record { settings = T .settings; nodes = []; pages = T .pages; sketches = T .sketches; working = [] }
+
+-- the tables with others in the place of some
+abbrev pub withOpening : Tables → List ℕ → List ℕ → List ℕ → Tables
+withOpening T settings nodes pages = record { settings = settings; nodes = nodes; pages = pages; sketches = T .sketches; working = T .working }
+
+abbrev pub withWorking : Tables → List ℕ → Tables
+withWorking T ws = record { settings = T .settings; nodes = T .nodes; pages = T .pages; sketches = T .sketches; working = ws }
+
+-- a join, leave, grant or revoke
+abbrev pub Registers : Call → Tables → Answer → Tables → Type 0
+Registers c T a T′ = RightsPromise c (T .settings) (a .number) (T′ .settings) × (T′ ≡ withSettings T (T′ .settings))
+
+-- the call, lent the tables T, gives this answer and leaves the tables T′
+abbrev pub Promised : Call → Tables → Answer → Tables → Type 0
+Promised (opening s) T a T′ =
+    OpenPromise s T (a .number) (T′ .settings) (T′ .nodes) (T′ .pages) × (T′ ≡ withOpening T (T′ .settings) (T′ .nodes) (T′ .pages))
+Promised (add p c x) T a T′ = AddPromise (toStore T) p c x (a .number) (toStore T′) × (T′ .working ≡ T .working)
+Promised (drop p) T a T′ = DropPromise (toStore T) p (a .number) (toStore T′) × (T′ .working ≡ T .working)
+Promised (join r g) T a T′ = Registers (join r g) T a T′
+Promised (leave r g) T a T′ = Registers (leave r g) T a T′
+Promised (grant g c) T a T′ = Registers (grant g c) T a T′
+Promised (revoke g c) T a T′ = Registers (revoke g c) T a T′
+Promised (search r d x o) T a T′ =
+    SearchPromise T r d x o (a .number) (a .count) (a .list) (T′ .working) × (T′ ≡ withWorking T (T′ .working))
+Promised (show r p) T a T′ =
+    (a .number ≡ number (toShow T) [] (show r p)) × (a .list ≡ rowShown (toShow T) r p) × (T′ ≡ T)
+Promised check T a T′ = CheckPromise T (a .number) (a .yes) (T′ .working) × (T′ ≡ withWorking T (T′ .working))

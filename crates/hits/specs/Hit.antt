@@ -1,0 +1,43 @@
+-- The test that a page must pass to be listed: live, of an open class, and within the radius of the query.
+use Prim.Native.Nat.{ℕ, _≤_}
+use mathlib.Core.Path.{_≡_}
+use mathlib.Core.Bool.{Bool, _&&_}
+use mathlib.Core.List.{List}
+use lib.Dec.{ltb, leb}
+use lib.ListN.{length}
+use Rattle.meaning.specs.Sketch.{distance}
+use Rattle.layout.specs.declared.Header.{Header}
+use Rattle.layout.specs.Header.{bare}
+use Rattle.layout.specs.Limits.{HeaderLimits}
+use Rattle.layout.specs.Lengths.{pagesLength, sketchesLength}
+use Rattle.layout.specs.Pages.{isLive, classOf, rowOf}
+use Rattle.rights.specs.declared.Classes.{Classes}
+use Rattle.rights.specs.Open.{isOpen}
+
+-- what a page is tested by: the tables, the capacities, the open classes, the query and its radius
+pub record Test : Type 0 where
+  pub pages : List ℕ
+  pub sketches : List ℕ
+  pub header : Header
+  pub classes : Classes
+  pub query : List ℕ
+  pub radius : ℕ
+
+abbrev pub test : List ℕ → List ℕ → Header → Classes → List ℕ → ℕ → Test
+test pages sketches header classes query radius =
+    record { pages = pages; sketches = sketches; header = header; classes = classes; query = query; radius = radius }
+
+-- the capacities are within their limits, the tables long enough for them, and the query has m symbols
+pub record Fitting (t : Test) : Type 0 where
+  pub limits : HeaderLimits (t .header)
+  pub pages : pagesLength (bare (t .header)) ≤ length (t .pages)
+  pub sketches : sketchesLength (bare (t .header)) ≤ length (t .sketches)
+  pub query : length (t .query) ≡ t .header .m
+
+-- no number at or above the capacity passes
+unfoldable pub isHit : Test → ℕ → Bool
+isHit t p =
+    ltb p (t .header .pages)
+    && isLive (t .pages) p
+    && isOpen (t .classes) (classOf (t .pages) (t .header .pages) p)
+    && leb (distance (rowOf (t .header .m) (t .sketches) p) (t .query)) (t .radius)

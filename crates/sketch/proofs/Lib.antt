@@ -1,0 +1,9 @@
+pub mod Answers
+pub mod BlockEnds
+pub mod Bytes
+pub mod Lists
+pub mod Packed
+pub mod Places
+pub mod Runs
+pub mod Width
+pub mod Verdict

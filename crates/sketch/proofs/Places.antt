@@ -1,0 +1,97 @@
+-- Distance and range, place by place.
+use mathlib.Core.Bool.{Bool, true, false, cond, not, _&&_, and-assoc, and-true}
+use mathlib.Core.List.{List}
+use mathlib.Core.Path.{_≡_, refl, sym, subst, _∙_}
+use Prim.Native.Nat.{ℕ, suc, _+_, _^_, _<_, _≤_}
+use native.Mathlib.Nat.{le-trans, add-zero, zero-add}
+use native.Mathlib.Numerals.{add-one}
+use native.Mathlib.Omega.{arith}
+use lib.Bits.{bitOr, or-lt, or-add-and, and-le-l, and-le-r}
+use lib.Dec.{ltb, eqb}
+use lib.ListN.{length, getD, take, drop, drop-of-length-le}
+use lib.Seq.{drop-cons}
+use mir.Val.{boolByte}
+use borrow.Author.Tests.{lt-ltb, le-ltb, ltb-true, ltb-false}
+use Rattle.meaning.specs.Lists.{all}
+use Rattle.meaning.specs.Sketch.{distance, inRange}
+use Rattle.sketch.proofs.Lists.{all-take, all-drop}
+
+-- d of the places before i differ
+abbrev pub Counted : List ℕ → List ℕ → ℕ → ℕ → Type 0
+Counted xs ys d i = (d ≤ i) × (d + distance (drop i xs) (drop i ys) ≡ distance xs ys)
+
+-- 1 where two symbols differ, as the code makes it
+abbrev pub differ : ℕ → ℕ → ℕ
+differ x y = boolByte (not (eqb x y))
+
+module _ (xs ys : List ℕ) where
+  pub counted-none : Counted xs ys 0 0
+  counted-none = (omega arith, zero-add (distance xs ys))
+
+  -- one place more
+  pub counted-more : (d i : ℕ) → i < length xs → i < length ys → Counted xs ys d i
+      → Counted xs ys (d + differ (getD xs i 0) (getD ys i 0)) (i + 1)
+  unfolding distance
+  counted-more d i hx hy c = go (eqb x y) (rw (drop-cons xs i 0 hx, drop-cons ys i 0 hy) at (c .1))
+    where
+      x : ℕ
+      x = getD xs i 0
+
+      y : ℕ
+      y = getD ys i 0
+
+      go : (t : Bool) → d + (cond t 0 1 + distance (drop (suc i) xs) (drop (suc i) ys)) ≡ distance xs ys
+          → (d + boolByte (not t) ≤ i + 1) × (d + boolByte (not t) + distance (drop (i + 1) xs) (drop (i + 1) ys) ≡ distance xs ys)
+      go true e = (omega (arith, c .0), rw (add-one i) (omega arith))
+      go false e = (omega (arith, c .0), rw (add-one i) (omega arith))
+
+  -- at the end all are counted
+  pub counted-all : (d i : ℕ) → length xs ≤ i → Counted xs ys d i → d ≡ distance xs ys
+  unfolding distance
+  counted-all d i h c = sym (add-zero d) ∙ (rw (drop-of-length-le xs h) at (c .1))
+
+  -- past the end there is nothing to count
+  pub counted-on : (d i j : ℕ) → i ≤ j → (i < length xs → i ≡ j) → Counted xs ys d i → Counted xs ys d j
+  unfolding distance
+  counted-on d i j l same c = go (ltb i (length xs)) refl
+    where
+      go : (t : Bool) → ltb i (length xs) ≡ t → Counted xs ys d j
+      go true e = subst (Counted xs ys d) (same (ltb-true i (length xs) e)) c
+      go false e =
+          let past : length xs ≤ i = ltb-false i (length xs) e in
+          (omega (arith, c .0), rw (drop-of-length-le xs {i = j} (omega arith)) (add-zero d ∙ counted-all d i past c))
+
+range-step : (b : ℕ) (xs : List ℕ) (i : ℕ) → i < length xs
+    → inRange b (drop i xs) ≡ ltb (getD xs i 0) (2 ^ b) && inRange b (drop (i + 1) xs)
+unfolding inRange all
+range-step b xs i h = rw (add-one, drop-cons xs i 0 h)
+
+pub range-end : (b : ℕ) (t : Bool) (xs : List ℕ) (i : ℕ) → length xs ≤ i → t && inRange b (drop i xs) ≡ t
+unfolding inRange all
+range-end b t xs i h = rw (drop-of-length-le xs h, and-true)
+
+-- together, bit by bit, two numbers are below 2^b just where both are
+or-below : (b x y : ℕ) → ltb (bitOr x y) (2 ^ b) ≡ ltb x (2 ^ b) && ltb y (2 ^ b)
+or-below b x y = go (ltb x (2 ^ b)) (ltb y (2 ^ b)) refl refl
+  where
+    above-l : x ≤ bitOr x y
+    above-l = omega (arith, or-add-and x y, and-le-r x y)
+
+    above-r : y ≤ bitOr x y
+    above-r = omega (arith, or-add-and x y, and-le-l x y)
+
+    go : (s t : Bool) → ltb x (2 ^ b) ≡ s → ltb y (2 ^ b) ≡ t → ltb (bitOr x y) (2 ^ b) ≡ s && t
+    go true true e f = lt-ltb (bitOr x y) (2 ^ b) (or-lt b x y (ltb-true x (2 ^ b) e) (ltb-true y (2 ^ b) f))
+    go true false e f = le-ltb (bitOr x y) (2 ^ b) (le-trans (ltb-false y (2 ^ b) f) above-r)
+    go false t e f = le-ltb (bitOr x y) (2 ^ b) (le-trans (ltb-false x (2 ^ b) e) above-l)
+
+pub range-more : (b bits : ℕ) (xs : List ℕ) (i : ℕ) → i < length xs
+    → ltb (bitOr bits (getD xs i 0)) (2 ^ b) && inRange b (drop (i + 1) xs) ≡ ltb bits (2 ^ b) && inRange b (drop i xs)
+range-more b bits xs i h = rw (or-below b bits (getD xs i 0), range-step b xs i h, and-assoc)
+
+-- a part of symbols in range is in range
+pub part-range : (b a n : ℕ) (xs : List ℕ) → inRange b xs ≡ true → inRange b (take n (drop a xs)) ≡ true
+unfolding inRange
+part-range b a n xs h =
+    let p : ℕ → Bool = λ (x : ℕ). ltb x (2 ^ b) in
+    all-take p n (drop a xs) (all-drop p a xs h)

@@ -1,0 +1,4 @@
+pub mod Settings
+pub mod Table
+pub mod Verdicts
+pub mod Calls

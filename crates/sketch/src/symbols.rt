@@ -1,0 +1,35 @@
+// Symbols: their range, and the distance of two sketches.
+ghost use mathlib.Core.Path.{_≡_};
+ghost use Prim.Native.Nat.{_≤_};
+ghost use lib.ListN.{length};
+ghost use Rattle.meaning.specs.Sketch.{distance, inRange};
+ghost use Rattle.sketch.specs.Settings.{Bits};
+
+// Whether every symbol is below 2^b. Of the symbols together, bit by bit, that is one test.
+pub fn in_range(b: u32, xs: &[u8]) -> bool
+    requires { ⌜ Bits b ⌝ }
+    ensures { λ r. ⌜ r ≡ inRange b (now (xs .entry)) ⌝ }
+{
+    let mut bits: u8 = 0;
+    let mut i = 0;
+    while i < xs.len() {
+        bits |= xs[i];
+        i += 1;
+    }
+    (bits as u32) < 1u32 << b
+}
+
+// The number of places where two sketches differ.
+pub fn distance(xs: &[u8], ys: &[u8]) -> u32
+    requires { ⌜ length (now xs) ≡ length (now ys) ⌝ }
+    requires { ⌜ length (now xs) ≤ 64 ⌝ }
+    ensures { λ r. ⌜ r ≡ distance (now (xs .entry)) (now (ys .entry)) ⌝ }
+{
+    let mut d: u8 = 0;
+    let mut i = 0;
+    while i < xs.len() {
+        d += (xs[i] != ys[i]) as u8;
+        i += 1;
+    }
+    d as u32
+}

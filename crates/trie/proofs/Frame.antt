@@ -1,0 +1,133 @@
+-- What a write keeps. No structure is named here: every operation on the tables goes by these laws.
+use Prim.Native.Nat.{ℕ, _<_, _≤_}
+use mathlib.Core.Path.{_≡_, refl, _∙_, sym}
+use mathlib.Core.List.{List}
+use native.Mathlib.Omega.{arith}
+use borrow.Author.Tests.{eq-eqb, ne-eqb}
+use lib.ListN.{length, set, length-set}
+use lib.Seq.{getD-set-same, getD-set-other}
+use Rattle.meaning.specs.Trie.{nodes}
+use Rattle.trie.specs.Heap.{Cells, hit, nodeClaims, pageClaims, Holds, Heap, nil, node, page, _⊕_}
+use Rattle.trie.specs.Tables.{NodeTable, PageTable}
+
+pub hit-other : {a b : ℕ} → (a ≡ b → ⊥) → hit b a ≡ 0
+unfolding hit
+hit-other {a} {b} e = rw (ne-eqb b a (λ q. e (sym q)))
+
+pub hit-same : {a b : ℕ} → a ≡ b → hit b a ≡ 1
+unfolding hit
+hit-same {a} {b} e = rw (eq-eqb b a (sym e))
+
+-- each claim of the second is one of the first: the same cells in another order, or fewer
+pub record Less (xs ys : Cells) : Type 0 where
+  pub holds : (N P : List ℕ) → Holds xs N P → Holds ys N P
+  pub nodes : (a : ℕ) → nodeClaims ys a ≤ nodeClaims xs a
+  pub pages : (a : ℕ) → pageClaims ys a ≤ pageClaims xs a
+
+pub less : {xs ys : Cells} {N P : List ℕ} → Less xs ys → Heap N P xs → Heap N P ys
+less {N} {P} l h =
+    record {
+      holds = l .holds N P (h .holds);
+      nodes = λ a. omega (arith, l .nodes a, h .nodes a);
+      pages = λ a. omega (arith, l .pages a, h .pages a);
+    }
+
+pub less-right : {xs ys : Cells} (zs : Cells) → Less xs ys → Less (zs ⊕ xs) (zs ⊕ ys)
+less-right zs l =
+    record {
+      holds = λ N P h. (h .0, l .holds N P (h .1));
+      nodes = λ a. omega (arith, l .nodes a);
+      pages = λ a. omega (arith, l .pages a);
+    }
+
+pub less-left : {xs ys : Cells} (zs : Cells) → Less xs ys → Less (xs ⊕ zs) (ys ⊕ zs)
+less-left zs l =
+    record {
+      holds = λ N P h. (l .holds N P (h .0), h .1);
+      nodes = λ a. omega (arith, l .nodes a);
+      pages = λ a. omega (arith, l .pages a);
+    }
+
+pub less-trans : {xs ys zs : Cells} → Less xs ys → Less ys zs → Less xs zs
+less-trans l m =
+    record {
+      holds = λ N P h. m .holds N P (l .holds N P h);
+      nodes = λ a. omega (arith, l .nodes a, m .nodes a);
+      pages = λ a. omega (arith, l .pages a, m .pages a);
+    }
+
+-- the same cells in another order
+pub record Same (xs ys : Cells) : Type 0 where
+  pub to : Less xs ys
+  pub back : Less ys xs
+
+pub same-trans : {xs ys zs : Cells} → Same xs ys → Same ys zs → Same xs zs
+same-trans s r = record { to = less-trans (s .to) (r .to); back = less-trans (r .back) (s .back) }
+
+pub same-right : {xs ys : Cells} (zs : Cells) → Same xs ys → Same (zs ⊕ xs) (zs ⊕ ys)
+same-right zs s = record { to = less-right zs (s .to); back = less-right zs (s .back) }
+
+pub same-left : {xs ys : Cells} (zs : Cells) → Same xs ys → Same (xs ⊕ zs) (ys ⊕ zs)
+same-left zs s = record { to = less-left zs (s .to); back = less-left zs (s .back) }
+
+pub same-assoc : (xs ys zs : Cells) → Same ((xs ⊕ ys) ⊕ zs) (xs ⊕ ys ⊕ zs)
+same-assoc xs ys zs =
+    record {
+      to = record { holds = λ N P h. search; nodes = λ a. omega arith; pages = λ a. omega arith };
+      back = record { holds = λ N P h. search; nodes = λ a. omega arith; pages = λ a. omega arith };
+    }
+
+pub same-swap : (xs ys zs : Cells) → Same (xs ⊕ ys ⊕ zs) (ys ⊕ xs ⊕ zs)
+same-swap xs ys zs =
+    record {
+      to = record { holds = λ N P h. search; nodes = λ a. omega arith; pages = λ a. omega arith };
+      back = record { holds = λ N P h. search; nodes = λ a. omega arith; pages = λ a. omega arith };
+    }
+
+-- cells that do not claim a word stay when it is written
+node-frame : (N P : List ℕ) (a w : ℕ) (r : Cells) → nodeClaims r a ≡ 0 → Holds r N P → Holds r (set N a w) P
+node-frame N P a w nil z h = tt
+node-frame N P a w (node b v) z h = getD-set-other N a b w 0 (λ e. omega (arith, hit-same (sym e))) ∙ h
+node-frame N P a w (page b v) z h = h
+node-frame N P a w (x ⊕ y) z h = (node-frame N P a w x (omega arith) (h .0), node-frame N P a w y (omega arith) (h .1))
+
+page-frame : (N P : List ℕ) (a w : ℕ) (r : Cells) → pageClaims r a ≡ 0 → Holds r N P → Holds r N (set P a w)
+page-frame N P a w nil z h = tt
+page-frame N P a w (node b v) z h = h
+page-frame N P a w (page b v) z h = getD-set-other P a b w 0 (λ e. omega (arith, hit-same (sym e))) ∙ h
+page-frame N P a w (x ⊕ y) z h = (page-frame N P a w x (omega arith) (h .0), page-frame N P a w y (omega arith) (h .1))
+
+-- a word of the node table, or of the page table, written anew
+pub node-write : {N P : List ℕ} {a v : ℕ} {r : Cells} (w : ℕ) → Heap N P (node a v ⊕ r) → a < length N → Heap (set N a w) P (node a w ⊕ r)
+node-write {N} {P} {a} {v} {r} w h l =
+    record {
+      holds = (getD-set-same N a w 0 l, node-frame N P a w r (omega (arith, h .nodes a, hit-same {a = a} refl)) (h .holds .1));
+      nodes = h .nodes;
+      pages = h .pages;
+    }
+
+pub page-write : {N P : List ℕ} {a v : ℕ} {r : Cells} (w : ℕ) → Heap N P (page a v ⊕ r) → a < length P → Heap N (set P a w) (page a w ⊕ r)
+page-write {N} {P} {a} {v} {r} w h l =
+    record {
+      holds = (getD-set-same P a w 0 l, page-frame N P a w r (omega (arith, h .pages a, hit-same {a = a} refl)) (h .holds .1));
+      nodes = h .nodes;
+      pages = h .pages;
+    }
+
+-- three words of the node table, one after the other
+rotate : (x y z r : Cells) → Less (x ⊕ y ⊕ z ⊕ r) (y ⊕ z ⊕ x ⊕ r)
+rotate x y z r = record { holds = λ N P h. search; nodes = λ a. omega arith; pages = λ a. omega arith }
+
+pub node-write3 : {N P : List ℕ} {a b c u v w : ℕ} {r : Cells} (x y z : ℕ) → Heap N P (node a u ⊕ node b v ⊕ node c w ⊕ r) →
+    a < length N → b < length N → c < length N → Heap (set (set (set N a x) b y) c z) P (node a x ⊕ node b y ⊕ node c z ⊕ r)
+node-write3 {a} {b} {c} {v} {w} {r} x y z h la lb lc =
+    let h1 = less (rotate (node a x) (node b v) (node c w) r) (node-write x h la) in
+    let h2 = less (rotate (node b y) (node c w) (node a x) r) (node-write y h1 (simp length-set lb)) in
+    less (rotate (node c z) (node a x) (node b y) r) (node-write z h2 (simp length-set lc))
+
+-- a table keeps its length
+pub nodes-kept : {cap : ℕ} {N N' : List ℕ} → length N' ≡ length N → NodeTable cap N → NodeTable cap N'
+nodes-kept e t = record { long = omega (arith, t .long); small = t .small }
+
+pub pages-kept : {pcap base : ℕ} {P P' : List ℕ} → length P' ≡ length P → PageTable pcap base P → PageTable pcap base P'
+pages-kept e t = record { long = omega (arith, t .long); small = t .small }

@@ -1,0 +1,4 @@
+pub mod Heap
+pub mod Tables
+pub mod Model
+pub mod Phys

@@ -1,0 +1,53 @@
+-- A small trie, computed: the laws' hypotheses can be met. Eight symbols of 2 bits, two bytes, thresholds of one page.
+use Prim.Native.Nat.{ℕ, _/_, _%_}
+use mathlib.Core.Path.{_≡_, refl}
+use mathlib.Core.Bool.{true}
+use mathlib.Core.List.{List, [], _∷_}
+use Rattle.meaning.specs.Lists.{all, from, upto}
+use Rattle.meaning.specs.Sketch.{perByte, symbolsAt, packable}
+use Rattle.meaning.specs.Trie.{Tree, leaf, inner, none, child, fresh, without, push, putLeaf, prune, byteAt, split, remove, addLeaf, insert}
+use Rattle.trie_laws.specs.Sound.{pagesIn, filled, packs, soundTrie}
+use Rattle.trie_laws.specs.Needed.{distinctFrom, distinct, splits, splitNodes, needed, frees}
+use Rattle.trie_laws.specs.Path.{kid, below, subtree, pathOf, depth}
+
+abbrev bytes : ℕ → List ℕ
+bytes p = p % 10 ∷ p / 10 ∷ []
+
+-- pages 12 and 22 have the same first byte, 13 another
+abbrev three : Tree
+three = inner (child 2 (leaf (12 ∷ 22 ∷ [])) (child 3 (leaf (13 ∷ [])) none))
+
+grown : insert bytes 2 (1 ∷ 1 ∷ []) 0 22 (insert bytes 2 (1 ∷ 1 ∷ []) 0 13 fresh) ≡ inner (child 2 (leaf (22 ∷ [])) (child 3 (leaf (13 ∷ [])) none))
+unfolding fresh insert addLeaf split putLeaf push byteAt
+grown = refl
+
+-- sound, its pages packed; one more makes three nodes
+sound : soundTrie bytes 2 8 2 0 three ≡ true
+unfolding soundTrie pagesIn filled all packable symbolsAt perByte byteAt
+sound = refl
+
+packed : all (packs bytes 2 8 2) (32 ∷ pagesIn three) ≡ true
+unfolding packs pagesIn all upto from packable symbolsAt perByte byteAt
+packed = refl
+
+makes : needed bytes 2 (1 ∷ 1 ∷ []) 0 32 three ≡ 3
+unfolding needed splitNodes splits distinct distinctFrom byteAt
+makes = refl
+
+made : insert bytes 2 (1 ∷ 1 ∷ []) 0 32 three ≡
+    inner (child 2 (inner (child 1 (leaf (12 ∷ [])) (child 2 (leaf (22 ∷ [])) (child 3 (leaf (32 ∷ [])) none)))) (child 3 (leaf (13 ∷ [])) none))
+unfolding insert addLeaf split putLeaf push byteAt
+made = refl
+
+-- the path of a page, and its leaf's end
+reached : subtree (pathOf bytes 0 13 (depth bytes 0 13 three)) three ≡ leaf (13 ∷ [])
+unfolding subtree below kid pathOf depth byteAt
+reached = refl
+
+gone : remove bytes 0 13 three ≡ inner (child 2 (leaf (12 ∷ 22 ∷ [])) none)
+unfolding remove prune without byteAt
+gone = refl
+
+freed : frees bytes 0 13 three ≡ true
+unfolding frees filled remove without byteAt
+freed = refl

@@ -1,0 +1,270 @@
+-- Children by their bytes: what is written is read back; and how insertion and removal change one child.
+use Prim.Native.Nat.{ℕ, suc, _+_}
+use native.Mathlib.Omega.{arith}
+use mathlib.Core.Path.{_≡_, refl, sym, ap, _∙_}
+use mathlib.Core.Bool.{Bool, true, false, cond, true≢false, false≢true}
+use mathlib.Core.List.{List, [], _∷_}
+use lib.Dec.{ltb, eqb}
+use borrow.Author.Tests.{eqb-true, le-ltb, eq-eqb}
+use Rattle.meaning.specs.Lists.{count}
+use Rattle.meaning.specs.Trie.{Tree, leaf, inner, Children, none, child, push, putLeaf, prune, byteAt, remove, removeIn, addLeaf, insert, insertIn, nodes, nodesIn}
+use Rattle.trie_laws.specs.Sound.{pagesIn, pagesAmong, filled, soundFrom}
+use Rattle.trie_laws.specs.Needed.{splitNodes, needed, neededIn, frees, freesIn}
+use Rattle.trie_laws.specs.Path.{has, kid, setKid, dropKid, putKid, pruneKid}
+use Rattle.trie_laws.proofs.Lists.{less, same, more, compared, holds, fails, truth, count-append}
+use Rattle.trie_laws.proofs.Sound.{SoundBelow, child-parts}
+
+irreflexive : (b : ℕ) → ltb b b ≡ false
+irreflexive b = le-ltb b b (omega arith)
+
+reflexive : (b : ℕ) → eqb b b ≡ true
+reflexive b = eq-eqb b b refl
+
+-- ---- what is written is read back
+module _ (b : ℕ) (u : Tree) where
+  pub has-set : (cs : Children) → has b (setKid b u cs) ≡ has b cs
+  unfolding has setKid
+  has-set none = refl
+  has-set (child c t cs) = elim (truth (ltb c b)) [
+    | holds e ↦ simp e (has-set cs)
+    | fails e ↦ simp e refl
+  ]
+
+  pub kid-set : (cs : Children) → has b cs ≡ true → kid b (setKid b u cs) ≡ u
+  unfolding has kid setKid
+  kid-set none h = absurd (false≢true h)
+  kid-set (child c t cs) h = elim (truth (ltb c b)) [
+    | holds e ↦ simp e (kid-set cs (rw e at h))
+    | fails e ↦ simp e refl
+  ]
+
+  pub set-set : (v : Tree) (cs : Children) → setKid b u (setKid b v cs) ≡ setKid b u cs
+  unfolding setKid
+  set-set v none = refl
+  set-set v (child c t cs) = elim (truth (ltb c b)) [
+    | holds e ↦ simp e (ap (child c t) (set-set v cs))
+    | fails e ↦ simp e refl
+  ]
+
+  pub drop-set : (cs : Children) → dropKid b (setKid b u cs) ≡ dropKid b cs
+  unfolding setKid dropKid
+  drop-set none = refl
+  drop-set (child c t cs) = elim (truth (ltb c b)) [
+    | holds e ↦ simp e (ap (child c t) (drop-set cs))
+    | fails e ↦ simp e refl
+  ]
+
+  pub has-put : (cs : Children) → has b (putKid b u cs) ≡ true
+  unfolding has putKid
+  has-put none = rw (irreflexive b, reflexive b) refl
+  has-put (child c t cs) = elim (truth (ltb c b)) [
+    | holds e ↦ simp e (has-put cs)
+    | fails e ↦ simp (e, irreflexive b, reflexive b) refl
+  ]
+
+  pub kid-put : (cs : Children) → kid b (putKid b u cs) ≡ u
+  unfolding kid putKid
+  kid-put none = rw (irreflexive b) refl
+  kid-put (child c t cs) = elim (truth (ltb c b)) [
+    | holds e ↦ simp e (kid-put cs)
+    | fails e ↦ simp (e, irreflexive b) refl
+  ]
+
+  pub set-put : (v : Tree) (cs : Children) → setKid b u (putKid b v cs) ≡ putKid b u cs
+  unfolding setKid putKid
+  set-put v none = rw (irreflexive b) refl
+  set-put v (child c t cs) = elim (truth (ltb c b)) [
+    | holds e ↦ simp e (ap (child c t) (set-put v cs))
+    | fails e ↦ simp (e, irreflexive b) refl
+  ]
+
+  pub drop-put : (cs : Children) → dropKid b (putKid b u cs) ≡ cs
+  unfolding dropKid putKid
+  drop-put none = rw (irreflexive b) refl
+  drop-put (child c t cs) = elim (truth (ltb c b)) [
+    | holds e ↦ simp e (ap (child c t) (drop-put cs))
+    | fails e ↦ simp (e, irreflexive b) refl
+  ]
+
+pub set-same : (b : ℕ) (cs : Children) → setKid b (kid b cs) cs ≡ cs
+unfolding kid setKid
+set-same b none = refl
+set-same b (child c t cs) = elim (truth (ltb c b)) [
+  | holds e ↦ simp e (ap (child c t) (set-same b cs))
+  | fails e ↦ simp e refl
+]
+
+-- ---- nodes and pages
+module _ (b : ℕ) (u : Tree) where
+  pub set-nodes : (cs : Children) → has b cs ≡ true → nodesIn (setKid b u cs) + nodes (kid b cs) ≡ nodesIn cs + nodes u
+  unfolding has kid setKid nodes
+  set-nodes none h = absurd (false≢true h)
+  set-nodes (child c t cs) h = elim (truth (ltb c b)) [
+    | holds e ↦ simp e (omega (arith, set-nodes cs (rw e at h)))
+    | fails e ↦ simp e (omega arith)
+  ]
+
+  pub put-nodes : (cs : Children) → nodesIn (putKid b u cs) ≡ nodesIn cs + nodes u
+  unfolding putKid nodes
+  put-nodes none = omega arith
+  put-nodes (child c t cs) = elim (truth (ltb c b)) [
+    | holds e ↦ simp e (omega (arith, put-nodes cs))
+    | fails e ↦ simp e (omega arith)
+  ]
+
+  module _ (q : ℕ → Bool) where
+    pub set-count : (cs : Children) → has b cs ≡ true →
+        count q (pagesAmong (setKid b u cs)) + count q (pagesIn (kid b cs)) ≡ count q (pagesAmong cs) + count q (pagesIn u)
+    unfolding has kid setKid pagesIn
+    set-count none h = absurd (false≢true h)
+    set-count (child c t cs) h = elim (truth (ltb c b)) [
+      | holds e ↦ simp (e, count-append q) (omega (arith, set-count cs (rw e at h)))
+      | fails e ↦ simp (e, count-append q) (omega arith)
+    ]
+
+    pub put-count : (cs : Children) → count q (pagesAmong (putKid b u cs)) ≡ count q (pagesAmong cs) + count q (pagesIn u)
+    unfolding putKid pagesIn
+    put-count none = simp (count-append q) (omega arith)
+    put-count (child c t cs) = elim (truth (ltb c b)) [
+      | holds e ↦ simp (e, count-append q) (omega (arith, put-count cs))
+      | fails e ↦ simp (e, count-append q) (omega arith)
+    ]
+
+module _ (b : ℕ) where
+  pub drop-nodes : (cs : Children) → has b cs ≡ true → nodesIn (dropKid b cs) + nodes (kid b cs) ≡ nodesIn cs
+  unfolding has kid dropKid nodes
+  drop-nodes none h = absurd (false≢true h)
+  drop-nodes (child c t cs) h = elim (truth (ltb c b)) [
+    | holds e ↦ simp e (omega (arith, drop-nodes cs (rw e at h)))
+    | fails e ↦ simp e (omega arith)
+  ]
+
+  pub drop-count : (q : ℕ → Bool) (cs : Children) → has b cs ≡ true →
+      count q (pagesAmong (dropKid b cs)) + count q (pagesIn (kid b cs)) ≡ count q (pagesAmong cs)
+  unfolding has kid dropKid pagesIn
+  drop-count q none h = absurd (false≢true h)
+  drop-count q (child c t cs) h = elim (truth (ltb c b)) [
+    | holds e ↦ simp (e, count-append q) (omega (arith, drop-count q cs (rw e at h)))
+    | fails e ↦ simp (e, count-append q) (omega arith)
+  ]
+
+-- a child of a sound node
+pub kid-sound : (bytesOf : ℕ → List ℕ) (b n len k lo y : ℕ) (cs : Children) → soundFrom bytesOf b n len k lo cs ≡ true → has y cs ≡ true →
+    SoundBelow bytesOf b n len k y (kid y cs)
+unfolding has kid
+kid-sound bytesOf b n len k lo y none h e = absurd (false≢true e)
+kid-sound bytesOf b n len k lo y (child c t cs) h e =
+    let s = child-parts bytesOf b n len k lo c t cs h in
+    elim (truth (ltb c y)) [
+      | holds l ↦ rw l (kid-sound bytesOf b n len k (suc c) y cs (s .rest) (rw l at e))
+      | fails l ↦ rw l (rw (eqb-true c y (rw l at e)) at (s .here))
+    ]
+
+-- ---- insertions and removals change one child
+module _ (b : ℕ) (new : Tree) (f : Tree → Tree) where
+  abbrev alter : Children → Children
+  alter none = child b new none
+  alter (child c t cs) = cond (ltb b c) (child b new (child c t cs)) (cond (eqb b c) (child c (f t) cs) (child c t (alter cs)))
+
+  alter-there : (cs : Children) → has b cs ≡ true → alter cs ≡ setKid b (f (kid b cs)) cs
+  unfolding has kid setKid
+  alter-there none h = absurd (false≢true h)
+  alter-there (child c t cs) h = elim (compared b c) [
+    | less l s ↦ absurd (true≢false (sym h ∙ rw (s .gt, s .qe) refl))
+    | same l s ↦ simp (s .lt, s .gt, s .eq) refl
+    | more l s ↦ simp (s .lt, s .gt, s .eq) (ap (child c t) (alter-there cs (rw (s .gt) at h)))
+  ]
+
+  alter-gap : (cs : Children) → has b cs ≡ false → alter cs ≡ putKid b new cs
+  unfolding has putKid
+  alter-gap none h = refl
+  alter-gap (child c t cs) h = elim (compared b c) [
+    | less l s ↦ simp (s .lt, s .gt) refl
+    | same l s ↦ absurd (true≢false (sym (rw (s .gt, s .qe) refl) ∙ h))
+    | more l s ↦ simp (s .lt, s .gt, s .eq) (ap (child c t) (alter-gap cs (rw (s .gt) at h)))
+  ]
+
+leaf-alter : (b p : ℕ) (cs : Children) → putLeaf b p cs ≡ alter b (leaf (p ∷ [])) (push p) cs
+unfolding putLeaf
+leaf-alter b p none = refl
+leaf-alter b p (child c t cs) = rw (leaf-alter b p cs) refl
+
+pub leaf-there : (b p : ℕ) (cs : Children) → has b cs ≡ true → putLeaf b p cs ≡ setKid b (push p (kid b cs)) cs
+leaf-there b p cs h = leaf-alter b p cs ∙ alter-there b (leaf (p ∷ [])) (push p) cs h
+
+pub leaf-gap : (b p : ℕ) (cs : Children) → has b cs ≡ false → putLeaf b p cs ≡ putKid b (leaf (p ∷ [])) cs
+leaf-gap b p cs h = leaf-alter b p cs ∙ alter-gap b (leaf (p ∷ [])) (push p) cs h
+
+module _ (bytesOf : ℕ → List ℕ) (len : ℕ) (thresholds : List ℕ) (k p : ℕ) where
+  insert-alter : (cs : Children) → insertIn bytesOf len thresholds k p cs ≡ alter (byteAt bytesOf k p) (addLeaf bytesOf len thresholds (suc k) p []) (insert bytesOf len thresholds (suc k) p) cs
+  unfolding insert
+  insert-alter none = refl
+  insert-alter (child c t cs) = rw (insert-alter cs) refl
+
+  pub insert-there : (cs : Children) → has (byteAt bytesOf k p) cs ≡ true →
+      insertIn bytesOf len thresholds k p cs ≡ setKid (byteAt bytesOf k p) (insert bytesOf len thresholds (suc k) p (kid (byteAt bytesOf k p) cs)) cs
+  insert-there cs h = insert-alter cs ∙ alter-there (byteAt bytesOf k p) (addLeaf bytesOf len thresholds (suc k) p []) (insert bytesOf len thresholds (suc k) p) cs h
+
+  pub insert-gap : (cs : Children) → has (byteAt bytesOf k p) cs ≡ false →
+      insertIn bytesOf len thresholds k p cs ≡ putKid (byteAt bytesOf k p) (addLeaf bytesOf len thresholds (suc k) p []) cs
+  insert-gap cs h = insert-alter cs ∙ alter-gap (byteAt bytesOf k p) (addLeaf bytesOf len thresholds (suc k) p []) (insert bytesOf len thresholds (suc k) p) cs h
+
+  pub needed-there : (cs : Children) → has (byteAt bytesOf k p) cs ≡ true →
+      neededIn bytesOf len thresholds k p cs ≡ needed bytesOf len thresholds (suc k) p (kid (byteAt bytesOf k p) cs)
+  unfolding needed has kid
+  needed-there none h = absurd (false≢true h)
+  needed-there (child c t cs) h = elim (compared (byteAt bytesOf k p) c) [
+    | less l s ↦ absurd (true≢false (sym h ∙ rw (s .gt, s .qe) refl))
+    | same l s ↦ rw (s .lt, s .eq, s .gt) refl
+    | more l s ↦ rw (s .lt, s .eq, s .gt) (needed-there cs (rw (s .gt) at h))
+  ]
+
+  pub needed-gap : (cs : Children) → has (byteAt bytesOf k p) cs ≡ false →
+      neededIn bytesOf len thresholds k p cs ≡ suc (splitNodes bytesOf len thresholds (suc k) (p ∷ []))
+  unfolding needed has
+  needed-gap none h = refl
+  needed-gap (child c t cs) h = elim (compared (byteAt bytesOf k p) c) [
+    | less l s ↦ rw (s .lt) refl
+    | same l s ↦ absurd (true≢false (sym (rw (s .gt, s .qe) refl) ∙ h))
+    | more l s ↦ rw (s .lt, s .eq) (needed-gap cs (rw (s .gt) at h))
+  ]
+
+-- a child changed, or gone: the first, or a later one
+prune-here : (y c : ℕ) (t u : Tree) (cs : Children) → ltb c y ≡ false → prune c u cs ≡ pruneKid y u (child c t cs)
+unfolding prune filled pruneKid setKid dropKid
+prune-here y c t (leaf []) cs l = rw l refl
+prune-here y c t (leaf (p ∷ ps)) cs l = rw l refl
+prune-here y c t (inner ds) cs l = rw l refl
+
+prune-behind : (y c : ℕ) (t u : Tree) (cs : Children) → ltb c y ≡ true → child c t (pruneKid y u cs) ≡ pruneKid y u (child c t cs)
+unfolding pruneKid setKid dropKid
+prune-behind y c t u cs l = rw l (go (filled u))
+  where
+    go : (q : Bool) → child c t (cond q (setKid y u cs) (dropKid y cs)) ≡ cond q (child c t (setKid y u cs)) (child c t (dropKid y cs))
+    go true = refl
+    go false = refl
+
+pub remove-there : (bytesOf : ℕ → List ℕ) (k p : ℕ) (cs : Children) → has (byteAt bytesOf k p) cs ≡ true →
+    removeIn bytesOf k p cs ≡ pruneKid (byteAt bytesOf k p) (remove bytesOf (suc k) p (kid (byteAt bytesOf k p) cs)) cs
+unfolding remove has kid
+remove-there bytesOf k p none h = absurd (false≢true h)
+remove-there bytesOf k p (child c t cs) h =
+    let y : ℕ = byteAt bytesOf k p in
+    elim (compared y c) [
+      | less l s ↦ absurd (true≢false (sym h ∙ rw (s .gt, s .qe) refl))
+      | same l s ↦ rw (s .eq, s .gt) (prune-here y c t (remove bytesOf (suc k) p t) cs (s .gt))
+      | more l s ↦
+          rw (s .eq, s .gt)
+          (ap (child c t) (remove-there bytesOf k p cs (rw (s .gt) at h)) ∙ prune-behind y c t (remove bytesOf (suc k) p (kid y cs)) cs (s .gt))
+    ]
+
+pub frees-there : (bytesOf : ℕ → List ℕ) (k p : ℕ) (cs : Children) → has (byteAt bytesOf k p) cs ≡ true →
+    freesIn bytesOf k p cs ≡
+    cond (filled (remove bytesOf (suc k) p (kid (byteAt bytesOf k p) cs))) (frees bytesOf (suc k) p (kid (byteAt bytesOf k p) cs)) true
+unfolding frees has kid
+frees-there bytesOf k p none h = absurd (false≢true h)
+frees-there bytesOf k p (child c t cs) h = elim (compared (byteAt bytesOf k p) c) [
+  | less l s ↦ absurd (true≢false (sym h ∙ rw (s .gt, s .qe) refl))
+  | same l s ↦ rw (s .eq, s .gt) refl
+  | more l s ↦ rw (s .eq, s .gt) (frees-there bytesOf k p cs (rw (s .gt) at h))
+]

@@ -1,0 +1,16 @@
+pub mod Lists
+pub mod Leaf
+pub mod Distinct
+pub mod Nodes
+pub mod Sound
+pub mod Pages
+pub mod Keeps
+pub mod Agree
+pub mod Back
+pub mod Kids
+pub mod Path
+pub mod Reach
+pub mod Walk
+pub mod Forest
+pub mod Block
+pub mod Example

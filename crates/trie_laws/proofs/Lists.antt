@@ -1,0 +1,206 @@
+-- Tests of two parts, the three orders of two bytes, and laws of `all`, `any` and `count` (crate meaning, Lists.antt).
+use Prim.Native.Nat.{ℕ, zero, suc, _+_, _≤_, _<_}
+use native.Mathlib.Omega.{arith}
+use native.Mathlib.Nat.{zero-add}
+use mathlib.Core.Path.{_≡_, refl, sym, ap, _∙_}
+use mathlib.Core.Bool.{Bool, true, false, cond, not, _&&_, _||_, and-assoc, or-assoc, true≢false, false≢true}
+use mathlib.Core.List.{List, [], _∷_, _++_}
+use lib.Dec.{ltb, eqb}
+use borrow.Author.Tests.{ltb-true, ltb-false, eqb-true, eqb-false, lt-ltb, le-ltb, eq-eqb, ne-eqb}
+use Rattle.meaning.specs.Lists.{all, any, count, from, upto}
+
+-- ---- a test of two parts
+pub and-intro : (s t : Bool) → s ≡ true → t ≡ true → s && t ≡ true
+and-intro true t h k = k
+and-intro false t h k = absurd (false≢true h)
+
+pub and-first : (s t : Bool) → s && t ≡ true → s ≡ true
+and-first true t h = refl
+and-first false t h = absurd (false≢true h)
+
+pub and-second : (s t : Bool) → s && t ≡ true → t ≡ true
+and-second true t h = h
+and-second false t h = absurd (false≢true h)
+
+pub or-first : (s t : Bool) → s ≡ true → s || t ≡ true
+or-first true t h = refl
+or-first false t h = absurd (false≢true h)
+
+pub or-second : (s t : Bool) → t ≡ true → s || t ≡ true
+or-second true t h = refl
+or-second false t h = h
+
+pub or-none : (s t : Bool) → s || t ≡ false → (s ≡ false) × (t ≡ false)
+or-none true t h = absurd (true≢false h)
+or-none false t h = (refl, h)
+
+-- ---- a test and what it gives
+pub data Truth (q : Bool) : Type 0 where
+  holds : q ≡ true → Truth q
+  fails : q ≡ false → Truth q
+
+pub truth : (q : Bool) → Truth q
+truth true = holds refl
+truth false = fails refl
+
+pub not-so : (q : Bool) → (q ≡ true → ⊥) → q ≡ false
+not-so true h = absurd (h refl)
+not-so false h = refl
+
+pub eqb-comm : (a b : ℕ) → eqb a b ≡ eqb b a
+eqb-comm a b = elim (truth (eqb a b)) [
+  | holds e ↦ e ∙ sym (eq-eqb b a (sym (eqb-true a b e)))
+  | fails e ↦ e ∙ sym (ne-eqb b a (λ q. eqb-false a b e (sym q)))
+]
+
+-- ---- two bytes: in which of three orders they stand, with what the tests then give
+pub record Tests (b c : ℕ) (below above equal : Bool) : Type 0 where
+  pub lt : ltb b c ≡ below
+  pub gt : ltb c b ≡ above
+  pub eq : eqb b c ≡ equal
+  pub qe : eqb c b ≡ equal
+
+pub data Compared (b c : ℕ) : Type 0 where
+  less : b < c → Tests b c true false false → Compared b c
+  same : b ≡ c → Tests b c false false true → Compared b c
+  more : c < b → Tests b c false true false → Compared b c
+
+pub compared : (b c : ℕ) → Compared b c
+compared b c = go (ltb b c) (eqb b c) refl refl
+  where
+    go : (l e : Bool) → ltb b c ≡ l → eqb b c ≡ e → Compared b c
+    go true e p q =
+        let h : b < c = ltb-true b c p in
+        less h (record { lt = p; gt = le-ltb c b (omega arith); eq = ne-eqb b c (omega arith); qe = ne-eqb c b (omega arith) })
+    go false true p q =
+        let h : b ≡ c = eqb-true b c q in
+        same h (record { lt = p; gt = le-ltb c b (omega arith); eq = q; qe = eq-eqb c b (sym h) })
+    go false false p q =
+        let h : c ≤ b = ltb-false b c p in
+        let n : b ≡ c → ⊥ = eqb-false b c q in
+        more (omega arith) (record { lt = p; gt = lt-ltb c b (omega arith); eq = q; qe = ne-eqb c b (omega arith) })
+
+-- ---- appended lists
+module _ {A : Type 0} (p : A → Bool) where
+  pub all-append : (xs ys : List A) → all p (xs ++ ys) ≡ all p xs && all p ys
+  unfolding all
+  all-append [] ys = refl
+  all-append (x ∷ xs) ys = ap (λ (t : Bool). p x && t) (all-append xs ys) ∙ sym (and-assoc (p x) (all p xs) (all p ys))
+
+  pub any-append : (xs ys : List A) → any p (xs ++ ys) ≡ any p xs || any p ys
+  unfolding any
+  any-append [] ys = refl
+  any-append (x ∷ xs) ys = ap (λ (t : Bool). p x || t) (any-append xs ys) ∙ sym (or-assoc (p x) (any p xs) (any p ys))
+
+  pub count-append : (xs ys : List A) → count p (xs ++ ys) ≡ count p xs + count p ys
+  unfolding count
+  count-append [] ys = omega arith
+  count-append (x ∷ xs) ys = omega (arith, count-append xs ys)
+
+  -- one test by counting
+  pub any-count : (xs : List A) → any p xs ≡ ltb 0 (count p xs)
+  unfolding any count
+  any-count [] = refl
+  any-count (x ∷ xs) = go (p x) (any-count xs)
+    where
+      go : (q : Bool) → any p xs ≡ ltb 0 (count p xs) → q || any p xs ≡ ltb 0 (cond q 1 0 + count p xs)
+      go true h = sym (lt-ltb 0 (1 + count p xs) (omega arith))
+      go false h = rw (zero-add (count p xs)) h
+
+  pub all-count : (xs : List A) → all p xs ≡ eqb (count (λ x. not (p x)) xs) 0
+  unfolding all count
+  all-count [] = refl
+  all-count (x ∷ xs) = go (p x) (all-count xs)
+    where
+      go : (q : Bool) → all p xs ≡ eqb (count (λ x. not (p x)) xs) 0 → q && all p xs ≡ eqb (cond (not q) 1 0 + count (λ x. not (p x)) xs) 0
+      go true h = rw (zero-add (count (λ x. not (p x)) xs)) h
+      go false h = sym (ne-eqb (1 + count (λ x. not (p x)) xs) 0 (omega arith))
+
+  pub count-none : (xs : List A) → ((x : A) → p x ≡ false) → count p xs ≡ 0
+  unfolding count
+  count-none [] e = refl
+  count-none (x ∷ xs) e = rw (e x) (omega (arith, count-none xs e))
+
+  pub any-none : (xs : List A) → any p xs ≡ false → count p xs ≡ 0
+  unfolding any count
+  any-none [] h = refl
+  any-none (x ∷ xs) h =
+      let o = or-none (p x) (any p xs) h in
+      rw (o .0) (omega (arith, any-none xs (o .1)))
+
+  -- what all pass, all pass that asks less
+  pub all-more : (r : A → Bool) (xs : List A) → ((x : A) → p x ≡ true → r x ≡ true) → all p xs ≡ true → all r xs ≡ true
+  unfolding all
+  all-more r [] e h = refl
+  all-more r (x ∷ xs) e h =
+      and-intro (r x) (all r xs) (e x (and-first (p x) (all p xs) h)) (all-more r xs e (and-second (p x) (all p xs) h))
+
+  pub all-both : (r : A → Bool) (xs : List A) → all p xs ≡ true → all r xs ≡ true → all (λ x. p x && r x) xs ≡ true
+  unfolding all
+  all-both r [] h g = refl
+  all-both r (x ∷ xs) h g =
+      rw (and-first (p x) (all p xs) h, and-first (r x) (all r xs) g) (all-both r xs (and-second (p x) (all p xs) h) (and-second (r x) (all r xs) g))
+
+  pub all-true : (xs : List A) → ((x : A) → p x ≡ true) → all p xs ≡ true
+  unfolding all
+  all-true [] e = refl
+  all-true (x ∷ xs) e = rw (e x) (all-true xs e)
+
+  -- where all pass one test, none passes a test that excludes it
+  pub all-any : (r : A → Bool) (xs : List A) → all p xs ≡ true → ((x : A) → p x ≡ true → r x ≡ false) → any r xs ≡ false
+  unfolding all any
+  all-any r [] h e = refl
+  all-any r (x ∷ xs) h e = rw (e x (and-first (p x) (all p xs) h)) (all-any r xs (and-second (p x) (all p xs) h) e)
+
+-- what holds of each member holds of all
+pub each-all : (q : ℕ → Bool) (xs : List ℕ) → ((x : ℕ) → any (eqb x) xs ≡ true → q x ≡ true) → all q xs ≡ true
+unfolding all any
+each-all q [] h = refl
+each-all q (x ∷ xs) h =
+    and-intro (q x) (all q xs) (h x (or-first (eqb x x) (any (eqb x) xs) (eq-eqb x x refl)))
+    (each-all q xs (λ y m. h y (or-second (eqb y x) (any (eqb y) xs) m)))
+
+-- and the other way round
+pub all-each : (q : ℕ → Bool) (xs : List ℕ) → all q xs ≡ true → (x : ℕ) → any (eqb x) xs ≡ true → q x ≡ true
+unfolding all any
+all-each q [] h x m = absurd (false≢true m)
+all-each q (y ∷ ys) h x m = elim (truth (eqb x y)) [
+  | holds e ↦ rw (eqb-true x y e) (and-first (q y) (all q ys) h)
+  | fails e ↦ all-each q ys (and-second (q y) (all q ys) h) x (rw e at m)
+]
+
+-- two tests that are the same on each member
+pub all-agree : (q r : ℕ → Bool) (xs : List ℕ) → ((x : ℕ) → any (eqb x) xs ≡ true → q x ≡ r x) → all q xs ≡ all r xs
+unfolding all any
+all-agree q r [] h = refl
+all-agree q r (x ∷ xs) h =
+    rw (h x (or-first (eqb x x) (any (eqb x) xs) (eq-eqb x x refl)), all-agree q r xs (λ y m. h y (or-second (eqb y x) (any (eqb y) xs) m))) refl
+
+-- every number below n passes
+all-from : (q : ℕ → Bool) (j n : ℕ) → all q (from j n) ≡ true → (i : ℕ) → j ≤ i → i < j + n → q i ≡ true
+unfolding all from
+all-from q j zero h i l u = absurd (omega arith)
+all-from q j (suc n) h i l u = elim (compared j i) [
+  | less m s ↦ all-from q (suc j) n (and-second (q j) (all q (from (suc j) n)) h) i m (omega arith)
+  | same m s ↦ rw (← m) (and-first (q j) (all q (from (suc j) n)) h)
+  | more m s ↦ absurd (omega arith)
+]
+
+pub upto-all : (q : ℕ → Bool) (n : ℕ) → all q (upto n) ≡ true → (i : ℕ) → i < n → q i ≡ true
+unfolding upto
+upto-all q n h i l = all-from q 0 n h i (omega arith) (omega arith)
+
+-- at most n numbers below n pass
+count-from : (f : ℕ → Bool) (j m : ℕ) → count f (from j m) ≤ m
+unfolding count from
+count-from f j zero = omega arith
+count-from f j (suc m) =
+    let h : count f (from (suc j) m) ≤ m = count-from f (suc j) m in
+    elim (truth (f j)) [
+      | holds e ↦ rw e (omega arith)
+      | fails e ↦ rw e (omega arith)
+    ]
+
+pub count-upto : (f : ℕ → Bool) (n : ℕ) → count f (upto n) ≤ n
+unfolding upto
+count-upto f n = count-from f 0 n

@@ -1,0 +1,5 @@
+pub mod Sound
+pub mod Needed
+pub mod Path
+pub mod Block
+pub mod Walk

@@ -1,0 +1,41 @@
+-- The steps of `markLeaf`, by what a turn's tests say.
+use Prim.Native.Nat.{ℕ, zero, suc, _+_, _-_, _<_, _≤_}
+use native.Mathlib.Omega.{arith}
+use mathlib.Core.Path.{_≡_, refl, ap, _∙_}
+use mathlib.Core.List.{List}
+use lib.ListN.{getD, length, length-set}
+use borrow.Author.Tests.{le-ltb, lt-ltb, eq-eqb, ne-eqb}
+use Rattle.words.specs.Bits.{withFlag}
+use Rattle.walk.specs.declared.mark.Left.the-variants.{Some, Broken}
+use Rattle.walk.specs.Mark.{Marks, marks, marked, markLeaf}
+
+pub marked-length : (map : List ℕ) (words p : ℕ) → length (marked map words p) ≡ length map
+unfolding marked withFlag
+marked-length map words p = simp length-set
+
+pub suc-pred : (f : ℕ) → 0 < f → f ≡ suc (f - 1)
+suc-pred f h = omega arith
+
+module _ (pages : List ℕ) (words cap next : ℕ) (map : List ℕ) where
+  pub leaf-end : (link f : ℕ) → link ≡ 0 → markLeaf pages words cap next map link f ≡ marks map (Some f)
+  unfolding markLeaf
+  leaf-end link zero e = rw (eq-eqb link 0 e)
+  leaf-end link (suc f) e = rw (eq-eqb link 0 e)
+
+  pub leaf-spent : (link f : ℕ) → 0 < link → f ≡ 0 → markLeaf pages words cap next map link f ≡ marks map Broken
+  unfolding markLeaf
+  leaf-spent link zero n e = rw (ne-eqb link 0 (omega arith))
+  leaf-spent link (suc f) n e = absurd (omega arith)
+
+  pub leaf-outside : (link f : ℕ) → cap < link → markLeaf pages words cap next map link f ≡ marks map Broken
+  unfolding markLeaf
+  leaf-outside link zero o = rw (ne-eqb link 0 (omega arith))
+  leaf-outside link (suc f) o = rw (ne-eqb link 0 (omega arith), lt-ltb cap link o)
+
+  pub leaf-next : (after : List ℕ) (link f : ℕ) → 0 < link → 0 < f → link ≤ cap → after ≡ marked map words (link - 1)
+      → markLeaf pages words cap next map link f ≡ markLeaf pages words cap next after (getD pages (next + (link - 1)) 0) (f - 1)
+  unfolding markLeaf
+  leaf-next after link f n m l e =
+      rw e
+      (ap (markLeaf pages words cap next map link) (suc-pred f m)
+      ∙ rw (ne-eqb link 0 (omega arith), le-ltb cap link l) refl)
