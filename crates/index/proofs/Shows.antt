@@ -101,17 +101,24 @@ module _ (ws pages sketches : List ℕ) (r p : ℕ) where
         row-8 hp = refused-place T r p 8 (by-header ∙ rw (long, lt-ltb r 256 hr, le-ltb p (h .pages) hp)) (omega arith)
 
         module _ (hp : p < h .pages) where
-          pub row-9 : isLive pages p && opens ws r (classOf pages (h .pages) p) ≡ false → noRow 9 ≡ placeOf T r p
+          pub row-missing : isLive pages p ≡ false → noRow 9 ≡ placeOf T r p
           unfolding from6
-          row-9 seen =
-              refused-place T r p 9 (by-header ∙ rw (long, lt-ltb r 256 hr, lt-ltb p (h .pages) hp, seen)) (omega arith)
+          row-missing live =
+              refused-place T r p 9 (by-header ∙ rw (long, lt-ltb r 256 hr, lt-ltb p (h .pages) hp, live)) (omega arith)
 
-          pub row-shown : isLive pages p && opens ws r (classOf pages (h .pages) p) ≡ true
-              → record { number = 0; start = p * h .m; length = h .m } ≡ placeOf T r p
-          unfolding from6
-          row-shown seen =
-              shown-place T r p (h .m) (ap (λ g. g .m) (shown ws h e .header))
-              (by-header ∙ rw (long, lt-ltb r 256 hr, lt-ltb p (h .pages) hp, seen))
+          module _ (live : isLive pages p ≡ true) (class : ℕ) (of-page : class ≡ classOf pages (h .pages) p) where
+            pub row-closed : opens ws r class ≡ false → noRow 9 ≡ placeOf T r p
+            unfolding from6
+            row-closed shut =
+                refused-place T r p 9
+                (by-header ∙ rw (long, lt-ltb r 256 hr, lt-ltb p (h .pages) hp, live, ← of-page, shut))
+                (omega arith)
+
+            pub row-shown : opens ws r class ≡ true → record { number = 0; start = p * h .m; length = h .m } ≡ placeOf T r p
+            unfolding from6
+            row-shown granted =
+                shown-place T r p (h .m) (ap (λ g. g .m) (shown ws h e .header))
+                (by-header ∙ rw (long, lt-ltb r 256 hr, lt-ltb p (h .pages) hp, live, ← of-page, granted))
 
   -- ---- the part with that place
   place-shown : number T [] (show r p) ≡ 0 → p * given T .symbols + given T .symbols ≤ length sketches

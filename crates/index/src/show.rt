@@ -1,13 +1,9 @@
 // Show, for a reader: the page's row of the sketch table itself, or the number of the question that refuses it.
 ghost use mathlib.Core.Path.{_≡_};
-ghost use mathlib.Core.Bool.{_&&_};
 ghost use mathlib.Core.List.{[]};
-ghost use Prim.Native.Nat.{_+_, _≤_, _<_};
+ghost use Prim.Native.Nat.{_+_};
 ghost use lib.ListN.{length};
 ghost use Rattle.meaning.specs.Ledger.{show};
-ghost use Rattle.layout.specs.Settings.{settingsLength};
-ghost use Rattle.layout.specs.Pages.{isLive, classOf};
-ghost use Rattle.rights.specs.Register.{opens};
 ghost use Rattle.promises.specs.Tables.{showTables};
 ghost use Rattle.promises.specs.Answers.{number};
 ghost use Rattle.promises.specs.Calls.{startShown, rowShown};
@@ -34,18 +30,6 @@ fn refused(number: u32) -> Place
     }
 }
 
-// 9: is the page live, and its class open to the reader? Of a table of cap pages.
-fn is_shown(settings: &[u32], pages: &[u32], cap: usize, reader: usize, page: usize) -> bool
-    requires { ⌜ (settingsLength ≤ length (now settings)) × (reader < 256) ⌝ }
-    requires { ⌜ cap + page < length (now pages) ⌝ }
-    ensures { λ r. ⌜ r ≡ isLive (now (pages .entry)) page && opens (now (settings .entry)) reader (classOf (now (pages .entry)) cap page) ⌝ }
-{
-    if !layout::pages::is_live(pages, page) {
-        return false;
-    }
-    rights::is_open_to(settings, reader, layout::pages::class_of(pages, cap, page))
-}
-
 // Where the page's row stands.
 pub fn find_row(settings: &[u32], pages: &[u32], sketches: &[u8], reader: u32, page: u32) -> Place
     ensures { λ r. ⌜ r ≡ placeOf (showTables (now (settings .entry)) (now (pages .entry)) (now (sketches .entry))) reader page ⌝ }
@@ -61,11 +45,16 @@ pub fn find_row(settings: &[u32], pages: &[u32], sketches: &[u8], reader: u32, p
         return refused(7);
     }
     let cap = h.pages;
-    if cap <= page as usize {
+    let p = page as usize;
+    if cap <= p {
         return refused(8);
     }
-    if !is_shown(settings, pages, cap, reader as usize, page as usize) {
-        return refused(9);
+    if !layout::pages::is_live(pages, p) {
+        return refused(9); // no such page
+    }
+    let class = layout::pages::class_of(pages, cap, p);
+    if !rights::is_open_to(settings, reader as usize, class) {
+        return refused(9); // closed to the reader
     }
     let m = h.m as u32;
     Place {

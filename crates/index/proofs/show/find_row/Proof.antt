@@ -1,15 +1,15 @@
 -- `find_row` is `placeOf`.
+use Prim.Native.Nat.{_+_, _<_}
 use native.Mathlib.Omega.{arith}
 use mathlib.Core.Path.{_≡_, sym, _∙_}
-use mathlib.Core.Bool.{Bool, true, _&&_}
+use mathlib.Core.Bool.{true}
 use borrow.Author.Needs.{needs}
+use lib.ListN.{length}
 use Rattle.layout.specs.declared.Opening.the-variants.{Shown}
 use Rattle.layout.specs.Header.{openingOf}
-use Rattle.layout.specs.Pages.{isLive, classOf}
 use Rattle.layout.proofs.Openings.{shown}
-use Rattle.rights.specs.Register.{opens}
 use Rattle.index.proofs.Questions.{fails, holds}
-use Rattle.index.proofs.Shows.{longFor6, row-refused, row-6, row-7, row-8, class-inside, start-fits, row-9, row-shown}
+use Rattle.index.proofs.Shows.{longFor6, row-refused, row-6, row-7, row-8, class-inside, start-fits, row-missing, row-closed, row-shown}
 use Rattle.index.proofs.show.find_row.Statement.{statement}
 use Rattle.index.proofs.show.find_row.Tie as tie
 
@@ -36,13 +36,6 @@ entry k = k .before .before .before .before .before .before .before
 
 shows : (k : tie.After-known-told2) → openingOf (entry k .args .settings .now) ≡ Shown (k .before .h .given .0 .0)
 shows k = sym (k .before .before .before .opening .ensures) ∙ k .before .h .given .1
-
--- 9
-abbrev seen : tie.After-known-told2 → Bool
-seen k =
-    let a = entry k .args in
-    let P = k .before .h .given .0 .0 .pages in
-    isLive (a .pages .now) (a .page) && opens (a .settings .now) (a .reader) (classOf (a .pages .now) P (a .page))
 
 long-pages-requires : tie.Need-long-pages-requires
 long-pages-requires c κs = shown _ _ (shows c) .limits
@@ -78,39 +71,62 @@ returns-4 c =
     c .refused4 .ensures
     ∙ row-8 _ _ _ _ _ _ (shows (t .before .before)) (long t) (c .before .before .if2 .left) (c .before .if3 .taken)
 
-is-shown-requires : tie.Need-is-shown-requires
-is-shown-requires c κs =
-    let t = c .before .before in
-    let args = entry (t .before .before) .args in (
-      (shown _ _ (shows (t .before .before)) .long, c .before .if2 .left),
-      class-inside _ _ (c .if3 .left) (args .pages .now) (args .sketches .now) (long t),
-    )
+-- the page stands in the table
+inside : (c : tie.Else3) → let k = c .before .before .before .before in k .before .h .given .0 .0 .pages + entry k .args .page < length (entry k .args .pages .now)
+inside c =
+    let a = entry (c .before .before .before .before) .args in
+    class-inside _ _ (c .if3 .left) (a .pages .now) (a .sketches .now) (long (c .before .before))
+
+is-live-requires : tie.Need-is-live-requires
+is-live-requires c κs = omega (arith, inside c)
 
 refused-requires-5 : tie.Need-refused-requires-5
 refused-requires-5 c κs = search needs
 
 returns-5 : tie.Need-returns-5
 returns-5 c =
-    let s = c .before .before in
-    let u = s .before .before in
+    let t = c .before .before .before in
     c .refused5 .ensures
-    ∙ row-9 _ _ _ _ _ _ (shows (u .before .before .before)) (long (u .before)) (u .if2 .left) (s .before .if3 .left)
-    (fails {t = seen (u .before .before .before)} (s .is-shown .ensures) (c .before .if4 .taken))
+    ∙ row-missing _ _ _ _ _ _ (shows (t .before .before .before .before)) (long (t .before .before)) (t .before .if2 .left) (t .if3 .left)
+    (fails (c .before .before .is-live .ensures) (c .before .if4 .taken))
 
-cast-m : tie.Need-cast-m
-cast-m c = omega (arith, shown _ _ (shows (c .before .before .before .before .before .before .before)) .limits)
+class-of-requires : tie.Need-class-of-requires
+class-of-requires c κs = inside (c .before .before)
 
-mul-t17 : tie.Need-mul-t17
-mul-t17 c =
-    let u = c .before .before .before in
-    record { fits = start-fits _ _ (u .if3 .left) (shown _ _ (shows (u .before .before .before .before)) .limits) }
+is-open-to-requires : tie.Need-is-open-to-requires
+is-open-to-requires c κs = (shown _ _ (shows (c .before .before .before .before .before .before .before)) .long, c .before .before .before .before .if2 .left)
+
+refused-requires-6 : tie.Need-refused-requires-6
+refused-requires-6 c κs = search needs
 
 returns-6 : tie.Need-returns-6
 returns-6 c =
-    let s = c .before .before in
-    let u = s .before .before in
-    row-shown _ _ _ _ _ _ (shows (u .before .before .before)) (long (u .before)) (u .if2 .left) (s .before .if3 .left)
-    (holds {t = seen (u .before .before .before)} (s .is-shown .ensures) (c .before .if4 .left))
+    let l = c .before .before .before .before in
+    let t = l .before .before in
+    c .refused6 .ensures
+    ∙ row-closed _ _ _ _ _ _ (shows (t .before .before .before .before)) (long (t .before .before)) (t .before .if2 .left) (t .if3 .left)
+    (holds (l .before .is-live .ensures) (l .if4 .left))
+    _
+    (c .before .before .before .class-of .ensures)
+    (fails (c .before .before .is-open-to .ensures) (c .before .if5 .taken))
+
+cast-m : tie.Need-cast-m
+cast-m c = omega (arith, shown _ _ (shows (c .before .before .before .before .before .before .before .before .before .before)) .limits)
+
+mul-t18 : tie.Need-mul-t18
+mul-t18 c =
+    let t = c .before .before .before .before .before .before in
+    record { fits = start-fits _ _ (t .if3 .left) (shown _ _ (shows (t .before .before .before .before)) .limits) }
+
+returns-7 : tie.Need-returns-7
+returns-7 c =
+    let l = c .before .before .before .before in
+    let t = l .before .before in
+    row-shown _ _ _ _ _ _ (shows (t .before .before .before .before)) (long (t .before .before)) (t .before .if2 .left) (t .if3 .left)
+    (holds (l .before .is-live .ensures) (l .if4 .left))
+    _
+    (c .before .before .before .class-of .ensures)
+    (holds (c .before .before .is-open-to .ensures) (c .before .if5 .left))
 
 pub find-row-spec : {M : Type 1} → statement M
 find-row-spec =
@@ -128,9 +144,13 @@ find-row-spec =
     returns-3
     refused-requires-4
     returns-4
-    is-shown-requires
+    is-live-requires
     refused-requires-5
     returns-5
+    class-of-requires
+    is-open-to-requires
+    refused-requires-6
+    returns-6
     cast-m
-    mul-t17
-    returns-6)
+    mul-t18
+    returns-7)
