@@ -3,8 +3,9 @@ pub mod Words
 pub mod Next
 pub mod Changed
 pub mod Pages
-pub mod Listed
+pub mod Written
 pub mod Pass
+pub mod Listed
 pub mod Keep
 pub mod Write
 pub mod Summary

@@ -1,17 +1,15 @@
--- The marked pages that pass a test, rising: word by word, and as they are written to a table.
-use mathlib.Core.Path.{_≡_, refl, sym, ap, _∙_}
+-- The marked pages that pass a test, rising: word by word, and as a list kept.
+use mathlib.Core.Path.{_≡_, refl, sym, _∙_}
 use mathlib.Core.Bool.{Bool, true, false, cond}
 use mathlib.Core.Logic.{_≢_}
-use mathlib.Core.List.{List, [], _∷_, _++_, append-assoc, append-nil}
+use mathlib.Core.List.{List, [], _∷_, _++_, append-nil}
 use Prim.Native.Nat.{ℕ, zero, suc, _+_, _-_, _*_, _/_, _%_, _^_, _≤_, _<_}
 use native.Mathlib.Nat.{add-zero, add-suc, zero-add}
-use native.Mathlib.Numerals.{add-one}
 use native.Mathlib.Omega.{arith}
-use lib.ListN.{length, getD, set, take, drop, length-append, length-map, length-drop, drop-of-length-le}
-use lib.Seq.{take-append-seam, drop-append-seam, drop-drop, drop-cons, take-length, take-all, paste, paste-zero, paste-suc, length-paste}
-use Rattle.meaning.specs.Lists.{onto, keep, from}
+use lib.ListN.{length, getD, length-append, length-map}
+use Rattle.meaning.specs.Lists.{keep, from}
 use Rattle.words.specs.Bits.{bit, withBit, rising, bitsOf, lowest, ones, flag}
-use Rattle.words.proofs.Bits.{bit-zero, bits-step, bits-of-zero, ones-bits, cut-lt}
+use Rattle.words.proofs.Bits.{bit-zero, bits-step, bits-of-zero, ones-bits}
 use Rattle.words.proofs.Rising.{rising-add, rising-map}
 use Rattle.hits.specs.Marks.{pagesOf, Summarised, nextWord}
 use Rattle.hits.proofs.Next.{Next, next-word}
@@ -68,69 +66,6 @@ module _ (q : ℕ → Bool) where
       empty x p l u =
           let z : getD marks (0 + p / 32) 0 ≡ 0 = rw zero-add (s .skipped (p / 32) (omega (arith, x .most)) (x .out (p / 32) (omega arith) (omega arith) (omega (arith, x .most)))) in
           rw z (bit-zero (p % 32))
-
--- ---- written to a table
-
-pub length-onto : (xs table : List ℕ) → length xs ≤ length table → length (onto xs table) ≡ length table
-unfolding onto
-length-onto xs table h = omega (arith, length-append xs (drop (length xs) table), length-drop (length xs) table)
-
-onto-append : (xs ys table : List ℕ) → take (length xs) (onto xs table) ++ onto ys (drop (length xs) (onto xs table)) ≡ onto (xs ++ ys) table
-unfolding onto
-onto-append xs ys table =
-    rw (take-append-seam xs (drop (length xs) table), drop-append-seam xs (drop (length xs) table), drop-drop (length ys) (length xs) table, length-append xs ys, append-assoc xs ys (drop (length xs + length ys) table))
-
--- more of them, to the part of the table from n on
-pub onto-part : (xs ys table₀ table part : List ℕ) (n : ℕ) → table ≡ onto xs table₀ → n ≡ length xs
-    → part ≡ onto ys (take (length table - n) (drop n table)) → take n table ++ (part ++ drop (length table - n) (drop n table)) ≡ onto (xs ++ ys) table₀
-onto-part xs ys table₀ table part n e f g =
-    let all : length (drop n table) ≤ length table - n = omega (arith, length-drop n table) in
-    rw (g, take-all (length table - n) (drop n table) all, drop-of-length-le (drop n table) all, append-nil (onto ys (drop n table)), e, f)
-    (onto-append xs ys table₀)
-
--- the pages of a word in the first n places, where those of the bits that are left are still to come
-pub record Written (first word : ℕ) (table₀ table : List ℕ) (left n : ℕ) : Type 0 where
-  pub left-fits : left < 2 ^ 32
-  pub count : n + length (pagesOf first left) ≡ length (pagesOf first word)
-  pub rest : drop n (pagesOf first word) ≡ pagesOf first left
-  pub holds : table ≡ paste table₀ 0 (pagesOf first word) n
-
-module _ (first word : ℕ) (table₀ : List ℕ) (room : length (pagesOf first word) ≤ length table₀) where
-  pub written-none : word < 2 ^ 32 → Written first word table₀ table₀ word 0
-  written-none fits = record { left-fits = fits; count = zero-add (length (pagesOf first word)); rest = refl; holds = paste-zero table₀ 0 (pagesOf first word) }
-
-  pub written-more : (table : List ℕ) (left n : ℕ) → left ≢ 0 → Written first word table₀ table left n
-      → Written first word table₀ (set table n (first + lowest left)) (withBit left (lowest left) false) (n + 1)
-  written-more table left n some w =
-      let step : pagesOf first left ≡ (first + lowest left) ∷ pagesOf first (withBit left (lowest left) false) = pages-step first left some (w .left-fits) in
-      let more : length (pagesOf first left) ≡ suc (length (pagesOf first (withBit left (lowest left) false))) = ap length step in
-      let inside : n < length (pagesOf first word) = omega (arith, w .count) in
-      let split : getD (pagesOf first word) n 0 ∷ drop (suc n) (pagesOf first word) ≡ (first + lowest left) ∷ pagesOf first (withBit left (lowest left) false)
-      = sym (drop-cons (pagesOf first word) n 0 inside) ∙ w .rest ∙ step in
-      let here : first + lowest left ≡ getD (pagesOf first word) n 0 = cc in
-      record {
-        left-fits = omega (arith, cut-lt left some (w .left-fits), w .left-fits);
-        count = omega (arith, w .count);
-        rest = rw add-one (cc);
-        holds =
-            let place : n ≡ 0 + n = omega arith in
-            rw (w .holds, here, add-one n)
-            (ap (λ k. set (paste table₀ 0 (pagesOf first word) n) k (getD (pagesOf first word) n 0)) place ∙ paste-suc table₀ 0 (pagesOf first word) n 0 (omega arith) inside);
-      }
-
-  module _ (table : List ℕ) (left n : ℕ) (w : Written first word table₀ table left n) where
-    pub written-long : length table ≡ length table₀
-    written-long = rw (w .holds) (length-paste table₀ 0 (pagesOf first word) n (omega (arith, w .count)) (omega (arith, w .count)))
-
-    pub written-inside : left ≢ 0 → n < length table
-    written-inside some = omega (arith, w .count, written-long, ap length (pages-step first left some (w .left-fits)))
-
-    pub written-count : left ≡ 0 → n ≡ length (pagesOf first word)
-    written-count e = omega (arith, w .count, ap length (rw (← e) at (pages-none first)))
-
-    pub written-all : left ≡ 0 → table ≡ onto (pagesOf first word) table₀
-    unfolding onto
-    written-all e = w .holds ∙ rw (written-count e, take-length (pagesOf first word), zero-add (length (pagesOf first word)))
 
 -- ---- as a list kept
 

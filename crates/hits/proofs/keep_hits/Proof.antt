@@ -1,8 +1,8 @@
 -- `keep_hits` leaves `keptMap`. The loop's invariant: of the pages before word i, n stay.
-use borrow.Author.Needs.{needs}
 use Prim.Native.Nat.{_-_, _≤_}
 use native.Mathlib.Omega.{arith}
 use lib.Count
+use borrow.Author.Needs.{needs}
 use Rattle.hits.specs.Hit.{test, isHit}
 use Rattle.hits.proofs.Words.{kept-lt}
 use Rattle.hits.proofs.Next.{next-after}

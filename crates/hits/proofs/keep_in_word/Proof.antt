@@ -1,7 +1,7 @@
 -- `keep_in_word` is `keptWord`. The loop's invariant: what is kept, with the hits among the bits that are left, is what is to be kept.
 -- The measure is the word of the bits that are left.
-use borrow.Author.Needs.{needs}
 use Prim.Native.Nat.{_<_}
+use borrow.Author.Needs.{needs}
 use Rattle.words.proofs.Bits.{lowest-lt, cut-lt}
 use Rattle.hits.specs.Hit.{test, isHit}
 use Rattle.hits.proofs.Words.{Found, found-none, found-more, found-all}

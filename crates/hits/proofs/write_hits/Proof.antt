@@ -1,10 +1,9 @@
 -- `write_hits` writes `listOf` and clears both maps. The loop's invariant: the pages before word i are written.
-use native.Mathlib.Omega.{arith}
-use borrow.Author.Needs.{needs}
 use mathlib.Core.Path.{_∙_}
 use Prim.Native.Nat.{_-_, _*_, _≤_, _<_}
 use native.Mathlib.Omega.{arith}
 use lib.ListN.{length, getD}
+use borrow.Author.Needs.{needs}
 use Rattle.words.proofs.Bits.{ones-le}
 use Rattle.hits.proofs.Next.{next-after}
 use Rattle.hits.proofs.Pages.{pages-ones}
