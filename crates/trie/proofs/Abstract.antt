@@ -1,10 +1,12 @@
 -- The functions on the abstract trie go down by a page's bytes: at a node they pass over the children with lower bytes.
-use Prim.Native.Nat.{ℕ, suc, _<_}
+use Prim.Native.Nat.{ℕ, suc, _+_, _<_, _≤_}
 use mathlib.Core.Path.{_≡_, refl, _∙_, sym}
 use mathlib.Core.List.{List, [], _∷_}
+use mathlib.Core.Bool.{Bool, true, false, cond}
 use native.Mathlib.Omega.{arith}
 use borrow.Author.Tests.{le-ltb, lt-ltb, eq-eqb, ne-eqb}
-use Rattle.meaning.specs.Trie.{Tree, leaf, inner, Children, none, child, byteAt, push, putLeaf, prune, insert, insertIn, remove, removeIn}
+use lib.Dec.{ltb, eqb}
+use Rattle.meaning.specs.Trie.{Tree, leaf, inner, Children, none, child, byteAt, push, putLeaf, prune, split, insert, insertIn, remove, removeIn, nodes, nodesIn}
 
 -- a function on children that passes over bytes below b
 abbrev pub Skips : ℕ → (Children → Children) → Type 0
@@ -30,6 +32,16 @@ Leaves (child c (inner ds) cs) = ⊥
 pub leaves-next : (c : ℕ) (t : Tree) (cs : Children) → Leaves (child c t cs) → Leaves cs
 leaves-next c (leaf ps) cs z = z
 leaves-next c (inner ds) cs z = absurd z
+
+-- inner nodes have levels below len
+abbrev mutual
+  pub Shallow : Tree → ℕ → ℕ → Type 0
+  Shallow (leaf ps) len k = Unit {0}
+  Shallow (inner cs) len k = (k < len) × ShallowIn cs len (suc k)
+
+  pub ShallowIn : Children → ℕ → ℕ → Type 0
+  ShallowIn none len k = Unit {0}
+  ShallowIn (child c t cs) len k = Shallow t len k × ShallowIn cs len k
 
 -- at level k a node's function works on the child of byte k
 pub record Walks (byte : ℕ → ℕ) (F : ℕ → Tree → Tree) : Type 0 where
@@ -92,3 +104,36 @@ module _ (bytesOf : ℕ → List ℕ) (p : ℕ) where
         skips = λ k c t cs l. rw (ne-eqb (byteAt bytesOf k p) c (omega arith)) refl;
         here = λ k t cs z. rw (eq-eqb (byteAt bytesOf k p) (byteAt bytesOf k p) refl) (prune-kept (byteAt bytesOf k p) (remove bytesOf (suc k) p t) cs z);
       }
+
+-- putting pages in keeps leaves leaves, and takes no node away
+pub leaves-put : (b p : ℕ) (cs : Children) → Leaves cs → Leaves (putLeaf b p cs)
+unfolding putLeaf push
+leaves-put b p none h = tt
+leaves-put b p (child c (inner ds) cs) h = absurd h
+leaves-put b p (child c (leaf ps) cs) h = go (leaves-put b p cs h) (ltb b c) (eqb b c)
+  where
+    go : Leaves (putLeaf b p cs) → (q r : Bool) → Leaves (cond q (child b (leaf (p ∷ [])) (child c (leaf ps) cs)) (cond r (child c (push p (leaf ps)) cs) (child c (leaf ps) (putLeaf b p cs))))
+    go more true r = h
+    go more false true = h
+    go more false false = more
+
+push-nodes : (p : ℕ) (t : Tree) → nodes (push p t) ≡ nodes t
+unfolding push nodes
+push-nodes p (leaf ps) = refl
+push-nodes p (inner cs) = refl
+
+pub put-grows : (b p : ℕ) (cs : Children) → nodesIn cs ≤ nodesIn (putLeaf b p cs)
+unfolding putLeaf nodes
+put-grows b p none = omega arith
+put-grows b p (child c t cs) = go (put-grows b p cs) (ltb b c) (eqb b c)
+  where
+    go : nodesIn cs ≤ nodesIn (putLeaf b p cs) → (q r : Bool) →
+        nodes t + nodesIn cs ≤ nodesIn (cond q (child b (leaf (p ∷ [])) (child c t cs)) (cond r (child c (push p t) cs) (child c t (putLeaf b p cs))))
+    go more true r = omega arith
+    go more false true = omega (arith, push-nodes p t)
+    go more false false = omega arith
+
+pub split-grows : (bytesOf : ℕ → List ℕ) (k : ℕ) (ps : List ℕ) (cs : Children) → nodesIn cs ≤ nodesIn (split bytesOf k ps cs)
+unfolding split
+split-grows bytesOf k [] cs = omega arith
+split-grows bytesOf k (p ∷ ps) cs = omega (arith, put-grows (byteAt bytesOf k p) p cs, split-grows bytesOf k ps (putLeaf (byteAt bytesOf k p) p cs))

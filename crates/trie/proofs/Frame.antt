@@ -3,14 +3,18 @@ use Prim.Native.Nat.{ℕ, _<_, _≤_}
 use mathlib.Core.Path.{_≡_, refl, _∙_, sym}
 use mathlib.Core.List.{List}
 use native.Mathlib.Omega.{arith}
-use borrow.Author.Tests.{eq-eqb}
+use borrow.Author.Tests.{eq-eqb, ne-eqb}
 use lib.ListN.{length, set, length-set}
 use lib.Seq.{getD-set-same, getD-set-other}
 use Rattle.meaning.specs.Trie.{nodes}
 use Rattle.trie.specs.Heap.{Cells, hit, nodeClaims, pageClaims, Holds, Heap, nil, node, page, _⊕_}
 use Rattle.trie.specs.Tables.{NodeTable, PageTable}
 
-hit-same : {a b : ℕ} → a ≡ b → hit b a ≡ 1
+pub hit-other : {a b : ℕ} → (a ≡ b → ⊥) → hit b a ≡ 0
+unfolding hit
+hit-other {a} {b} e = rw (ne-eqb b a (λ q. e (sym q)))
+
+pub hit-same : {a b : ℕ} → a ≡ b → hit b a ≡ 1
 unfolding hit
 hit-same {a} {b} e = rw (eq-eqb b a (sym e))
 

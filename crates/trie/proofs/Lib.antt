@@ -6,3 +6,8 @@ pub mod Context
 pub mod Fresh
 pub mod Push
 pub mod Put
+pub mod Bytes
+pub mod Split
+pub mod Spans
+pub mod Grow
+pub mod Ways

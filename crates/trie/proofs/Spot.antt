@@ -15,7 +15,7 @@ use Rattle.trie.specs.Heap.{Cells, Holds, nil, node, _⊕_}
 use Rattle.trie.specs.Model.{linkAt, placeFrom, findPlace}
 use Rattle.trie.specs.Phys.{Phys, Buckets, Chain, root, tree, kids, kidsC, cells, cellsB, cellsC, Sound, SoundB, SoundC, leafP, innerP, end, bucket, stop, link}
 use Rattle.trie.proofs.Frame.{Same, same-trans, same-right, same-left, same-assoc, same-swap}
-use Rattle.trie.proofs.Abstract.{Skips, Above, Leaves, leaves-next}
+use Rattle.trie.proofs.Abstract.{Skips, Above, Leaves, leaves-next, ShallowIn}
 use Rattle.trie.proofs.Steps.{place-none, place-go, place-found, place-past}
 
 -- whether a chain begins with a byte
@@ -46,6 +46,10 @@ leaves-chain : (ch : Chain) (cs : Children) → Leaves (kidsC ch cs) → Leaves 
 leaves-chain stop cs z = z
 leaves-chain (link c t ch) cs z = leaves-chain ch cs (leaves-next c (tree t) (kidsC ch cs) z)
 
+shallow-chain : (ch : Chain) (len k : ℕ) (cs : Children) → ShallowIn (kidsC ch cs) len k → ShallowIn cs len k
+shallow-chain stop len k cs z = z
+shallow-chain (link c t ch) len k cs z = shallow-chain ch len k cs (z .1)
+
 module _ (cap pcap base : ℕ) (small : cap ≤ 262144) where
   pub root-below : (t : Phys) → Sound cap pcap t → root t < cap
   root-below (leafP n ps) h = h .0
@@ -71,6 +75,7 @@ module _ (cap pcap base : ℕ) (small : cap ≤ 262144) where
     pub kids : (x : Chain) (cs : Children) → kidsC (put x) cs ≡ before (kidsC x cs)
     pub count : (cs ds : Children) → nodesIn (before cs) + nodesIn ds ≡ nodesIn (before ds) + nodesIn cs
     pub leaves : (cs : Children) → Leaves (before cs) → Leaves cs
+    pub shallow : (len k : ℕ) (cs : Children) → ShallowIn (before cs) len k → ShallowIn cs len k
     pub skip : (F : Children → Children) → Skips b F → (cs : Children) → F (before cs) ≡ before (F cs)
     pub find : (N P : List ℕ) (f : ℕ) → lo ≤ hi → hi < lo + f → Holds (cellsC cap base ch s y) N P → placeFrom N cap b s f ≡ answer (starts tail b) slot (headC tail)
 
@@ -95,6 +100,7 @@ module _ (cap pcap base : ℕ) (small : cap ≤ 262144) where
         kids = λ x cs. refl;
         count = λ cs ds. omega arith;
         leaves = λ cs z. z;
+        shallow = λ len k cs z. z;
         skip = λ F z cs. refl;
         find = f;
       }
@@ -138,6 +144,7 @@ module _ (cap pcap base : ℕ) (small : cap ≤ 262144) where
         kids = λ x cs. ap (child c (tree t)) (r .kids x cs);
         count = λ cs ds. child-count c (tree t) (r .before cs) (r .before ds) cs ds (r .count cs ds);
         leaves = λ cs z. r .leaves cs (leaves-next c (tree t) (r .before cs) z);
+        shallow = λ len k cs z. r .shallow len k cs (z .1);
         skip = λ F z cs. z c (tree t) (r .before cs) k ∙ ap (child c (tree t)) (r .skip F z cs);
         find = λ N P f i j h.
             let w : linkAt N s ≡ root t + 1 = link-word N s y t (g .2) (h .0) in
@@ -189,6 +196,7 @@ module _ (cap pcap base : ℕ) (small : cap ≤ 262144) where
     pub above : Above b later
     pub count : (cs ds : Children) → nodesIn (before cs) + nodesIn ds ≡ nodesIn (before ds) + nodesIn cs
     pub leaves : (cs : Children) → Leaves (before cs) → Leaves cs
+    pub shallow : (len k : ℕ) (cs : Children) → ShallowIn (before cs) len k → ShallowIn cs len k
     pub skip : (F : Children → Children) → Skips b F → (cs : Children) → F (before cs) ≡ before (F cs)
     pub find : (N P : List ℕ) → Holds (cellsB cap base bs n g) N P → findPlace N cap n b ≡ answer (starts tail b) slot (headC tail)
 
@@ -221,6 +229,7 @@ module _ (cap pcap base : ℕ) (small : cap ≤ 262144) where
         kids = λ x. r .kids x (kids bs);
         count = r .count;
         leaves = r .leaves;
+        shallow = r .shallow;
         above = kids-above bs (suc g) b (h .1) (omega arith);
         skip = r .skip;
         find = λ N P z. rw q (r .find N P 33 (omega arith) (omega arith) (z .0));
@@ -244,6 +253,7 @@ module _ (cap pcap base : ℕ) (small : cap ≤ 262144) where
         kids = λ x. ap (kidsC ch) (r .kids x);
         count = λ cs ds. chain-count ch (r .before cs) (r .before ds) cs ds (r .count cs ds);
         leaves = λ cs z. r .leaves cs (leaves-chain ch (r .before cs) z);
+        shallow = λ len k cs z. r .shallow len k cs (shallow-chain ch len k (r .before cs) z);
         above = r .above;
         skip = λ F z cs. skip-chain ch b (32 * g) (32 * g + 32) F z (h .0) (omega arith) (r .before cs) ∙ ap (kidsC ch) (r .skip F z cs);
         find = λ N P z. r .find N P (z .1);

@@ -4,8 +4,8 @@ use borrow.Author.Needs.{needs}
 use Rattle.trie.proofs.push_page.Statement.{statement}
 use Rattle.trie.proofs.push_page.Tie as tie
 
-add-state : tie.Need-add-state
-add-state c = search needs
+add-leaf : tie.Need-add-leaf
+add-leaf c = search needs
 
 mul-state : tie.Need-mul-state
 mul-state c = search needs
@@ -34,9 +34,6 @@ cast-nodes c = search needs
 add-nodes-2 : tie.Need-add-nodes-2
 add-nodes-2 c = search needs
 
-add-nodes-3 : tie.Need-add-nodes-3
-add-nodes-3 c = search needs
-
 mul-nodes : tie.Need-mul-nodes
 mul-nodes c = search needs
 
@@ -56,7 +53,7 @@ pub push-page-spec : {M : Type 1} → statement M
 push-page-spec =
     tie.close
     (tie.spec
-    add-state
+    add-leaf
     mul-state
     slice-read-state
     returns
@@ -66,7 +63,6 @@ push-page-spec =
     add-nodes
     cast-nodes
     add-nodes-2
-    add-nodes-3
     mul-nodes
     slice-write-nodes
     same-length
