@@ -1,0 +1,33 @@
+-- On tables that hold a leaf's pages, `distinctBytes` counts the children that the leaf gets.
+use Prim.Native.Nat.{ℕ, _≤_}
+use mathlib.Core.Path.{_≡_, refl, sym, ap, _∙_}
+use mathlib.Core.Bool.{Bool, true}
+use mathlib.Core.List.{List, [], _∷_, map}
+use lib.Dec.{eqb}
+use lib.ListN.{length}
+use borrow.Author.Tests.{eq-eqb}
+use Rattle.meaning.specs.Lists.{any}
+use Rattle.meaning.specs.Trie.{byteAt}
+use Rattle.trie.specs.declared.Level.{Level}
+use Rattle.trie.specs.Model.{pageByte}
+use Rattle.trie.specs.Phys.{first, Below}
+use Rattle.trie_laws.specs.Needed.{distinct}
+use Rattle.trie_laws.proofs.Lists.{or-first, or-second}
+use Rattle.trie_room.specs.declared.needed.Needed.the-variants.{Nodes}
+use Rattle.trie_room.specs.Needs.{bytesWith, distinctBytes}
+use Rattle.trie.proofs.Spans.{Linked}
+use Rattle.trie_room.proofs.Chains.{chain-whole}
+
+-- two readings that agree on the pages
+map-agree : (f g : ℕ → ℕ) (ps : List ℕ) → ((x : ℕ) → any (eqb x) ps ≡ true → f x ≡ g x) → map f ps ≡ map g ps
+unfolding any
+map-agree f g [] h = refl
+map-agree f g (p ∷ ps) h =
+    rw (h p (or-first (eqb p p) (any (eqb p) ps) (eq-eqb p p refl)), map-agree f g ps (λ x m. h x (or-second (eqb x p) (any (eqb x) ps) m)))
+
+pub distinct-right : (bytesOf : ℕ → List ℕ) (P S : List ℕ) (pcap base k p : ℕ) (v : Level) (ps : List ℕ) → Linked P base ps → Below pcap ps → length ps ≤ pcap →
+    ((x : ℕ) → any (eqb x) ps ≡ true → byteAt bytesOf k x ≡ pageByte S v x) →
+    distinctBytes P S pcap base v (first ps) (byteAt bytesOf k p) ≡ Nodes (distinct bytesOf k (p ∷ ps))
+unfolding distinctBytes distinct
+distinct-right bytesOf P S pcap base k p v ps h b l e =
+    rw (chain-whole P base pcap ps pcap h b l, map-agree (byteAt bytesOf k) (pageByte S v) ps e)

@@ -1,0 +1,84 @@
+-- On any tables, an answer is small.
+use Prim.Native.Nat.{ℕ, zero, suc, _+_, _-_, _≤_}
+use mathlib.Core.Path.{_≡_, refl}
+use mathlib.Core.Bool.{Bool, true, false, cond, _&&_}
+use mathlib.Core.List.{List, [], _∷_, map}
+use native.Mathlib.Omega.{arith}
+use lib.Dec.{ltb, eqb}
+use lib.ListN.{length, getD, length-map}
+use Rattle.layout.specs.Nodes.{stateAt}
+use Rattle.trie.specs.declared.Rows.{Rows}
+use Rattle.trie.specs.declared.Level.{Level}
+use Rattle.trie.specs.declared.Span.{Span}
+use Rattle.trie.specs.declared.Span.the-variants.{Enough, Short, Wild}
+use Rattle.trie.specs.Model.{pageByte, spanFrom, levelAt}
+use Rattle.trie_laws.specs.Needed.{distinctFrom}
+use Rattle.trie_laws.proofs.Distinct.{distinct-length}
+use Rattle.trie_path.specs.declared.Reach.{Reach}
+use Rattle.trie_path.specs.declared.Reach.the-variants.{Leaf, Gap, Broken as Lost}
+use Rattle.trie_path.specs.Descend.{descendTo}
+use Rattle.trie_room.specs.declared.needed.Needed.{Needed}
+use Rattle.trie_room.specs.declared.needed.Needed.the-variants.{Nodes, Broken}
+use Rattle.trie_room.specs.Chains.{Chained, whole, broken, ahead, nextLink, chainFrom}
+use Rattle.trie_room.specs.Needs.{countIn, bytesWith, distinctBytes, whereLong, gapNeeds, leafNeeds, neededAt, nodesNeeded}
+
+-- a chain is not longer than its budget
+abbrev size : Chained → ℕ
+size (whole xs) = length xs
+size broken = 0
+
+chain-size : (T : List ℕ) (base cap link f : ℕ) → size (chainFrom T base cap link f) ≤ f
+unfolding chainFrom
+chain-size T base cap link zero = go (eqb link 0)
+  where
+    go : (q : Bool) → size (cond q (whole []) broken) ≤ 0
+    go true = omega arith
+    go false = omega arith
+chain-size T base cap link (suc f) = go (eqb link 0) (ltb cap link) (chainFrom T base cap (nextLink T base link) f) (chain-size T base cap (nextLink T base link) f)
+  where
+    go : (q o : Bool) (c : Chained) → size c ≤ f → size (cond q (whole []) (cond o broken (ahead (link - 1) c))) ≤ suc f
+    go true o c h = omega arith
+    go false true c h = omega arith
+    go false false (whole xs) h = omega arith
+    go false false broken h = omega arith
+
+bytes-few : (byteOf : ℕ → ℕ) (byte n : ℕ) (c : Chained) → size c ≤ n → countIn (bytesWith byteOf byte c) ≤ n + 1
+bytes-few byteOf byte n (whole ps) h = omega (arith, distinct-length (λ y. false) (byte ∷ map byteOf ps), length-map ps byteOf)
+bytes-few byteOf byte n broken h = omega arith
+
+distinct-few : (P S : List ℕ) (pcap base : ℕ) (v : Level) (link byte : ℕ) → countIn (distinctBytes P S pcap base v link byte) ≤ pcap + 1
+unfolding distinctBytes
+distinct-few P S pcap base v link byte = bytes-few (pageByte S v) byte pcap (chainFrom P base pcap link pcap) (chain-size P base pcap link pcap)
+
+long-few : (x : Needed) (q : Span) (n : ℕ) → countIn x ≤ n → countIn (whereLong x q) ≤ n
+long-few x Enough n h = h
+long-few x Short n h = omega arith
+long-few x Wild n h = omega arith
+
+module _ (P S τ : List ℕ) (pcap base : ℕ) (r : Rows) where
+  leaf-few : (k link byte : ℕ) → countIn (leafNeeds P S τ pcap base r k link byte) ≤ pcap + 1
+  unfolding leafNeeds
+  leaf-few k link byte =
+      long-few (distinctBytes P S pcap base (levelAt r k) link byte) (spanFrom P base pcap link (getD τ k 0)) (pcap + 1)
+      (distinct-few P S pcap base (levelAt r k) link byte)
+
+  gap-few : (len k : ℕ) → gapNeeds τ len k ≤ 2
+  unfolding gapNeeds
+  gap-few len k = go (ltb k len && eqb (getD τ k 0) 0)
+    where
+      go : (q : Bool) → cond q 2 1 ≤ 2
+      go true = omega arith
+      go false = omega arith
+
+  pub at-few : (Y N : List ℕ) (cap : ℕ) (g : Reach) → countIn (neededAt P S τ pcap base r Y N cap g) ≤ pcap + 2
+  at-few Y N cap (Leaf n s k) = go (ltb k (length Y))
+    where
+      go : (q : Bool) → countIn (cond q (leafNeeds P S τ pcap base r k (getD N (stateAt cap n) 0 - 2) (getD Y k 0)) (Nodes 0)) ≤ pcap + 2
+      go true = omega (arith, leaf-few k (getD N (stateAt cap n) 0 - 2) (getD Y k 0))
+      go false = omega arith
+  at-few Y N cap (Gap n s k) = omega (arith, gap-few (length Y) (suc k))
+  at-few Y N cap Lost = omega arith
+
+  pub needed-few : (Y N : List ℕ) (cap root : ℕ) → countIn (nodesNeeded P S τ pcap base r Y N cap root) ≤ pcap + 2
+  unfolding nodesNeeded
+  needed-few Y N cap root = at-few Y N cap (descendTo N cap root Y)

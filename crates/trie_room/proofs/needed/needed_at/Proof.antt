@@ -1,0 +1,87 @@
+-- `needed_at` is `neededAt`.
+use native.Mathlib.Omega.{arith}
+use Prim.Native.Nat.{_+_, _<_}
+use lib.ListN.{getD}
+use Rattle.trie_room.proofs.Steps.{leaf-in, gap-in, at-end, at-leaf, at-gap, at-none}
+use borrow.Author.Needs.{needs}
+use Rattle.trie_room.proofs.needed.needed_at.Statement.{statement}
+use Rattle.trie_room.proofs.needed.needed_at.Tie as tie
+
+enum-known-reach : tie.Need-enum-known-reach
+enum-known-reach c = search needs
+
+returns : tie.Need-returns
+returns c = search at-end
+
+-- the leaf that is reached
+there : (c : tie.After-struct-known) → let start = c .before .before .before .before .before .before .before .before .before .before in
+    (c .before .before .before .reach .given .0 .0 < start .args .block .nodes)
+    × (1 < getD (start .args .nodes .now) (start .args .block .nodes + c .before .before .before .reach .given .0 .0) 0)
+there c = leaf-in _ _ _ _ _ _ _ (c .before .before .before .reach .given .1) (c .before .before .before .before .before .before .before .before .before .before .pre .1 .1 .1 .1 .1)
+
+add-first : tie.Need-add-first
+add-first c = omega (arith, there c)
+
+mul-first : tie.Need-mul-first
+mul-first c = omega (arith, there c)
+
+shared-slice-read-first : tie.Need-shared-slice-read-first
+shared-slice-read-first c = omega (arith, there (c .before))
+
+sub-first : tie.Need-sub-first
+sub-first c = omega (arith, there (c .before))
+
+shared-slice-read-leaf-needs : tie.Need-shared-slice-read-leaf-needs
+shared-slice-read-leaf-needs c = search needs
+
+cast-leaf-needs : tie.Need-cast-leaf-needs
+cast-leaf-needs c = omega (arith, c .shared-slice-known7 .given (c .before .before .before .before .before .reach .given .0 .1 .1 .0))
+
+leaf-needs-requires : tie.Need-leaf-needs-requires
+leaf-needs-requires c κs =
+    let pre = c .before .before .before .before .before .before .before .before .before .before .before .before .pre in
+    (pre .1 .0, (pre .1 .1 .0, (pre .1 .1 .1 .0, (omega arith, omega (arith, c .shared-slice-known7 .given (c .before .before .before .before .before .reach .given .0 .1 .1 .0))))))
+
+enum-known-reach-2 : tie.Need-enum-known-reach-2
+enum-known-reach-2 c = search needs
+
+add-gap-needs : tie.Need-add-gap-needs
+add-gap-needs c =
+    let start = c .before .before .before .before .before .before .before .before in
+    omega (arith, gap-in _ _ _ _ _ _ _ (c .before .reach2 .given .1) (start .pre .1 .1 .1 .1 .1), start .pre .1 .1 .1 .1 .0, start .good)
+
+gap-needs-requires : tie.Need-gap-needs-requires
+gap-needs-requires c κs = search needs
+
+enum-told : tie.Need-enum-told
+enum-told c = search needs
+
+returns-2 : tie.Need-returns-2
+returns-2 c = search at-leaf
+
+returns-3 : tie.Need-returns-3
+returns-3 c = search at-gap
+
+returns-4 : tie.Need-returns-4
+returns-4 c = search at-none
+
+pub needed-at-spec : {M : Type 1} → statement M
+needed-at-spec =
+    tie.close
+    (tie.spec
+    enum-known-reach
+    returns
+    add-first
+    mul-first
+    shared-slice-read-first
+    sub-first
+    shared-slice-read-leaf-needs
+    cast-leaf-needs
+    leaf-needs-requires
+    enum-known-reach-2
+    add-gap-needs
+    gap-needs-requires
+    enum-told
+    returns-2
+    returns-3
+    returns-4)

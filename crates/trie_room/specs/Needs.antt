@@ -1,0 +1,57 @@
+-- How many nodes an add needs in one block. N is the node table, P the page table, S the sketch table.
+use Prim.Native.Nat.{ℕ, suc, _+_, _-_}
+use mathlib.Core.Bool.{false, cond, _&&_}
+use mathlib.Core.List.{List, _∷_, map}
+use lib.Dec.{ltb, eqb}
+use lib.ListN.{length, getD}
+use Rattle.layout.specs.Nodes.{stateAt}
+use Rattle.trie.specs.declared.Level.{Level}
+use Rattle.trie.specs.declared.Rows.{Rows}
+use Rattle.trie.specs.declared.Span.{Span}
+use Rattle.trie.specs.declared.Span.the-variants.{Enough, Short, Wild}
+use Rattle.trie.specs.Model.{pageByte, spanFrom, levelAt}
+use Rattle.trie_laws.specs.Needed.{distinctFrom}
+use Rattle.trie_path.specs.declared.Reach.{Reach}
+use Rattle.trie_path.specs.declared.Reach.the-variants.{Leaf, Gap, Broken as Lost}
+use Rattle.trie_path.specs.Descend.{descendTo}
+use Rattle.trie_room.specs.declared.needed.Needed.{Needed}
+use Rattle.trie_room.specs.declared.needed.Needed.the-variants.{Nodes, Broken}
+use Rattle.trie_room.specs.Chains.{Chained, whole, broken, chainFrom}
+
+-- the number in an answer
+abbrev pub countIn : Needed → ℕ
+countIn (Nodes n) = n
+countIn Broken = 0
+
+-- how many different bytes a byte and those of the pages of a chain are
+abbrev pub bytesWith : (ℕ → ℕ) → ℕ → Chained → Needed
+bytesWith byteOf byte (whole ps) = Nodes (distinctFrom (λ y. false) (byte ∷ map byteOf ps))
+bytesWith byteOf byte broken = Broken
+
+unfoldable pub distinctBytes : List ℕ → List ℕ → ℕ → ℕ → Level → ℕ → ℕ → Needed
+distinctBytes P S pcap base v first byte = bytesWith (pageByte S v) byte (chainFrom P base pcap first pcap)
+
+-- what is needed where a chain is long enough
+abbrev pub whereLong : Needed → Span → Needed
+whereLong r Enough = r
+whereLong r Short = Nodes 0
+whereLong r Wild = Broken
+
+-- a new leaf at level k of len levels with a byte: one node, and one more where it splits at once
+unfoldable pub gapNeeds : List ℕ → ℕ → ℕ → ℕ
+gapNeeds τ len k = cond (ltb k len && eqb (getD τ k 0) 0) 2 1
+
+-- τ are the thresholds by level
+module _ (P S τ : List ℕ) (pcap base : ℕ) (r : Rows) where
+  -- a leaf at level k, its first page at a link, that takes a page with a byte there: a node for each byte where it splits
+  unfoldable pub leafNeeds : ℕ → ℕ → ℕ → Needed
+  leafNeeds k first byte = whereLong (distinctBytes P S pcap base (levelAt r k) first byte) (spanFrom P base pcap first (getD τ k 0))
+
+  -- where the bytes Y of the page lead
+  abbrev pub neededAt : List ℕ → List ℕ → ℕ → Reach → Needed
+  neededAt Y N cap (Leaf n s k) = cond (ltb k (length Y)) (leafNeeds k (getD N (stateAt cap n) 0 - 2) (getD Y k 0)) (Nodes 0)
+  neededAt Y N cap (Gap n s k) = Nodes (gapNeeds τ (length Y) (suc k))
+  neededAt Y N cap Lost = Broken
+
+  unfoldable pub nodesNeeded : List ℕ → List ℕ → ℕ → ℕ → Needed
+  nodesNeeded Y N cap root = neededAt Y N cap (descendTo N cap root Y)

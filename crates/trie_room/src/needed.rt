@@ -1,0 +1,189 @@
+// How many nodes an add needs in one block.
+ghost use mathlib.Core.Path.{_≡_};
+ghost use Prim.Native.Nat.{_<_, _≤_};
+ghost use lib.ListN.{length};
+ghost use Rattle.trie.specs.Tables.{NodeTable, PageTable, SketchTable, RowTable};
+ghost use Rattle.trie.specs.Model.{spanFrom};
+ghost use Rattle.trie_path.specs.Descend.{Inside};
+ghost use Rattle.trie_room.specs.Needs.{distinctBytes, leafNeeds, gapNeeds, neededAt, nodesNeeded};
+use trie::Block;
+use trie::Level;
+use trie::Rows;
+use trie::Span;
+use trie::at_least;
+use trie::level_at;
+use trie::page_byte;
+use trie_path::Reach;
+use trie_path::descend_to;
+
+pub enum Needed {
+    Nodes(usize),
+    Broken,
+}
+
+// How many different bytes a new page's byte and those of the pages of a chain are at one level: so many children a leaf with
+// these pages gets. A chain that is longer than the capacity is broken.
+pub fn distinct_bytes(
+    pages: &[u32],
+    sketches: &[u8],
+    block: Block,
+    level: Level,
+    first: u32,
+    byte: u32,
+) -> Needed
+    requires { ⌜ PageTable (block .pages) (block .base) (now pages) ⌝ }
+    requires { ⌜ SketchTable (block .pages) level (now sketches) ⌝ }
+    requires { ⌜ byte < 256 ⌝ }
+    ensures { λ r. ⌜ r ≡ distinctBytes (now (pages .entry)) (now (sketches .entry)) (block .pages) (block .base) level first byte ⌝ }
+{
+    let mut seen = [false; 256];
+    seen[byte as usize] = true;
+    let mut n: usize = 1;
+    let mut link = first as usize;
+    let mut left = block.pages;
+    while link != 0 {
+        if left == 0 {
+            return Needed::Broken;
+        }
+        if block.pages < link {
+            return Needed::Broken;
+        }
+        let p = link - 1;
+        let v = page_byte(sketches, level, block, p) as usize;
+        n += (!seen[v]) as usize;
+        seen[v] = true;
+        link = pages[block.base + p] as usize;
+        left -= 1;
+    }
+    Needed::Nodes(n)
+}
+
+// A leaf at level k that takes a page with this byte there: where it has as many pages as the threshold already, it splits.
+fn leaf_needs(
+    pages: &[u32],
+    sketches: &[u8],
+    thresholds: &[u32],
+    block: Block,
+    rows: Rows,
+    k: usize,
+    first: u32,
+    byte: u32,
+) -> Needed
+    requires { ⌜ PageTable (block .pages) (block .base) (now pages) ⌝ }
+    requires { ⌜ RowTable (block .pages) rows (now sketches) ⌝ }
+    requires { ⌜ rows .bytes ≤ length (now thresholds) ⌝ }
+    requires { ⌜ k < rows .bytes ⌝ }
+    requires { ⌜ byte < 256 ⌝ }
+    ensures { λ r. ⌜ r ≡ leafNeeds (now (pages .entry)) (now (sketches .entry)) (now (thresholds .entry)) (block .pages) (block .base) rows k first byte ⌝ }
+{
+    let span = at_least(
+        pages,
+        block.base,
+        block.pages,
+        first,
+        thresholds[k] as usize,
+    );
+    match span {
+        Span::Enough => {
+            let level = level_at(rows, k);
+            distinct_bytes(pages, sketches, block, level, first, byte)
+        }
+        Span::Short => Needed::Nodes(0),
+        Span::Wild => Needed::Broken,
+    }
+}
+
+// A new leaf at level k, of so many levels with a byte: it splits at once where the threshold is 0.
+fn gap_needs(thresholds: &[u32], bytes: usize, k: usize) -> usize
+    requires { ⌜ bytes ≤ length (now thresholds) ⌝ }
+    ensures { λ r. ⌜ r ≡ gapNeeds (now (thresholds .entry)) bytes k ⌝ }
+{
+    if k >= bytes {
+        return 1;
+    }
+    if thresholds[k] == 0 {
+        return 2;
+    }
+    1
+}
+
+// Where the bytes of the new page lead.
+pub fn needed_at(
+    nodes: &[u32],
+    pages: &[u32],
+    sketches: &[u8],
+    thresholds: &[u32],
+    block: Block,
+    rows: Rows,
+    bytes: &[u8],
+    reach: Reach,
+) -> Needed
+    requires { ⌜ NodeTable (block .nodes) (now nodes) ⌝ }
+    requires { ⌜ PageTable (block .pages) (block .base) (now pages) ⌝ }
+    requires { ⌜ RowTable (block .pages) rows (now sketches) ⌝ }
+    requires { ⌜ rows .bytes ≤ length (now thresholds) ⌝ }
+    requires { ⌜ length (now bytes) ≡ rows .bytes ⌝ }
+    requires { ⌜ Inside (now nodes) (block .nodes) (rows .bytes) reach ⌝ }
+    ensures { λ r. ⌜ r ≡ neededAt (now (pages .entry)) (now (sketches .entry)) (now (thresholds .entry)) (block .pages) (block .base) rows (now (bytes .entry)) (now (nodes .entry)) (block .nodes) reach ⌝ }
+{
+    match reach {
+        Reach::Leaf(n, _, k) => {
+            if k >= bytes.len() {
+                return Needed::Nodes(0);
+            }
+            let first = nodes[block.nodes + n] - 2;
+            leaf_needs(
+                pages,
+                sketches,
+                thresholds,
+                block,
+                rows,
+                k,
+                first,
+                bytes[k] as u32,
+            )
+        }
+        Reach::Gap(_, _, k) => Needed::Nodes(gap_needs(thresholds, bytes.len(), k + 1)),
+        Reach::Broken => Needed::Broken,
+    }
+}
+
+// An add of a page with these bytes, in the trie with this root.
+pub fn nodes_needed(
+    nodes: &[u32],
+    pages: &[u32],
+    sketches: &[u8],
+    thresholds: &[u32],
+    block: Block,
+    rows: Rows,
+    bytes: &[u8],
+    root: usize,
+) -> Needed
+    requires { ⌜ NodeTable (block .nodes) (now nodes) ⌝ }
+    requires { ⌜ PageTable (block .pages) (block .base) (now pages) ⌝ }
+    requires { ⌜ RowTable (block .pages) rows (now sketches) ⌝ }
+    requires { ⌜ rows .bytes ≤ length (now thresholds) ⌝ }
+    requires { ⌜ length (now bytes) ≡ rows .bytes ⌝ }
+    requires { ⌜ root < block .nodes ⌝ }
+    ensures { λ r. ⌜ r ≡ nodesNeeded (now (pages .entry)) (now (sketches .entry)) (now (thresholds .entry)) (block .pages) (block .base) rows (now (bytes .entry)) (now (nodes .entry)) (block .nodes) root ⌝ }
+{
+    let reach = descend_to(nodes, block.nodes, root, bytes);
+    needed_at(
+        nodes,
+        pages,
+        sketches,
+        thresholds,
+        block,
+        rows,
+        bytes,
+        reach,
+    )
+}
+
+// Are at least n nodes free? Their chain begins at a link and goes on in the chain words.
+pub fn enough_free(nodes: &[u32], cap: usize, first: u32, n: usize) -> Span
+    requires { ⌜ NodeTable cap (now nodes) ⌝ }
+    ensures { λ r. ⌜ r ≡ spanFrom (now (nodes .entry)) 0 cap first n ⌝ }
+{
+    at_least(nodes, 0, cap, first, n)
+}
