@@ -45,6 +45,7 @@ module _ (cap pcap base : ℕ) (small : cap ≤ 262144) (bytesOf : ℕ → List 
     pub buckets : Buckets
     pub way : Way cap pcap base small bytesOf p t k (innerP node buckets)
     pub spot : SpotB cap pcap base small buckets node 0 (byteAt bytesOf k p)
+    pub octet : byteAt bytesOf k p < 256
     pub slot : spot .slot ≡ s
     pub after : Chain
     pub here : spot .tail ≡ link (byteAt bytesOf k p) u after
@@ -66,6 +67,7 @@ module _ (cap pcap base : ℕ) (small : cap ≤ 262144) (bytesOf : ℕ → List 
     pub buckets : Buckets
     pub way : Way cap pcap base small bytesOf p t k (innerP n buckets)
     pub spot : SpotB cap pcap base small buckets n 0 (byteAt bytesOf k p)
+    pub octet : byteAt bytesOf k p < 256
     pub slot : spot .slot ≡ s
     pub gap : starts (spot .tail) (byteAt bytesOf k p) ≡ false
     pub deep : depth bytesOf 0 p (tree t) ≡ k
@@ -89,7 +91,7 @@ module _ (cap pcap base : ℕ) (small : cap ≤ 262144) (bytesOf : ℕ → List 
         subst (Arrives t) (desc-leaf N cap Y n s k (descend N cap Y n s k (length Y - k)) refl (omega (arith, there k (leafP n ps) w .0)))
         (record { pages = ps; way = w; linked = l; deep = deep-end t k (leafP n ps) w refl })
 
-    module _ (k s n : ℕ) (bs : Buckets) (w : Way cap pcap base small bytesOf p t k (innerP n bs)) (l : k < length Y) (o : SpotB cap pcap base small bs n 0 (byteAt bytesOf k p)) where
+    module _ (k s n : ℕ) (bs : Buckets) (w : Way cap pcap base small bytesOf p t k (innerP n bs)) (l : k < length Y) (m : byteAt bytesOf k p < 256) (o : SpotB cap pcap base small bs n 0 (byteAt bytesOf k p)) where
       place : (q : Bool) → starts (o .tail) (byteAt bytesOf k p) ≡ q → answer q (o .slot) (headC (o .tail)) ≡ findPlace N cap n (getD Y k 0)
       place q e = ap (λ (x : Bool). answer x (o .slot) (headC (o .tail))) (sym e) ∙ sym (o .find N P (there k (innerP n bs) w .1)) ∙ ap (findPlace N cap n) (y .bytes k l)
 
@@ -103,6 +105,7 @@ module _ (cap pcap base : ℕ) (small : cap ≤ 262144) (bytesOf : ℕ → List 
             buckets = bs;
             way = w;
             spot = o;
+            octet = m;
             slot = refl;
             gap = e;
             deep = deep-end t k (innerP n bs) w (spot-none cap pcap base small o e);
@@ -132,12 +135,12 @@ module _ (cap pcap base : ℕ) (small : cap ≤ 262144) (bytesOf : ℕ → List 
         o = spot cap pcap base small n bs (byteAt bytesOf k p) m (w .sound)
 
         go : (q : Bool) → starts (o .tail) (byteAt bytesOf k p) ≡ q → Arrives t (descend N cap Y n s k (length Y - k))
-        go false e = at-gap k s n bs w i o e
+        go false e = at-gap k s n bs w i m o e
         go true e =
             let x = begins (o .tail) (byteAt bytesOf k p) e in
-            at-child k s n bs w i o (x .0) (x .1) (x .2) e
+            at-child k s n bs w i m o (x .0) (x .1) (x .2) e
             (more i (x .0) (onward cap pcap base small bytesOf p w o m (x .0) (x .1) (x .2)) (o .slot)
-            (record { node = n; buckets = bs; way = w; spot = o; slot = refl; after = x .1; here = x .2 }))
+            (record { node = n; buckets = bs; way = w; spot = o; octet = m; slot = refl; after = x .1; here = x .2 }))
 
     reach : (f k s : ℕ) (u : Phys) → length Y - k ≡ f → Way cap pcap base small bytesOf p t k u → Linked t k u s → Arrives t (descend N cap Y (root u) s k (length Y - k))
     reach zero k s u e w l = at-node k s u w l (λ i. absurd (omega arith))

@@ -1,13 +1,14 @@
 -- The way from the root of a trie to what stands where some bytes of a page lead: what is put there instead is put there in the abstract trie.
 use Prim.Native.Nat.{ℕ, suc, _+_, _*_, _/_, _<_, _≤_}
 use native.Mathlib.Nat.{zero-add}
-use mathlib.Core.Path.{_≡_, refl, ap, _∙_, sym}
+use mathlib.Core.Path.{_≡_, refl, ap, _∙_, sym, subst}
 use mathlib.Core.Bool.{true}
 use mathlib.Core.List.{List}
 use Rattle.meaning.specs.Trie.{byteAt}
-use Rattle.trie.specs.Phys.{Phys, Buckets, Chain, root, tree, Sound, SoundC, innerP, link}
+use Rattle.trie.specs.Heap.{Cells, _⊕_}
+use Rattle.trie.specs.Phys.{Phys, Buckets, Chain, root, tree, Sound, SoundC, State, innerP, link}
 use Rattle.trie.proofs.Spot.{SpotB}
-use Rattle.trie.proofs.Context.{Context, whole, inside}
+use Rattle.trie.proofs.Context.{Context, whole, inside, enter, leave}
 use Rattle.trie_laws.specs.Path.{hasBelow, below, setBelow, hasPath, subtree, replace, pathOf}
 use Rattle.trie_path.proofs.Paths.{path-next, sub-next, rep-next}
 use Rattle.trie_path.proofs.Spots.{from-here, spot-has, spot-kid, spot-set}
@@ -46,3 +47,15 @@ module _ (cap pcap base : ℕ) (small : cap ≤ 262144) (bytesOf : ℕ → List 
           sub = sub-next bytesOf p k 0 (tree t) ∙ rw (zero-add k, w .sub) (spot-kid cap pcap base small s u after e);
           rep = λ v. w .rep (innerP n (s .put (link y v after))) ∙ rw (spot-set cap pcap base small s u after e v) (sym (rep-next bytesOf p k 0 (tree t) (tree v) ∙ rw (zero-add k, w .sub) refl));
         }
+
+    pub onward-put : (v : Phys) → onward .context .put v ≡ w .context .put (innerP n (s .put (link y v after)))
+    unfolding onward inside
+    onward-put v = refl
+
+  -- a state of the whole is one of what stands there, and back
+  module _ {t : Phys} {k : ℕ} {u : Phys} (w : Way t k u) {N P : List ℕ} {free : ℕ} {fs : List ℕ} {G : Cells} where
+    pub go-in : State cap pcap base N P free t fs G → State cap pcap base N P free u fs (w .context .rest ⊕ G)
+    go-in st = enter cap pcap base small (λ j. byteAt bytesOf j p) (w .context) u refl (subst (λ (x : Phys). State cap pcap base N P free x fs G) (sym (w .is)) st) (w .sound)
+
+    pub go-out : (v : Phys) → root v ≡ root u → State cap pcap base N P free v fs (w .context .rest ⊕ G) → State cap pcap base N P free (w .context .put v) fs G
+    go-out v e st = leave cap pcap base small (λ j. byteAt bytesOf j p) (w .context) v e st

@@ -1,0 +1,132 @@
+-- The models, one step at a time.
+use Prim.Native.Nat.{ℕ, suc, _+_, _*_, _-_, _<_, _≤_}
+use mathlib.Core.Path.{_≡_, refl, ap, _∙_}
+use mathlib.Core.Bool.{cond}
+use mathlib.Core.List.{List}
+use native.Mathlib.Omega.{arith}
+use borrow.Author.Tests.{le-ltb, lt-ltb, eq-eqb, ne-eqb}
+use lib.Dec.{ltb, eqb}
+use lib.ListN.{getD, set}
+use Rattle.layout.specs.Nodes.{stateAt, leafState}
+use Rattle.trie_path.specs.declared.Reach.{Reach}
+use Rattle.trie_path.specs.declared.Reach.the-variants.{Leaf, Gap, Broken as Lost}
+use Rattle.trie_path.specs.Descend.{descendTo, Inside as ReachInside}
+use Rattle.trie_remove.specs.declared.Taken.{Taken}
+use Rattle.trie_remove.specs.declared.Taken.the-variants.{First, Inside, Missing, Broken}
+use Rattle.trie_remove.specs.declared.Removed.the-variants.{Done, Broken as Undone}
+use Rattle.trie_remove.specs.Take.{Took, linkIn, takeFrom, takePage, took}
+use Rattle.trie_remove.specs.Remove.{freeChild, setFirst, removeAt, removePage, Gone, freed, gone}
+
+-- `takePage`, where the page is the first, and where it is not
+module _ (P : List ℕ) (pcap base l p : ℕ) where
+  module _ (e : l ≡ p + 1) where
+    pub first-wild : pcap < getD P (base + p) 0 → took P Broken ≡ takePage P pcap base l p
+    unfolding takePage
+    first-wild w = rw (eq-eqb _ _ e, lt-ltb _ _ w) refl
+
+    pub first-out : getD P (base + p) 0 ≤ pcap → took P (First (getD P (base + p) 0)) ≡ takePage P pcap base l p
+    unfolding takePage
+    first-out w = rw (eq-eqb _ _ e, le-ltb _ _ w) refl
+
+  pub not-first : (R : Took) → (l ≡ p + 1 → ⊥) → R ≡ takeFrom P pcap base p l pcap → R ≡ takePage P pcap base l p
+  unfolding takePage
+  not-first R e h = h ∙ rw (ne-eqb _ _ e) refl
+
+-- `takeFrom` at each way out of a turn. R is what the walk comes to in the end
+module _ (P : List ℕ) (pcap base p l f : ℕ) (R : Took) (inv : takeFrom P pcap base p l f ≡ R) where
+  pub take-out : f ≡ 0 → took P Broken ≡ R
+  unfolding takeFrom
+  take-out e = rw e at inv
+
+  module _ (h : f ≡ 0 → ⊥) where
+    abbrev at : ℕ
+    at = base + (l - 1)
+
+    take-step :
+        cond (eqb l 0) (took P Missing)
+        (cond (ltb pcap l) (took P Broken)
+        (cond (eqb (getD P at 0) (p + 1)) (took (set P at (getD P (base + p) 0)) Inside)
+        (takeFrom P pcap base p (getD P at 0) (f - 1)))) ≡ R
+    unfolding takeFrom
+    take-step = let e : suc (f - 1) ≡ f = omega arith in ap (takeFrom P pcap base p l) e ∙ inv
+
+    pub take-none : l ≡ 0 → took P Missing ≡ R
+    take-none e = rw (eq-eqb _ _ e) at take-step
+
+    module _ (e : l ≡ 0 → ⊥) where
+      pub take-wild : pcap < l → took P Broken ≡ R
+      take-wild w = rw (ne-eqb _ _ e, lt-ltb _ _ w) at take-step
+
+      module _ (w : l ≤ pcap) where
+        pub take-here : getD P at 0 ≡ p + 1 → took (set P at (getD P (base + p) 0)) Inside ≡ R
+        take-here q = rw (ne-eqb _ _ e, le-ltb _ _ w, eq-eqb _ _ q) at take-step
+
+        pub take-on : (getD P at 0 ≡ p + 1 → ⊥) → takeFrom P pcap base p (getD P at 0) (f - 1) ≡ R
+        take-on q = rw (ne-eqb _ _ e, le-ltb _ _ w, ne-eqb _ _ q) at take-step
+
+-- `setFirst`, by each way
+module _ (N : List ℕ) (cap n s k l free : ℕ) where
+  abbrev relinked : List ℕ
+  relinked = set N (stateAt cap n) (leafState l)
+
+  pub first-some : 0 < l → freed relinked free ≡ setFirst N cap n s k l free
+  unfolding setFirst
+  first-some h = rw (lt-ltb _ _ h) refl
+
+  module _ (h : l ≤ 0) where
+    pub first-root : k ≡ 0 → freed relinked free ≡ setFirst N cap n s k l free
+    unfolding setFirst
+    first-root e = rw (le-ltb _ _ h, eq-eqb _ _ e) refl
+
+    pub first-freed : (ns : List ℕ) (r : ℕ) → (k ≡ 0 → ⊥) → r ≡ n + 1 → ns ≡ freeChild relinked cap s n free → freed ns r ≡ setFirst N cap n s k l free
+    unfolding setFirst
+    first-freed ns r e z q = rw (le-ltb _ _ h, ne-eqb _ _ e, z, q) refl
+
+-- what a match tells
+module _ (N : List ℕ) (cap len : ℕ) (r : Reach) (n s k : ℕ) (e : r ≡ Leaf n s k) (h : ReachInside N cap len r) where
+  inside : ReachInside N cap len (Leaf n s k)
+  inside = rw e at h
+
+  pub leaf-node : n < cap
+  leaf-node = inside .0
+
+  pub leaf-slot : s < 10 * cap
+  leaf-slot = inside .1
+
+  pub leaf-state : 2 ≤ getD N (stateAt cap n) 0
+  leaf-state = omega (arith, inside .3)
+
+pub first-link : (pcap : ℕ) (a : Taken) (l : ℕ) → a ≡ First l → linkIn a ≤ pcap → pcap ≤ 65535 → l ≤ 65535
+first-link pcap a l e h m = let i : l ≤ pcap = rw e at h in omega arith
+
+-- `removeAt`, by each way
+module _ (N P : List ℕ) (cap pcap base n s k p free : ℕ) (ps : List ℕ) (a : Taken) (e : took ps a ≡ takePage P pcap base (getD N (stateAt cap n) 0 - 2) p) where
+  pub remove-first : (l : ℕ) (ns : List ℕ) (r : ℕ) → a ≡ First l → freed ns r ≡ setFirst N cap n s k l free → gone ns ps (Done r) ≡ removeAt N P cap pcap base n s k p free
+  unfolding removeAt
+  remove-first l ns r q h = rw (← e, q, ← h) refl
+
+  pub remove-inside : a ≡ Inside → gone N ps (Done free) ≡ removeAt N P cap pcap base n s k p free
+  unfolding removeAt
+  remove-inside q = rw (← e, q) refl
+
+  pub remove-missing : a ≡ Missing → gone N ps Undone ≡ removeAt N P cap pcap base n s k p free
+  unfolding removeAt
+  remove-missing q = rw (← e, q) refl
+
+  pub remove-torn : a ≡ Broken → gone N ps Undone ≡ removeAt N P cap pcap base n s k p free
+  unfolding removeAt
+  remove-torn q = rw (← e, q) refl
+
+-- `removePage`, by each way
+module _ (N P : List ℕ) (cap pcap base root : ℕ) (Y : List ℕ) (p free : ℕ) (r : Reach) (e : r ≡ descendTo N cap root Y) where
+  pub remove-leaf : (n s k : ℕ) (R : Gone) → r ≡ Leaf n s k → R ≡ removeAt N P cap pcap base n s k p free → R ≡ removePage N P cap pcap base root Y p free
+  unfolding removePage
+  remove-leaf n s k R q h = h ∙ rw (← e, q) refl
+
+  pub remove-gap : (n s k : ℕ) → r ≡ Gap n s k → gone N P Undone ≡ removePage N P cap pcap base root Y p free
+  unfolding removePage
+  remove-gap n s k q = rw (← e, q) refl
+
+  pub remove-lost : r ≡ Lost → gone N P Undone ≡ removePage N P cap pcap base root Y p free
+  unfolding removePage
+  remove-lost q = rw (← e, q) refl

@@ -1,0 +1,197 @@
+-- `takePage` takes a page out of the chain of a list that holds it, once: the other pages stay as they are, and the page's link is left over.
+use Prim.Native.Nat.{ℕ, zero, suc, _+_, _-_, _<_, _≤_}
+use native.Mathlib.Omega.{arith}
+use native.Mathlib.Nat.{add-zero}
+use mathlib.Core.Path.{_≡_, refl, ap, _∙_, sym, subst}
+use mathlib.Core.Bool.{Bool, true, false, cond, _||_, false≢true, true≢false}
+use mathlib.Core.List.{List, [], _∷_}
+use borrow.Author.Tests.{eq-eqb, ne-eqb, lt-ltb, eqb-true, eqb-false}
+use lib.Dec.{ltb, eqb}
+use lib.ListN.{length, getD, set, length-set}
+use Rattle.meaning.specs.Lists.{all, any, count}
+use Rattle.meaning.specs.Trie.{without}
+use Rattle.trie.specs.Heap.{Cells, hit, pageClaims, Heap, page, _⊕_}
+use Rattle.trie.specs.Tables.{PageTable}
+use Rattle.trie.specs.Phys.{first, pageCells, Below}
+use Rattle.trie.proofs.Frame.{Less, less, same-swap, page-write}
+use Rattle.trie_laws.proofs.Lists.{holds, fails, truth, and-intro, eqb-comm}
+use Rattle.trie_laws.proofs.Distinct.{distinct-once, distinct-below}
+use Rattle.trie_remove.specs.declared.Taken.{Taken}
+use Rattle.trie_remove.specs.declared.Taken.the-variants.{First, Inside, Missing, Broken}
+use Rattle.trie_remove.specs.Take.{Took, takeFrom, takePage, took}
+use Rattle.trie_remove.proofs.Steps.{first-out, not-first, take-here, take-on}
+
+-- ---- each page of a chain stands in it once, so it has no more pages than there are
+hit-page : (base x y : ℕ) → hit (base + x) (base + y) ≡ cond (eqb y x) 1 0
+unfolding hit
+hit-page base x y = elim (truth (eqb y x)) [
+  | holds e ↦ rw (e, eq-eqb (base + x) (base + y) (ap (λ (z : ℕ). base + z) (sym (eqb-true y x e)))) refl
+  | fails e ↦ rw (e, ne-eqb (base + x) (base + y) (λ q. eqb-false y x e (omega arith))) refl
+]
+
+claims-count : (base y : ℕ) (ps : List ℕ) → pageClaims (pageCells base ps) (base + y) ≡ count (eqb y) ps
+unfolding count
+claims-count base y [] = refl
+claims-count base y (x ∷ ps) = omega (arith, hit-page base x y, claims-count base y ps)
+
+below-all : (m : ℕ) (ps : List ℕ) → Below m ps → all (λ x. ltb x m) ps ≡ true
+unfolding all
+below-all m [] h = refl
+below-all m (x ∷ ps) h = and-intro (ltb x m) (all (λ y. ltb y m) ps) (lt-ltb x m (h .0)) (below-all m ps (h .1))
+
+hit-same : (a : ℕ) → hit a a ≡ 1
+unfolding hit
+hit-same a = rw (eq-eqb a a refl)
+
+chain-short : (base : ℕ) (ps : List ℕ) {N P : List ℕ} {R : Cells} (m : ℕ) → Below m ps → Heap N P (pageCells base ps ⊕ R) → length ps ≤ m
+chain-short base ps m l h =
+    omega (arith, distinct-once (λ y. false) ps (λ y. omega (arith, h .pages (base + y), claims-count base y ps)), distinct-below m (λ y. false) ps (below-all m ps l))
+
+first-below : (m : ℕ) (ps : List ℕ) → Below m ps → first ps ≤ m
+first-below m [] l = omega arith
+first-below m (x ∷ ps) l = omega (arith, l .0)
+
+-- ---- a list without a page
+module _ (p : ℕ) where
+  without-none : (ps : List ℕ) → count (eqb p) ps ≡ 0 → without p ps ≡ ps
+  unfolding without count
+  without-none [] h = refl
+  without-none (x ∷ ps) h = elim (truth (eqb x p)) [
+    | holds e ↦ absurd (omega (arith, rw (eqb-comm p x ∙ e) at h))
+    | fails e ↦ rw e (ap (λ (l : List ℕ). x ∷ l) (without-none ps (omega arith)))
+  ]
+
+  without-other : (x : ℕ) (ps : List ℕ) → eqb x p ≡ false → without p (x ∷ ps) ≡ x ∷ without p ps
+  unfolding without
+  without-other x ps e = rw e refl
+
+  without-this : (ps : List ℕ) → count (eqb p) ps ≡ 0 → without p (p ∷ ps) ≡ ps
+  unfolding without
+  without-this ps h = rw (eq-eqb p p refl) (without-none ps h)
+
+  any-other : (x : ℕ) (ps : List ℕ) → eqb x p ≡ false → any (eqb p) (x ∷ ps) ≡ true → any (eqb p) ps ≡ true
+  unfolding any
+  any-other x ps e h = rw (eqb-comm p x ∙ e) at h
+
+-- ---- behind the first page
+record BehindDone (N P : List ℕ) (base p : ℕ) (ps : List ℕ) (R : Cells) (o : Took) : Type 0 where
+  pagesTo : List ℕ
+  linkTo : ℕ
+  is : o ≡ took pagesTo Inside
+  heap : Heap N pagesTo (pageCells base (without p ps) ⊕ page (base + p) linkTo ⊕ R)
+  length : length pagesTo ≡ length P
+
+-- the cells of a chain, the first page's by itself
+module _ (base x y : ℕ) (rs : List ℕ) (R : Cells) where
+  apart : Less (pageCells base (x ∷ y ∷ rs) ⊕ R) (page (base + x) (y + 1) ⊕ page (base + y) (first rs) ⊕ pageCells base rs ⊕ R)
+  apart = record { holds = λ N P h. search; nodes = λ a. omega arith; pages = λ a. omega arith }
+
+  joined : Less (page (base + x) (first rs) ⊕ page (base + y) (first rs) ⊕ pageCells base rs ⊕ R) (pageCells base (x ∷ rs) ⊕ page (base + y) (first rs) ⊕ R)
+  joined = record { holds = λ N P h. search; nodes = λ a. omega arith; pages = λ a. omega arith }
+
+  tail : Less (pageCells base (x ∷ y ∷ rs) ⊕ R) (pageCells base (y ∷ rs) ⊕ page (base + x) (y + 1) ⊕ R)
+  tail = record { holds = λ N P h. search; nodes = λ a. omega arith; pages = λ a. omega arith }
+
+  whole : (G : Cells) → Less (pageCells base (y ∷ rs) ⊕ G ⊕ page (base + x) (y + 1) ⊕ R) (pageCells base (x ∷ y ∷ rs) ⊕ G ⊕ R)
+  whole G = record { holds = λ N P h. search; nodes = λ a. omega arith; pages = λ a. omega arith }
+
+pred : (x : ℕ) → x + 1 - 1 ≡ x
+pred x = omega arith
+
+module _ (pcap base p : ℕ) (N P : List ℕ) (t : PageTable pcap base P) (x f : ℕ) (l : x < pcap) (e : eqb x p ≡ false) (z : 0 < f) where
+  -- it is the next one
+  behind-here : (rs : List ℕ) {R : Cells} → Heap N P (pageCells base (x ∷ p ∷ rs) ⊕ R) → BehindDone N P base p (x ∷ p ∷ rs) R (takeFrom P pcap base p (x + 1) f)
+  behind-here rs {R} h =
+      let g = less (apart base x p rs R) h in
+      let v : getD P (base + p) 0 ≡ first rs = g .holds .1 .0 in
+      let o : count (eqb p) rs ≡ 0 = omega (arith, g .pages (base + p), claims-count base p rs, hit-same (base + p)) in
+      let w : without p (x ∷ p ∷ rs) ≡ x ∷ rs = without-other p x (p ∷ rs) e ∙ ap (λ (ys : List ℕ). x ∷ ys) (without-this p rs o) in
+      record {
+        pagesTo = set P (base + x) (first rs);
+        linkTo = first rs;
+        is = sym (rw (pred x, v) at (take-here P pcap base p (x + 1) f (takeFrom P pcap base p (x + 1) f) refl (omega arith) (omega arith) (omega arith) (rw (pred x) (g .holds .0))));
+        heap = rw w (less (joined base x p rs R) (page-write (first rs) g (omega (arith, t .long))));
+        length = simp length-set;
+      }
+
+  -- it stands further on
+  behind-on : (y : ℕ) (rs : List ℕ) {R : Cells} → eqb y p ≡ false → getD P (base + x) 0 ≡ y + 1 →
+      BehindDone N P base p (y ∷ rs) (page (base + x) (y + 1) ⊕ R) (takeFrom P pcap base p (y + 1) (f - 1)) → BehindDone N P base p (x ∷ y ∷ rs) R (takeFrom P pcap base p (x + 1) f)
+  behind-on y rs {R} i r d =
+      let w : without p (x ∷ y ∷ rs) ≡ x ∷ y ∷ without p rs = without-other p x (y ∷ rs) e ∙ ap (λ (ys : List ℕ). x ∷ ys) (without-other p y rs i) in
+      let q : getD P (base + (x + 1 - 1)) 0 ≡ y + 1 = rw (pred x) r in
+      let n : y ≡ p → ⊥ = eqb-false y p i in
+      record {
+        pagesTo = d .pagesTo;
+        linkTo = d .linkTo;
+        is = sym (rw q at (take-on P pcap base p (x + 1) f (takeFrom P pcap base p (x + 1) f) refl (omega arith) (omega arith) (omega arith) (λ j. n (omega arith)))) ∙ d .is;
+        heap = rw w (less (whole base x y (without p rs) R (page (base + p) (d .linkTo))) (rw (without-other p y rs i) at (d .heap)));
+        length = d .length;
+      }
+
+module _ (pcap base p : ℕ) {N P : List ℕ} (t : PageTable pcap base P) where
+  behind : (qs : List ℕ) (x f : ℕ) {R : Cells} → Heap N P (pageCells base (x ∷ qs) ⊕ R) → Below pcap (x ∷ qs) → eqb x p ≡ false → any (eqb p) qs ≡ true → length qs ≤ f →
+      BehindDone N P base p (x ∷ qs) R (takeFrom P pcap base p (x + 1) f)
+  unfolding any
+  behind [] x f h l e m z = absurd (false≢true m)
+  behind (y ∷ rs) x f {R} h l e m z = elim (truth (eqb y p)) [
+    | holds i ↦
+        let q : y ≡ p = eqb-true y p i in
+        rw q (behind-here pcap base p N P t x f (l .0) e (omega arith) rs (rw q at h))
+    | fails i ↦
+        behind-on pcap base p N P t x f (l .0) e (omega arith) y rs i (h .holds .0 .0)
+        (behind rs y (f - 1) (less (tail base x y rs R) h) (l .1) i (any-other p y rs i m) (omega arith))
+  ]
+
+-- ---- the law
+-- what an answer says of the chain of ps, which now is one of qs
+abbrev pub Tells : Taken → List ℕ → List ℕ → Type 0
+Tells (First l) ps qs = l ≡ first qs
+Tells Inside ps qs = first ps ≡ first qs
+Tells Missing ps qs = ⊥
+Tells Broken ps qs = ⊥
+
+-- what taking page p out of the chain of ps comes to
+pub record TakeDone (N P : List ℕ) (base p : ℕ) (ps : List ℕ) (R : Cells) (o : Took) : Type 0 where
+  pub pagesTo : List ℕ
+  pub answer : Taken
+  pub linkTo : ℕ
+  pub is : o ≡ took pagesTo answer
+  pub tells : Tells answer ps (without p ps)
+  pub heap : Heap N pagesTo (pageCells base (without p ps) ⊕ page (base + p) linkTo ⊕ R)
+  pub length : length pagesTo ≡ length P
+
+module _ (pcap base p : ℕ) {N P : List ℕ} (t : PageTable pcap base P) where
+  take-first : (qs : List ℕ) {R : Cells} → Heap N P (pageCells base (p ∷ qs) ⊕ R) → Below pcap (p ∷ qs) → TakeDone N P base p (p ∷ qs) R (takePage P pcap base (p + 1) p)
+  take-first qs h l =
+      let v : getD P (base + p) 0 ≡ first qs = h .holds .0 .0 in
+      let o : count (eqb p) qs ≡ 0 = omega (arith, h .pages (base + p), claims-count base p qs, hit-same (base + p)) in
+      let w : without p (p ∷ qs) ≡ qs = without-this p qs o in
+      record {
+        pagesTo = P;
+        answer = First (first qs);
+        linkTo = first qs;
+        is = sym (rw v at (first-out P pcap base (p + 1) p refl (omega (arith, first-below pcap qs (l .1)))));
+        tells = rw w refl;
+        heap = rw w (less (record { holds = λ N P h. search; nodes = λ a. omega arith; pages = λ a. omega arith }) h);
+        length = refl;
+      }
+
+  pub take-right : (ps : List ℕ) {R : Cells} → Heap N P (pageCells base ps ⊕ R) → Below pcap ps → any (eqb p) ps ≡ true → TakeDone N P base p ps R (takePage P pcap base (first ps) p)
+  unfolding any
+  take-right [] h l m = absurd (false≢true m)
+  take-right (x ∷ qs) h l m = elim (truth (eqb x p)) [
+    | holds i ↦ let q : x ≡ p = eqb-true x p i in rw q (take-first qs (rw q at h) (rw q at l))
+    | fails i ↦
+        let n : x ≡ p → ⊥ = eqb-false x p i in
+        let d = behind pcap base p t qs x pcap h l i (any-other p x qs i m) (omega (arith, chain-short base (x ∷ qs) pcap l h)) in
+        record {
+          pagesTo = d .pagesTo;
+          answer = Inside;
+          linkTo = d .linkTo;
+          is = sym (not-first P pcap base (x + 1) p (takeFrom P pcap base p (x + 1) pcap) (λ j. n (omega arith)) refl) ∙ d .is;
+          tells = rw (without-other p x qs i) refl;
+          heap = d .heap;
+          length = d .length;
+        }
+  ]

@@ -1,0 +1,87 @@
+-- `remove_at` meets its contract.
+use native.Mathlib.Omega.{arith}
+use Rattle.trie_remove.proofs.Steps.{first-link, remove-first, remove-inside, remove-missing, remove-torn}
+use borrow.Author.Needs.{needs}
+use Rattle.trie_remove.proofs.remove_at.Statement.{statement}
+use Rattle.trie_remove.proofs.remove_at.Tie as tie
+
+add-first : tie.Need-add-first
+add-first c = search needs
+
+mul-first : tie.Need-mul-first
+mul-first c = search needs
+
+slice-read-first : tie.Need-slice-read-first
+slice-read-first c = search needs
+
+sub-first : tie.Need-sub-first
+sub-first c = search needs
+
+take-page-requires : tie.Need-take-page-requires
+take-page-requires c κs = search needs
+
+enum-known-taken : tie.Need-enum-known-taken
+enum-known-taken c = search needs
+
+set-first-requires : tie.Need-set-first-requires
+set-first-requires c κs = (search needs, (omega arith, (omega arith, search (first-link, arith))))
+
+enum-told : tie.Need-enum-told
+enum-told c = search needs
+
+enum-told-2 : tie.Need-enum-told-2
+enum-told-2 c = search needs
+
+enum-told-3 : tie.Need-enum-told-3
+enum-told-3 c = search needs
+
+same-length : tie.Need-same-length
+same-length c = search needs
+
+same-length-2 : tie.Need-same-length-2
+same-length-2 c = search needs
+
+returns : tie.Need-returns
+returns c = search remove-first
+
+same-length-3 : tie.Need-same-length-3
+same-length-3 c = search needs
+
+returns-2 : tie.Need-returns-2
+returns-2 c = search remove-inside
+
+same-length-4 : tie.Need-same-length-4
+same-length-4 c = search needs
+
+returns-3 : tie.Need-returns-3
+returns-3 c = search remove-missing
+
+same-length-5 : tie.Need-same-length-5
+same-length-5 c = search needs
+
+returns-4 : tie.Need-returns-4
+returns-4 c = search remove-torn
+
+pub remove-at-spec : {M : Type 1} → statement M
+remove-at-spec =
+    tie.close
+    (tie.spec
+    add-first
+    mul-first
+    slice-read-first
+    sub-first
+    take-page-requires
+    enum-known-taken
+    set-first-requires
+    enum-told
+    enum-told-2
+    enum-told-3
+    same-length
+    same-length-2
+    returns
+    same-length-3
+    returns-2
+    same-length-4
+    returns-3
+    same-length-5
+    returns-4)

@@ -1,0 +1,59 @@
+-- `remove_page` meets its contract.
+use native.Mathlib.Omega.{arith}
+use Rattle.trie_remove.proofs.Steps.{leaf-node, leaf-slot, leaf-state, remove-leaf, remove-gap, remove-lost}
+use borrow.Author.Needs.{needs}
+use Rattle.trie_remove.proofs.remove_page.Statement.{statement}
+use Rattle.trie_remove.proofs.remove_page.Tie as tie
+
+descend-to-requires : tie.Need-descend-to-requires
+descend-to-requires c κs = search needs
+
+enum-known-reach : tie.Need-enum-known-reach
+enum-known-reach c = search needs
+
+remove-at-requires : tie.Need-remove-at-requires
+remove-at-requires c κs = (search needs, (search needs, ((search leaf-node, search leaf-slot, omega arith), search leaf-state)))
+
+enum-told : tie.Need-enum-told
+enum-told c = search needs
+
+enum-told-2 : tie.Need-enum-told-2
+enum-told-2 c = search needs
+
+same-length : tie.Need-same-length
+same-length c = search needs
+
+same-length-2 : tie.Need-same-length-2
+same-length-2 c = search needs
+
+returns : tie.Need-returns
+returns c = search remove-leaf
+
+same-length-3 : tie.Need-same-length-3
+same-length-3 c = search needs
+
+returns-2 : tie.Need-returns-2
+returns-2 c = search remove-gap
+
+same-length-4 : tie.Need-same-length-4
+same-length-4 c = search needs
+
+returns-3 : tie.Need-returns-3
+returns-3 c = search remove-lost
+
+pub remove-page-spec : {M : Type 1} → statement M
+remove-page-spec =
+    tie.close
+    (tie.spec
+    descend-to-requires
+    enum-known-reach
+    remove-at-requires
+    enum-told
+    enum-told-2
+    same-length
+    same-length-2
+    returns
+    same-length-3
+    returns-2
+    same-length-4
+    returns-3)

@@ -1,0 +1,2 @@
+pub mod Take
+pub mod Remove

@@ -1,0 +1,55 @@
+-- What `free_child` and `remove_page` compute: N is the node table and P the page table.
+use Prim.Native.Nat.{ℕ, _+_, _-_}
+use mathlib.Core.Bool.{cond}
+use mathlib.Core.List.{List}
+use lib.Dec.{ltb, eqb}
+use lib.ListN.{getD, set}
+use Rattle.layout.specs.Nodes.{withLink, stateAt, freeState, leafState}
+use Rattle.trie.specs.Model.{linkAt}
+use Rattle.trie_path.specs.declared.Reach.{Reach}
+use Rattle.trie_path.specs.declared.Reach.the-variants.{Leaf, Gap, Broken as Lost}
+use Rattle.trie_path.specs.Descend.{descendTo}
+use Rattle.trie_remove.specs.declared.Taken.the-variants.{First, Inside, Missing, Broken as Torn}
+use Rattle.trie_remove.specs.declared.Removed.{Removed}
+use Rattle.trie_remove.specs.declared.Removed.the-variants.{Done, Broken}
+use Rattle.trie_remove.specs.Take.{Took, took, takePage}
+
+-- child c out of the chain at slot s, and first among the free nodes
+unfoldable pub freeChild : List ℕ → ℕ → ℕ → ℕ → ℕ → List ℕ
+freeChild N cap s c free = set (set (set N s (withLink (getD N s 0) (linkAt N c))) (stateAt cap c) freeState) c free
+
+-- the node table and the free link
+pub data Freed : Type 0 where
+  freed : List ℕ → ℕ → Freed
+
+-- leaf n at level k, which slot s links to, with link l to its first page; it is freed where it has none and is not the root
+unfoldable pub setFirst : List ℕ → ℕ → ℕ → ℕ → ℕ → ℕ → ℕ → Freed
+setFirst N cap n s k l free =
+    let N' : List ℕ = set N (stateAt cap n) (leafState l) in
+    cond (ltb 0 l) (freed N' free) (cond (eqb k 0) (freed N' free) (freed (freeChild N' cap s n free) (n + 1)))
+
+-- both tables and the answer
+pub data Gone : Type 0 where
+  gone : List ℕ → List ℕ → Removed → Gone
+
+abbrev pub goneTo : List ℕ → Freed → Gone
+goneTo P (freed N free) = gone N P (Done free)
+
+abbrev pub removeTaken : List ℕ → ℕ → ℕ → ℕ → ℕ → ℕ → Took → Gone
+removeTaken N cap n s k free (took P (First l)) = goneTo P (setFirst N cap n s k l free)
+removeTaken N cap n s k free (took P Inside) = gone N P (Done free)
+removeTaken N cap n s k free (took P Missing) = gone N P Broken
+removeTaken N cap n s k free (took P Torn) = gone N P Broken
+
+-- page p out of leaf n
+unfoldable pub removeAt : List ℕ → List ℕ → ℕ → ℕ → ℕ → ℕ → ℕ → ℕ → ℕ → ℕ → Gone
+removeAt N P cap pcap base n s k p free = removeTaken N cap n s k free (takePage P pcap base (getD N (stateAt cap n) 0 - 2) p)
+
+abbrev pub removeReached : List ℕ → List ℕ → ℕ → ℕ → ℕ → ℕ → ℕ → Reach → Gone
+removeReached N P cap pcap base p free (Leaf n s k) = removeAt N P cap pcap base n s k p free
+removeReached N P cap pcap base p free (Gap n s k) = gone N P Broken
+removeReached N P cap pcap base p free Lost = gone N P Broken
+
+-- page p out of the leaf where its bytes Y lead
+unfoldable pub removePage : List ℕ → List ℕ → ℕ → ℕ → ℕ → ℕ → List ℕ → ℕ → ℕ → Gone
+removePage N P cap pcap base root Y p free = removeReached N P cap pcap base p free (descendTo N cap root Y)
