@@ -2,11 +2,12 @@
 use Prim.Native.Nat.{ℕ, suc, _+_, _<_, _≤_}
 use mathlib.Core.Path.{_≡_, refl, _∙_, sym}
 use mathlib.Core.List.{List, [], _∷_}
-use mathlib.Core.Bool.{Bool, true, false, cond}
+use mathlib.Core.Bool.{Bool, true, false, cond, _&&_}
 use native.Mathlib.Omega.{arith}
 use borrow.Author.Tests.{le-ltb, lt-ltb, eq-eqb, ne-eqb}
 use lib.Dec.{ltb, eqb}
-use Rattle.meaning.specs.Trie.{Tree, leaf, inner, Children, none, child, byteAt, push, putLeaf, prune, split, insert, insertIn, remove, removeIn, nodes, nodesIn}
+use lib.ListN.{length, getD}
+use Rattle.meaning.specs.Trie.{Tree, leaf, inner, Children, none, child, byteAt, push, putLeaf, prune, split, addLeaf, insert, insertIn, remove, removeIn, nodes, nodesIn}
 
 -- a function on children that passes over bytes below b
 abbrev pub Skips : ℕ → (Children → Children) → Type 0
@@ -71,22 +72,26 @@ put-empty b p cs l = put-here b p (leaf []) cs ∙ sym (put-new b p cs l)
 module _ (bytesOf : ℕ → List ℕ) (p : ℕ) where
   -- insertion
   module _ (len : ℕ) (τ : List ℕ) where
-    pub insert-walks : Walks (λ k. byteAt bytesOf k p) (λ k. insert bytesOf len τ k p)
+    pub insert-skips : (k : ℕ) → Skips (byteAt bytesOf k p) (insertIn bytesOf len τ k p)
     unfolding insert
-    insert-walks =
-        record {
-          below = λ k. insertIn bytesOf len τ k p;
-          inside = λ k cs. refl;
-          skips = λ k c t cs l. rw (le-ltb (byteAt bytesOf k p) c (omega arith), ne-eqb (byteAt bytesOf k p) c (omega arith)) refl;
-          here = λ k t cs z. rw (le-ltb (byteAt bytesOf k p) (byteAt bytesOf k p) (omega arith), eq-eqb (byteAt bytesOf k p) (byteAt bytesOf k p) refl) refl;
-        }
+    insert-skips k c t cs l = rw (le-ltb (byteAt bytesOf k p) c (omega arith), ne-eqb (byteAt bytesOf k p) c (omega arith)) refl
+
+    insert-here : (k : ℕ) (t : Tree) (cs : Children) → insertIn bytesOf len τ k p (child (byteAt bytesOf k p) t cs) ≡ child (byteAt bytesOf k p) (insert bytesOf len τ (suc k) p t) cs
+    unfolding insert
+    insert-here k t cs = rw (le-ltb (byteAt bytesOf k p) (byteAt bytesOf k p) (omega arith), eq-eqb (byteAt bytesOf k p) (byteAt bytesOf k p) refl) refl
+
+    pub insert-new : (k : ℕ) (cs : Children) → Above (byteAt bytesOf k p) cs → insertIn bytesOf len τ k p cs ≡ child (byteAt bytesOf k p) (addLeaf bytesOf len τ (suc k) p []) cs
+    unfolding insert
+    insert-new k none l = refl
+    insert-new k (child c t cs) l = rw (lt-ltb (byteAt bytesOf k p) c l) refl
 
     pub insert-empty : (k : ℕ) (cs : Children) → Above (byteAt bytesOf k p) cs → insertIn bytesOf len τ k p (child (byteAt bytesOf k p) (leaf []) cs) ≡ insertIn bytesOf len τ k p cs
     unfolding insert
-    insert-empty k none l =
-        rw (le-ltb (byteAt bytesOf k p) (byteAt bytesOf k p) (omega arith), eq-eqb (byteAt bytesOf k p) (byteAt bytesOf k p) refl) refl
-    insert-empty k (child c t cs) l =
-        rw (le-ltb (byteAt bytesOf k p) (byteAt bytesOf k p) (omega arith), eq-eqb (byteAt bytesOf k p) (byteAt bytesOf k p) refl, lt-ltb (byteAt bytesOf k p) c l) refl
+    insert-empty k cs l = insert-here k (leaf []) cs ∙ sym (insert-new k cs l)
+
+    pub insert-walks : Walks (λ k. byteAt bytesOf k p) (λ k. insert bytesOf len τ k p)
+    unfolding insert
+    insert-walks = record { below = λ k. insertIn bytesOf len τ k p; inside = λ k cs. refl; skips = insert-skips; here = λ k t cs z. insert-here k t cs }
 
   -- removal
   prune-kept : (c : ℕ) (t : Tree) (cs : Children) → Kept t → prune c t cs ≡ child c t cs
@@ -137,3 +142,17 @@ pub split-grows : (bytesOf : ℕ → List ℕ) (k : ℕ) (ps : List ℕ) (cs : C
 unfolding split
 split-grows bytesOf k [] cs = omega arith
 split-grows bytesOf k (p ∷ ps) cs = omega (arith, put-grows (byteAt bytesOf k p) p cs, split-grows bytesOf k ps (putLeaf (byteAt bytesOf k p) p cs))
+
+-- a leaf that a page was put into is not empty, and has a node at least
+pub kept-add : (bytesOf : ℕ → List ℕ) (len : ℕ) (τ : List ℕ) (k p : ℕ) (ps : List ℕ) → Kept (addLeaf bytesOf len τ k p ps)
+unfolding addLeaf
+kept-add bytesOf len τ k p ps = go (ltb k len && ltb (getD τ k 0) (suc (length ps)))
+  where
+    go : (q : Bool) → Kept (cond q (inner (split bytesOf k (p ∷ ps) none)) (leaf (p ∷ ps)))
+    go true = tt
+    go false = tt
+
+pub some-node : (t : Tree) → 1 ≤ nodes t
+unfolding nodes
+some-node (leaf ps) = omega arith
+some-node (inner cs) = omega arith

@@ -20,7 +20,10 @@ module _ (cap pcap base : ℕ) (small : cap ≤ 262144) (byte : ℕ → ℕ) whe
     pub roots : (u : Phys) → root u ≡ hole → root (put u) ≡ top
     pub same : (u : Phys) → root u ≡ hole → Same (cells cap base (put u)) (cells cap base u ⊕ rest)
     pub sound : (u : Phys) → Sound cap pcap u → Sound cap pcap (put u)
-    pub lift : (F : ℕ → Tree → Tree) → Walks byte F → (u v : Phys) → tree v ≡ F j (tree u) → Kept (tree v) → tree (put v) ≡ F k (tree (put u))
+    pub around : Tree → Tree
+    pub trees : (u : Phys) → tree (put u) ≡ around (tree u)
+    pub count : (x y : Tree) → nodes (around x) + nodes y ≡ nodes (around y) + nodes x
+    pub lift : (F : ℕ → Tree → Tree) → Walks byte F → (x : Tree) → Kept (F j x) → around (F j x) ≡ F k (around x)
 
   unfoldable pub whole : (k n : ℕ) → Context k n k n
   whole k n =
@@ -33,7 +36,10 @@ module _ (cap pcap base : ℕ) (small : cap ≤ 262144) (byte : ℕ → ℕ) whe
           back = record { holds = λ N P h. h .0; nodes = λ a. omega arith; pages = λ a. omega arith };
         };
         sound = λ u g. g;
-        lift = λ F w u v e z. e;
+        around = λ x. x;
+        trees = λ u. refl;
+        count = λ x y. omega arith;
+        lift = λ F w x z. refl;
       }
 
   -- down to a child with the next byte, before the siblings `after`
@@ -65,14 +71,22 @@ module _ (cap pcap base : ℕ) (small : cap ≤ 262144) (byte : ℕ → ℕ) whe
           };
         }
 
-    pub below-lift : (F : ℕ → Tree → Tree) (w : Walks byte F) (u v : Phys) → tree v ≡ F (suc j) (tree u) → Kept (tree v) → tree (below v) ≡ F j (tree (below u))
-    below-lift F w u v e z =
+    abbrev pub belowT : Tree → Tree
+    belowT x = inner (s .before (child (byte j) x (kidsC after (s .later))))
+
+    pub below-count : (x y : Tree) → nodes (C .around (belowT x)) + nodes y ≡ nodes (C .around (belowT y)) + nodes x
+    unfolding nodes
+    below-count x y =
         let K : Children = kidsC after (s .later) in
-        let here : w .below j (child (byte j) (tree u) K) ≡ child (byte j) (tree v) K = w .here j (tree u) K (rw e at z) ∙ rw e refl in
-        ap inner (
-        s .kids (link (byte j) v after) ∙ ap (s .before) (sym here) ∙ sym (s .skip (w .below j) (w .skips j) (child (byte j) (tree u) K)) ∙
-        ap (w .below j) (sym (s .kids (link (byte j) u after))))
-        ∙ sym (w .inside j (kids (s .put (link (byte j) u after))))
+        omega (arith, C .count (belowT x) (belowT y), s .count (child (byte j) x K) (child (byte j) y K))
+
+    pub below-lift : (F : ℕ → Tree → Tree) (w : Walks byte F) (x : Tree) → Kept (F (suc j) x) → belowT (F (suc j) x) ≡ F j (belowT x)
+    below-lift F w x z =
+        let K : Children = kidsC after (s .later) in
+        ap inner (ap (s .before) (sym (w .here j x K z)) ∙ sym (s .skip (w .below j) (w .skips j) (child (byte j) x K))) ∙ sym (w .inside j (s .before (child (byte j) x K)))
+
+    pub kept-below : (F : ℕ → Tree → Tree) (w : Walks byte F) (x : Tree) → Kept (F j (belowT x))
+    kept-below F w x = rw (w .inside j (s .before (child (byte j) x (kidsC after (s .later))))) tt
 
     unfoldable pub inside : n < cap → byte j < 256 → SoundC cap pcap after (suc (byte j)) (32 * (byte j / 32) + 32) → Context k top (suc j) m
     inside l b g =
@@ -82,7 +96,10 @@ module _ (cap pcap base : ℕ) (small : cap ≤ 262144) (byte : ℕ → ℕ) whe
           roots = λ u e. C .roots (below u) refl;
           same = below-same;
           sound = λ u h. C .sound (below u) (l, s .sound (link (byte j) u after) (omega arith, omega arith, h, g));
-          lift = λ F w u v e z. C .lift F w (below u) (below v) (below-lift F w u v e z) tt;
+          around = λ x. C .around (belowT x);
+          trees = λ u. C .trees (below u) ∙ ap (λ (cs : Children). C .around (inner cs)) (s .kids (link (byte j) u after));
+          count = below-count;
+          lift = λ F w x z. ap (C .around) (below-lift F w x z) ∙ C .lift F w (belowT x) (kept-below F w x);
         }
 
   -- a state of the whole and a state of the subtree, the rest beside it

@@ -1,6 +1,6 @@
 -- The first free node as an empty leaf for a byte that is missing: `linkLeaf` keeps the state.
-use Prim.Native.Nat.{ℕ, suc, _+_, _*_, _/_, _<_, _≤_}
-use mathlib.Core.Path.{_≡_, ap, _∙_, sym, subst}
+use Prim.Native.Nat.{ℕ, suc, _+_, _*_, _-_, _/_, _<_, _≤_}
+use mathlib.Core.Path.{_≡_, refl, ap, _∙_, sym, subst}
 use mathlib.Core.List.{List, [], _∷_}
 use mathlib.Core.Bool.{false}
 use native.Mathlib.Omega.{arith}
@@ -8,11 +8,13 @@ use borrow.Author.Tests.{eqb-false}
 use lib.ListN.{getD, length-set}
 use Rattle.meaning.specs.Trie.{leaf, Children, child, nodes}
 use Rattle.layout.specs.Nodes.{chainWord, withLink, stateAt, freeState, innerState, leafState}
+use Rattle.trie.specs.declared.Got.the-variants.{Node}
 use Rattle.trie.specs.Heap.{Cells, Holds, Heap, nil, node, _⊕_}
-use Rattle.trie.specs.Model.{linkAt, linkLeaf}
+use Rattle.trie.specs.Model.{linkAt, linkLeaf, freshLeaf, made}
 use Rattle.trie.specs.Phys.{Phys, Buckets, Chain, root, kids, kidsC, first, noHeads, freeCells, cells, cellsC, SoundC, State, leafP, innerP, stop, link}
 use Rattle.trie.proofs.Frame.{Less, less, Same, node-write3, nodes-kept}
 use Rattle.trie.proofs.Abstract.{Skips, Above}
+use Rattle.trie.proofs.Steps.{fresh-made}
 use Rattle.trie.proofs.Spot.{starts, root-below, SpotB}
 use Rattle.trie.proofs.Context.{whole, below, rest}
 
@@ -111,6 +113,12 @@ module _ (cap pcap base : ℕ) (small : cap ≤ 262144) where
           chain = h .holds .0;
           below = st .below .1;
         }
+
+    pub fresh-is : freshLeaf N cap (s .slot) b free ≡ made (linkLeaf N cap (s .slot) f b) (Node f (getD N f 0))
+    fresh-is =
+        let e : free - 1 ≡ f = omega (arith, st .chain) in
+        let l : f < cap = st .below .0 in
+        sym (rw e at (fresh-made N cap (s .slot) b free (omega (arith, st .chain)) (linkLeaf N cap (s .slot) (free - 1) b) (omega arith) refl))
 
     -- where the empty leaf makes no difference to a function, its node makes none
     pub fresh-kids : (F : Children → Children) → Skips b F → ((cs : Children) → Above b cs → F (child b (leaf []) cs) ≡ F cs) →

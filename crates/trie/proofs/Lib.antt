@@ -11,3 +11,4 @@ pub mod Split
 pub mod Spans
 pub mod Grow
 pub mod Ways
+pub mod Insert

@@ -1,5 +1,5 @@
 -- On a state with an inner node all of whose children are leaves, `putLeafM` is `putLeaf`, if there are free nodes enough.
-use Prim.Native.Nat.{ℕ, suc, _+_, _*_, _-_, _/_, _<_, _≤_}
+use Prim.Native.Nat.{ℕ, suc, _+_, _*_, _/_, _<_, _≤_}
 use mathlib.Core.Path.{_≡_, refl, ap, _∙_, sym, subst}
 use mathlib.Core.List.{List, [], _∷_}
 use mathlib.Core.Bool.{Bool, true, false, false≢true}
@@ -10,14 +10,14 @@ use Rattle.meaning.specs.Trie.{leaf, Children, child, push, putLeaf, nodes, nod
 use Rattle.trie.specs.declared.Got.the-variants.{Node}
 use Rattle.trie.specs.declared.Place.the-variants.{Found, Missing}
 use Rattle.trie.specs.Heap.{Cells, page, _⊕_}
-use Rattle.trie.specs.Model.{findPlace, linkLeaf, freshLeaf, childLeaf, pushNodes, pushPages, pushPage, After, putLeafM, made, pushed, after}
+use Rattle.trie.specs.Model.{findPlace, linkLeaf, childLeaf, pushNodes, pushPages, pushPage, After, putLeafM, made, pushed, after}
 use Rattle.trie.specs.Phys.{Phys, Buckets, Chain, kids, kidsC, Sound, SoundC, State, leafP, innerP, stop, link}
 use Rattle.trie.proofs.Frame.{same-swap}
 use Rattle.trie.proofs.Abstract.{Leaves, put-skips, put-here, put-new}
-use Rattle.trie.proofs.Steps.{fresh-made, child-found, child-made, put-done}
+use Rattle.trie.proofs.Steps.{child-found, child-made, put-done}
 use Rattle.trie.proofs.Spot.{starts, headC, answer, SpotB}
 use Rattle.trie.proofs.Context.{Context, whole, below, rest, inside, enter, leave, beside}
-use Rattle.trie.proofs.Fresh.{past, tail-above, fresh-state}
+use Rattle.trie.proofs.Fresh.{past, tail-above, fresh-state, fresh-is}
 use Rattle.trie.proofs.Push.{push-ok, push-state}
 
 -- what `putLeafM` comes to
@@ -110,11 +110,8 @@ module _ (cap pcap base : ℕ) (small : cap ≤ 262144) (n b p : ℕ) (bs : Buck
         let N1 : List ℕ = linkLeaf N cap (s .slot) f b in
         let t = fresh-state cap pcap base small st s lb h in
         let g : SoundC cap pcap (s .tail) (suc b) (32 * (b / 32) + 32) = past cap pcap base small (s .tail) b (32 * (b / 32) + 32) h (s .from) in
-        let e : free - 1 ≡ f = omega (arith, st .chain) in
         let lf : f < cap = st .below .0 in
-        let w : made N1 (Node f (getD N f 0)) ≡ freshLeaf N cap (s .slot) b free =
-        rw e at (fresh-made N cap (s .slot) b free (omega (arith, st .chain)) (linkLeaf N cap (s .slot) (free - 1) b) (omega arith) refl) in
-        let d : made N1 (Node f (getD N f 0)) ≡ childLeaf N cap n b free = child-made N cap n b free (Missing (s .slot)) (sym (place st false h)) N1 (Node f (getD N f 0)) (s .slot) refl w in
+        let d : made N1 (Node f (getD N f 0)) ≡ childLeaf N cap n b free = child-made N cap n b free (Missing (s .slot)) (sym (place st false h)) N1 (Node f (getD N f 0)) (s .slot) refl (sym (fresh-is cap pcap base small st s lb h)) in
         record {
           nodesTo = pushNodes N1 cap f p;
           pagesTo = pushPages N1 P cap base f p;

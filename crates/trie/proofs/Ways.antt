@@ -6,7 +6,7 @@ use mathlib.Core.Bool.{Bool, true, false}
 use native.Mathlib.Omega.{arith}
 use native.Mathlib.Numerals.{add-one}
 use lib.ListN.{length, getD}
-use Rattle.meaning.specs.Trie.{inner}
+use Rattle.meaning.specs.Trie.{Tree, inner, child}
 use Rattle.layout.specs.Nodes.{stateAt}
 use Rattle.trie.specs.declared.Reach.{Reach}
 use Rattle.trie.specs.declared.Reach.the-variants.{Leaf, Gap}
@@ -39,6 +39,33 @@ module _ (cap pcap base : ℕ) (small : cap ≤ 262144) (Y : List ℕ) (bytes : 
     at-leaf : (j : ℕ) (s : Step t top j) (c : ℕ) (ps : List ℕ) (rest : Chain) → s .spot .tail ≡ link (getD Y j 0) (leafP c ps) rest → Way t top (Leaf (s .spot .slot) c (j + 1))
     at-gap : (j : ℕ) (s : Step t top j) → starts (s .spot .tail) (getD Y j 0) ≡ false → Way t top (Gap (s .spot .slot) j)
 
+  -- a child at the next byte, before others: what is done to it is done to the whole
+  module _ {t : Phys} {top j : ℕ} (s : Step t top j) where
+    pub down : (m : ℕ) (rest : Chain) → SoundC cap pcap rest (suc (getD Y j 0)) (32 * (getD Y j 0 / 32) + 32) → Context cap pcap base small byteOfY 0 top (suc j) m
+    down m rest g = inside cap pcap base small byteOfY (s .context) (s .bs) (s .spot) m rest (s .sound .0) (bytes j) g
+
+    pub down-put : (m : ℕ) (rest : Chain) (g : SoundC cap pcap rest (suc (getD Y j 0)) (32 * (getD Y j 0 / 32) + 32)) (u : Phys) →
+        down m rest g .put u ≡ s .context .put (innerP (s .n) (s .spot .put (link (getD Y j 0) u rest)))
+    unfolding down inside
+    down-put m rest g u = refl
+
+    pub down-around : (m : ℕ) (rest : Chain) (g : SoundC cap pcap rest (suc (getD Y j 0)) (32 * (getD Y j 0 / 32) + 32)) (x : Tree) →
+        down m rest g .around x ≡ s .context .around (inner (s .spot .before (child (getD Y j 0) x (kidsC rest (s .spot .later)))))
+    unfolding down inside
+    down-around m rest g x = refl
+
+    pub here : tree t ≡ s .context .around (inner (kids (s .bs)))
+    here = ap tree (sym (s .whole)) ∙ s .context .trees (innerP (s .n) (s .bs))
+
+    module _ (u : Phys) (rest : Chain) (e : s .spot .tail ≡ link (getD Y j 0) u rest) where
+      pub child-sound : Sound cap pcap u × SoundC cap pcap rest (suc (getD Y j 0)) (32 * (getD Y j 0 / 32) + 32)
+      child-sound = let z : SoundC cap pcap (link (getD Y j 0) u rest) (getD Y j 0) (32 * (getD Y j 0 / 32) + 32) = rw e at (s .spot .from) in (z .2, z .3)
+
+      pub down-whole : down (root u) rest (child-sound .1) .put u ≡ t
+      unfolding down inside
+      down-whole =
+          ap (λ (y : Chain). s .context .put (innerP (s .n) (s .spot .put y))) (sym e) ∙ ap (λ (y : Buckets). s .context .put (innerP (s .n) y)) (s .spot .whole) ∙ s .whole
+
   module _ (N P : List ℕ) (t : Phys) (top : ℕ) where
     abbrev Goes : ℕ → ℕ → ℕ → Type 0
     Goes slot n j = (r : Reach) × (descend N cap Y slot n j (length Y - j) ≡ r) × Way t top r
@@ -67,20 +94,10 @@ module _ (cap pcap base : ℕ) (small : cap ≤ 262144) (Y : List ℕ) (bytes : 
       child-holds : (u : Phys) (rest : Chain) → tail ≡ link b u rest → Holds (cells cap base u) N P
       child-holds u rest e = (rw e at chain-holds) .1 .0
 
-      child-sound : (u : Phys) (rest : Chain) → tail ≡ link b u rest → Sound cap pcap u × SoundC cap pcap rest (suc b) (32 * (b / 32) + 32)
-      child-sound u rest e = let z : SoundC cap pcap (link (getD Y j 0) u rest) (getD Y j 0) (32 * (getD Y j 0 / 32) + 32) = rw e at (s .spot .from) in (z .2, z .3)
-
       child-shallow : (u : Phys) (rest : Chain) → tail ≡ link b u rest → Shallow (tree u) (length Y) (suc j)
       child-shallow u rest e =
           let k : kids (s .bs) ≡ s .spot .before (kidsC (s .spot .tail) (s .spot .later)) = ap kids (sym (s .spot .whole)) ∙ s .spot .kids (s .spot .tail) in
           (rw e at (s .spot .shallow (length Y) (suc j) (kidsC (s .spot .tail) (s .spot .later)) (rw k at (sh .1)))) .0
-
-      down : (u : Phys) (rest : Chain) → tail ≡ link b u rest → Context cap pcap base small byteOfY 0 top (suc j) (root u)
-      down u rest e = inside cap pcap base small byteOfY (s .context) (s .bs) (s .spot) (root u) rest (s .sound .0) (bytes j) (child-sound u rest e .1)
-
-      down-whole : (u : Phys) (rest : Chain) (e : tail ≡ link b u rest) → down u rest e .put u ≡ t
-      unfolding down inside
-      down-whole u rest e = ap (λ (y : Chain). s .context .put (innerP (s .n) (s .spot .put y))) (sym e) ∙ ap (λ (y : Buckets). s .context .put (innerP (s .n) y)) (s .spot .whole) ∙ s .whole
 
       Deeper : Type 0
       Deeper = (k slot' : ℕ) (ds : Buckets) (C : Context cap pcap base small byteOfY 0 top (suc j) k) → Sound cap pcap (innerP k ds) → C .put (innerP k ds) ≡ t →
@@ -94,7 +111,7 @@ module _ (cap pcap base : ℕ) (small : cap ≤ 262144) (Y : List ℕ) (bytes : 
         at-leaf j s c ps rest e,
       )
       goes-child (innerP k ds) rest e q more =
-          let r = more k (s .spot .slot) ds (down (innerP k ds) rest e) (child-sound (innerP k ds) rest e .0) (down-whole (innerP k ds) rest e) (child-shallow (innerP k ds) rest e) (child-holds (innerP k ds) rest e) in
+          let r = more k (s .spot .slot) ds (down s k rest (child-sound s (innerP k ds) rest e .1)) (child-sound s (innerP k ds) rest e .0) (down-whole s (innerP k ds) rest e) (child-shallow (innerP k ds) rest e) (child-holds (innerP k ds) rest e) in
           (r .0, onto (innerP k ds) rest e q ∙ rw (add-one j) (r .1), r .2)
 
       goes-on : Deeper → Goes slot (s .n) j
