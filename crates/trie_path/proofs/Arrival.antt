@@ -33,10 +33,15 @@ pub record Leads (bytesOf : ℕ → List ℕ) (p : ℕ) (t : Tree) (Y : List ℕ
   pub shallow : (k : ℕ) (cs : Children) → hasPath (pathOf bytesOf 0 p k) t ≡ true → subtree (pathOf bytesOf 0 p k) t ≡ inner cs → k < length Y
 
 -- a sound trie is not
-pub sound-shallow : (bytesOf : ℕ → List ℕ) (b n len p : ℕ) (t : Tree) → soundTrie bytesOf b n len 0 t ≡ true →
-    (k : ℕ) (cs : Children) → hasPath (pathOf bytesOf 0 p k) t ≡ true → subtree (pathOf bytesOf 0 p k) t ≡ inner cs → k < len
-sound-shallow bytesOf b n len p t g k cs h e =
-    inner-parts bytesOf b n len k cs (rw (path-length bytesOf 0 p k, zero-add k, e) at (subtree-sound bytesOf b n len 0 (pathOf bytesOf 0 p k) t g h)) .level
+pub sound-leads : (bytesOf : ℕ → List ℕ) (b n p : ℕ) (t : Tree) (Y : List ℕ) → soundTrie bytesOf b n (length Y) 0 t ≡ true →
+    ((k : ℕ) → k < length Y → byteAt bytesOf k p ≡ getD Y k 0) → ((k : ℕ) → getD Y k 0 < 256) → Leads bytesOf p t Y
+sound-leads bytesOf b n p t Y g e o =
+    record {
+      bytes = e;
+      octets = o;
+      shallow = λ k cs h q.
+          inner-parts bytesOf b n (length Y) k cs (rw (path-length bytesOf 0 p k, zero-add k, q) at (subtree-sound bytesOf b n (length Y) 0 (pathOf bytesOf 0 p k) t g h)) .level;
+    }
 
 module _ (cap pcap base : ℕ) (small : cap ≤ 262144) (bytesOf : ℕ → List ℕ) (p : ℕ) where
   -- the node at level k that has u as a child, linked from slot s
