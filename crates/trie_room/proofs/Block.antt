@@ -1,5 +1,5 @@
 -- On tables that hold a trie, `nodesNeeded` is `needed`.
-use Prim.Native.Nat.{ℕ, zero, suc, _+_, _-_, _<_, _≤_}
+use Prim.Native.Nat.{ℕ, suc, _-_, _<_, _≤_}
 use native.Mathlib.Nat.{zero-add}
 use native.Mathlib.Omega.{arith}
 use mathlib.Core.Path.{_≡_, refl, sym, ap, _∙_, subst}
@@ -9,16 +9,17 @@ use lib.Dec.{ltb, leb, eqb}
 use lib.ListN.{length, getD}
 use borrow.Author.Tests.{ltb-true, lt-ltb, le-ltb, leb-true, leb-false}
 use Rattle.meaning.specs.Lists.{any, count}
-use Rattle.meaning.specs.Trie.{Tree, leaf, inner, byteAt}
-use Rattle.layout.specs.Nodes.{stateAt, leafState}
-use Rattle.trie.specs.declared.Level.{Level}
+use Rattle.meaning.specs.Trie.{leaf, byteAt}
+use Rattle.meaning.specs.Ledger.{Settings}
+use Rattle.layout.specs.Nodes.{stateAt}
 use Rattle.trie.specs.declared.Rows.{Rows}
-use Rattle.trie.specs.declared.Span.the-variants.{Enough, Short}
-use Rattle.trie.specs.Heap.{Cells, pageClaims, _⊕_}
+use Rattle.trie.specs.Heap.{Cells, _⊕_}
 use Rattle.trie.specs.Model.{pageByte, spanFrom, levelAt}
-use Rattle.trie.specs.Phys.{Phys, root, tree, kids, first, pageCells, Below, State, leafP, innerP}
+use Rattle.trie.specs.Phys.{Phys, root, tree, kids, first, Below, State, leafP}
 use Rattle.trie.proofs.Context.{enter}
-use Rattle.trie_laws.specs.Sound.{pagesIn}
+use Rattle.trie.proofs.Spans.{Linked, spanOf, span-right, pages-linked, frees-linked}
+use Rattle.trie.proofs.Grow.{leaf-most}
+use Rattle.trie_laws.specs.Sound.{pagesIn, Agree}
 use Rattle.trie_laws.specs.Path.{pathOf, subtree}
 use Rattle.trie_laws.specs.Needed.{distinct, splits, splitNodes, needed}
 use Rattle.trie_laws.proofs.Lists.{any-count}
@@ -30,11 +31,11 @@ use Rattle.trie_path.specs.declared.Reach.the-variants.{Leaf, Gap, Broken}
 use Rattle.trie_path.specs.Descend.{descendTo}
 use Rattle.trie_path.proofs.Spots.{spot-none}
 use Rattle.trie_path.proofs.Way.{Way}
-use Rattle.trie_path.proofs.Arrival.{Leads, AtLeaf, AtGap, Arrives, arrives}
+use Rattle.trie_path.proofs.Arrival.{Leads, Arrives, arrives}
 use Rattle.trie_room.specs.declared.needed.Needed.the-variants.{Nodes}
+use Rattle.trie_room.specs.RowBytes.{rowBytes, rowsOf}
 use Rattle.trie_room.specs.Needs.{distinctBytes, whereLong, leafNeeds, gapNeeds, neededAt, nodesNeeded}
-use Rattle.trie.proofs.Spans.{Linked, span-right, pages-linked}
-use Rattle.trie.proofs.Grow.{leaf-most}
+use Rattle.trie_room.proofs.RowBytes.{level-byte}
 use Rattle.trie_room.proofs.Distinct.{distinct-right}
 
 module _ (bytesOf : ℕ → List ℕ) (P S τ : List ℕ) (pcap base : ℕ) (r : Rows) (Y : List ℕ) (p : ℕ) (bytes : (k : ℕ) → k < length Y → byteAt bytesOf k p ≡ getD Y k 0) where
@@ -81,7 +82,8 @@ module _ {cap pcap base : ℕ} (small : cap ≤ 262144) (bytesOf : ℕ → List 
 
   module _ {Y : List ℕ} (y : Leads bytesOf p (tree t) Y) (S τ : List ℕ) (r : Rows)
       (reads : (k x : ℕ) → any (eqb x) (pagesIn (tree t)) ≡ true → byteAt bytesOf k x ≡ pageByte S (levelAt r k) x) where
-    at-right : (g : Reach) → Arrives cap pcap base small bytesOf p t g → neededAt P S τ pcap base r Y N cap g ≡ Nodes (needed bytesOf (length Y) τ 0 p (tree t))
+    -- where a descent has arrived
+    pub at-right : (g : Reach) → Arrives cap pcap base small bytesOf p t g → neededAt P S τ pcap base r Y N cap g ≡ Nodes (needed bytesOf (length Y) τ 0 p (tree t))
     at-right (Leaf n s k) a =
         let ps : List ℕ = a .pages in
         let u = part (a .way) in
@@ -94,7 +96,18 @@ module _ {cap pcap base : ℕ} (small : cap ≤ 262144) (bytesOf : ℕ → List 
         (ap Nodes (gap-right bytesOf τ (length Y) p (suc k)))
     at-right Broken a = absurd a
 
-    -- the law of `nodes_needed`
     pub needed-right : nodesNeeded P S τ pcap base r Y N cap (root t) ≡ Nodes (needed bytesOf (length Y) τ 0 p (tree t))
     unfolding nodesNeeded
     needed-right = at-right (descendTo N cap (root t) Y) (arrives cap pcap base small bytesOf p st y)
+
+module _ {cap pcap base : ℕ} {N P : List ℕ} {free : ℕ} {t : Phys} {fs : List ℕ} {G : Cells} (st : State cap pcap base N P free t fs G) where
+  -- the law of `nodes_needed` in block j: the trie's pages have the bytes of their rows there
+  pub needed-block : (bytesOf : ℕ → List ℕ) (p : ℕ) {Y : List ℕ} → Leads bytesOf p (tree t) Y → (S τ : List ℕ) (s : Settings) (j : ℕ) → j < s .blocks →
+      Agree bytesOf (rowBytes s j S) (pagesIn (tree t)) → nodesNeeded P S τ pcap base (rowsOf s j) Y N cap (root t) ≡ Nodes (needed bytesOf (length Y) τ 0 p (tree t))
+  unfolding byteAt
+  needed-block bytesOf p y S τ s j h e =
+      needed-right (st .nodeTable .small) bytesOf p st y S τ (rowsOf s j) (λ k x m. ap (λ (ys : List ℕ). getD ys k 0) (e x m) ∙ level-byte s j h S k x)
+
+  -- the law of `enough_free`
+  pub free-right : (n : ℕ) → spanFrom N 0 cap free n ≡ spanOf n (length fs)
+  free-right n = span-right N 0 cap fs free n (frees-linked N P cap fs (st .heap .holds .1 .0)) (st .below) (st .chain)

@@ -1,7 +1,8 @@
 -- On tables that hold a leaf's pages, `distinctBytes` counts the children that the leaf gets.
-use Prim.Native.Nat.{ℕ, _≤_}
-use mathlib.Core.Path.{_≡_, refl, sym, ap, _∙_}
-use mathlib.Core.Bool.{Bool, true}
+use Prim.Native.Nat.{ℕ, _+_, _-_, _≤_}
+use native.Mathlib.Omega.{arith}
+use mathlib.Core.Path.{_≡_, refl, ap, _∙_}
+use mathlib.Core.Bool.{true}
 use mathlib.Core.List.{List, [], _∷_, map}
 use lib.Dec.{eqb}
 use lib.ListN.{length}
@@ -11,12 +12,21 @@ use Rattle.meaning.specs.Trie.{byteAt}
 use Rattle.trie.specs.declared.Level.{Level}
 use Rattle.trie.specs.Model.{pageByte}
 use Rattle.trie.specs.Phys.{first, Below}
+use Rattle.trie.proofs.Spans.{Linked}
 use Rattle.trie_laws.specs.Needed.{distinct}
 use Rattle.trie_laws.proofs.Lists.{or-first, or-second}
 use Rattle.trie_room.specs.declared.needed.Needed.the-variants.{Nodes}
-use Rattle.trie_room.specs.Needs.{bytesWith, distinctBytes}
-use Rattle.trie.proofs.Spans.{Linked}
-use Rattle.trie_room.proofs.Chains.{chain-whole}
+use Rattle.trie_room.specs.Chains.{whole, ahead, chainFrom}
+use Rattle.trie_room.specs.Needs.{distinctBytes}
+use Rattle.trie_room.proofs.Count.{chain-none, chain-next}
+
+-- a chain that lies in a table
+chain-whole : (T : List ℕ) (base cap : ℕ) (xs : List ℕ) (f : ℕ) → Linked T base xs → Below cap xs → length xs ≤ f → chainFrom T base cap (first xs) f ≡ whole xs
+chain-whole T base cap [] f h b l = chain-none T base cap 0 f refl
+chain-whole T base cap (x ∷ xs) f h b l =
+    let e : x + 1 - 1 ≡ x = omega arith in
+    chain-next T base cap (x + 1) f (λ z. omega arith) (λ z. omega arith) (omega (arith, b .0))
+    ∙ rw (e, h .0) (ap (ahead x) (chain-whole T base cap xs (f - 1) (h .1) (b .1) (omega arith)))
 
 -- two readings that agree on the pages
 map-agree : (f g : ℕ → ℕ) (ps : List ℕ) → ((x : ℕ) → any (eqb x) ps ≡ true → f x ≡ g x) → map f ps ≡ map g ps

@@ -1,6 +1,5 @@
 -- On any tables, an answer is small.
 use Prim.Native.Nat.{ℕ, zero, suc, _+_, _-_, _≤_}
-use mathlib.Core.Path.{_≡_, refl}
 use mathlib.Core.Bool.{Bool, true, false, cond, _&&_}
 use mathlib.Core.List.{List, [], _∷_, map}
 use native.Mathlib.Omega.{arith}
@@ -12,13 +11,12 @@ use Rattle.trie.specs.declared.Level.{Level}
 use Rattle.trie.specs.declared.Span.{Span}
 use Rattle.trie.specs.declared.Span.the-variants.{Enough, Short, Wild}
 use Rattle.trie.specs.Model.{pageByte, spanFrom, levelAt}
-use Rattle.trie_laws.specs.Needed.{distinctFrom}
 use Rattle.trie_laws.proofs.Distinct.{distinct-length}
 use Rattle.trie_path.specs.declared.Reach.{Reach}
 use Rattle.trie_path.specs.declared.Reach.the-variants.{Leaf, Gap, Broken as Lost}
 use Rattle.trie_path.specs.Descend.{descendTo}
 use Rattle.trie_room.specs.declared.needed.Needed.{Needed}
-use Rattle.trie_room.specs.declared.needed.Needed.the-variants.{Nodes, Broken}
+use Rattle.trie_room.specs.declared.needed.Needed.the-variants.{Nodes}
 use Rattle.trie_room.specs.Chains.{Chained, whole, broken, ahead, nextLink, chainFrom}
 use Rattle.trie_room.specs.Needs.{countIn, bytesWith, distinctBytes, whereLong, gapNeeds, leafNeeds, neededAt, nodesNeeded}
 

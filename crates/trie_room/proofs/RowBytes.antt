@@ -2,7 +2,7 @@
 use mathlib.Core.Path.{_≡_, refl, sym, ap, _∙_}
 use mathlib.Core.Logic.{by-cases}
 use mathlib.Core.Bool.{true}
-use mathlib.Core.List.{List, [], _∷_, map}
+use mathlib.Core.List.{List, [], _∷_}
 use Prim.Native.Nat.{ℕ, zero, suc, _+_, _-_, _*_, _%_, _^_, _<_, _≤_, min}
 use native.Mathlib.Nat.{mod-lt, mod-eq-of-lt, zero-mod}
 use native.Mathlib.Decide.{decLt, decLe}
@@ -18,6 +18,7 @@ use Rattle.meaning.specs.Trie.{byteAt}
 use Rattle.meaning.specs.Ledger.{Settings}
 use Rattle.meaning.specs.Forest.{blockBytes, bytesOfSketch}
 use Rattle.layout.specs.Pages.{rowOf}
+use Rattle.layout.specs.Header.{headerOf, bare}
 use Rattle.sketch.specs.Settings.{Bits}
 use Rattle.sketch.proofs.Lists.{window}
 use Rattle.sketch.proofs.BlockEnds.{block-ends}
@@ -76,6 +77,11 @@ unfolding rowBytes
 row-same s j S p r = rw (reduced-same (s .bits) (rowOf (s .symbols) S p) r)
 
 -- ---- block j
+-- a header has all that is asked of settings
+pub rows-bare : (s : Settings) (j : ℕ) → rowsOf (bare (headerOf s)) j ≡ rowsOf s j
+unfolding rowsOf blockBytes
+rows-bare s j = refl
+
 -- the symbols of byte k of a block of len symbols, as far as it has them
 part : (z len k : ℕ) (xs : List ℕ) → take (min z (len - k * z)) (drop (k * z) xs) ≡ take (min z (len - k * z)) (drop (min (k * z) len) xs)
 part z len k xs =

@@ -1,5 +1,5 @@
 -- How many nodes an add needs in one block. N is the node table, P the page table, S the sketch table.
-use Prim.Native.Nat.{ℕ, suc, _+_, _-_}
+use Prim.Native.Nat.{ℕ, suc, _-_}
 use mathlib.Core.Bool.{false, cond, _&&_}
 use mathlib.Core.List.{List, _∷_, map}
 use lib.Dec.{ltb, eqb}

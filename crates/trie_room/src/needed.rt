@@ -58,7 +58,8 @@ pub fn distinct_bytes(
     Needed::Nodes(n)
 }
 
-// A leaf at level k that takes a page with this byte there: where it has as many pages as the threshold already, it splits.
+// A leaf at level k, its first page at a link, that takes a page with this byte there: it splits where it has as many pages as the
+// threshold already.
 fn leaf_needs(
     pages: &[u32],
     sketches: &[u8],
@@ -76,13 +77,8 @@ fn leaf_needs(
     requires { ⌜ byte < 256 ⌝ }
     ensures { λ r. ⌜ r ≡ leafNeeds (now (pages .entry)) (now (sketches .entry)) (now (thresholds .entry)) (block .pages) (block .base) rows k first byte ⌝ }
 {
-    let span = at_least(
-        pages,
-        block.base,
-        block.pages,
-        first,
-        thresholds[k] as usize,
-    );
+    let most = thresholds[k] as usize;
+    let span = at_least(pages, block.base, block.pages, first, most);
     match span {
         Span::Enough => {
             let level = level_at(rows, k);
@@ -93,7 +89,7 @@ fn leaf_needs(
     }
 }
 
-// A new leaf at level k, of so many levels with a byte: it splits at once where the threshold is 0.
+// A new leaf at level k, where so many levels have a byte: it splits at once where the threshold is 0.
 fn gap_needs(thresholds: &[u32], bytes: usize, k: usize) -> usize
     requires { ⌜ bytes ≤ length (now thresholds) ⌝ }
     ensures { λ r. ⌜ r ≡ gapNeeds (now (thresholds .entry)) bytes k ⌝ }
@@ -107,7 +103,7 @@ fn gap_needs(thresholds: &[u32], bytes: usize, k: usize) -> usize
     1
 }
 
-// Where the bytes of the new page lead.
+// An add of a page whose bytes lead there.
 pub fn needed_at(
     nodes: &[u32],
     pages: &[u32],
@@ -148,7 +144,7 @@ pub fn needed_at(
     }
 }
 
-// An add of a page with these bytes, in the trie with this root.
+// An add of a page with these bytes to the trie with this root.
 pub fn nodes_needed(
     nodes: &[u32],
     pages: &[u32],

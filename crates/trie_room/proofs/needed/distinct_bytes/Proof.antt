@@ -8,7 +8,7 @@ use lib.ListN.{length, replicate, length-set}
 use Rattle.trie.specs.Model.{pageByte}
 use Rattle.trie_room.specs.Chains.{chainFrom}
 use Rattle.trie_room.specs.Needs.{distinctBytes}
-use Rattle.trie_room.proofs.Steps.{counted, flagged, flag-most, no-flags, count-start, bytes-done, bytes-long, bytes-wild, bytes-next}
+use Rattle.trie_room.proofs.Count.{counted, flagged, flag-most, no-flags, count-start, bytes-done, bytes-long, bytes-wild, bytes-next}
 use Rattle.trie_room.proofs.needed.distinct_bytes.Statement.{statement}
 use Rattle.trie_room.proofs.needed.distinct_bytes.Tie as tie
 

@@ -1,5 +1,5 @@
 -- `gap_needs` is `gapNeeds`.
-use Rattle.trie_room.proofs.Steps.{gap-deep, gap-splits, gap-stays}
+use Rattle.trie_room.proofs.Ways.{gap-deep, gap-splits, gap-stays}
 use borrow.Author.Needs.{needs}
 use Rattle.trie_room.proofs.needed.gap_needs.Statement.{statement}
 use Rattle.trie_room.proofs.needed.gap_needs.Tie as tie

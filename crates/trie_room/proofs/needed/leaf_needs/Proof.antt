@@ -1,19 +1,19 @@
 -- `leaf_needs` is `leafNeeds`.
 use native.Mathlib.Omega.{arith}
 use Rattle.trie.proofs.Bytes.{level-path}
-use Rattle.trie_room.proofs.Steps.{leaf-splits, leaf-stays, leaf-wild}
+use Rattle.trie_room.proofs.Ways.{leaf-splits, leaf-stays, leaf-wild}
 use borrow.Author.Needs.{needs}
 use Rattle.trie_room.proofs.needed.leaf_needs.Statement.{statement}
 use Rattle.trie_room.proofs.needed.leaf_needs.Tie as tie
 
-mul-at-least : tie.Need-mul-at-least
-mul-at-least c = search needs
+mul-most : tie.Need-mul-most
+mul-most c = search needs
 
-shared-slice-read-at-least : tie.Need-shared-slice-read-at-least
-shared-slice-read-at-least c = search needs
+shared-slice-read-most : tie.Need-shared-slice-read-most
+shared-slice-read-most c = search needs
 
-cast-at-least : tie.Need-cast-at-least
-cast-at-least c = omega (arith, c .shared-slice-known4 .given (c .before .before .before .before .args .k))
+cast-most : tie.Need-cast-most
+cast-most c = omega (arith, c .shared-slice-known4 .given (c .before .before .before .before .args .k))
 
 at-least-requires : tie.Need-at-least-requires
 at-least-requires c κs = search needs
@@ -46,9 +46,9 @@ pub leaf-needs-spec : {M : Type 1} → statement M
 leaf-needs-spec =
     tie.close
     (tie.spec
-    mul-at-least
-    shared-slice-read-at-least
-    cast-at-least
+    mul-most
+    shared-slice-read-most
+    cast-most
     at-least-requires
     enum-told
     level-at-requires

@@ -2,7 +2,7 @@
 use native.Mathlib.Omega.{arith}
 use Prim.Native.Nat.{_+_, _<_}
 use lib.ListN.{getD}
-use Rattle.trie_room.proofs.Steps.{leaf-in, gap-in, at-end, at-leaf, at-gap, at-none}
+use Rattle.trie_room.proofs.Ways.{leaf-in, gap-in, at-end, at-leaf, at-gap, at-none}
 use borrow.Author.Needs.{needs}
 use Rattle.trie_room.proofs.needed.needed_at.Statement.{statement}
 use Rattle.trie_room.proofs.needed.needed_at.Tie as tie

@@ -1,0 +1,70 @@
+-- The models without a loop, by each way through the code.
+use Prim.Native.Nat.{ℕ, _+_, _-_, _<_, _≤_}
+use mathlib.Core.Path.{_≡_, refl, ap, _∙_, sym}
+use mathlib.Core.List.{List}
+use native.Mathlib.Numerals.{add-one}
+use borrow.Author.Tests.{le-ltb, lt-ltb, eq-eqb, ne-eqb}
+use lib.ListN.{length, getD}
+use Rattle.layout.specs.Nodes.{stateAt}
+use Rattle.trie.specs.declared.Level.{Level}
+use Rattle.trie.specs.declared.Rows.{Rows}
+use Rattle.trie.specs.declared.Span.{Span}
+use Rattle.trie.specs.declared.Span.the-variants.{Enough, Short, Wild}
+use Rattle.trie.specs.Model.{spanFrom, levelAt}
+use Rattle.trie_path.specs.declared.Reach.{Reach}
+use Rattle.trie_path.specs.declared.Reach.the-variants.{Leaf, Gap, Broken as Lost}
+use Rattle.trie_path.specs.Descend.{Inside}
+use Rattle.trie_room.specs.declared.needed.Needed.{Needed}
+use Rattle.trie_room.specs.declared.needed.Needed.the-variants.{Nodes, Broken}
+use Rattle.trie_room.specs.Needs.{distinctBytes, gapNeeds, leafNeeds, neededAt}
+
+-- `gapNeeds`
+module _ (τ : List ℕ) (len k : ℕ) where
+  pub gap-deep : len ≤ k → 1 ≡ gapNeeds τ len k
+  unfolding gapNeeds
+  gap-deep l = rw (le-ltb k len l) refl
+
+  module _ (l : k < len) where
+    pub gap-splits : getD τ k 0 ≡ 0 → 2 ≡ gapNeeds τ len k
+    unfolding gapNeeds
+    gap-splits e = rw (lt-ltb k len l, eq-eqb (getD τ k 0) 0 e) refl
+
+    pub gap-stays : (getD τ k 0 ≡ 0 → ⊥) → 1 ≡ gapNeeds τ len k
+    unfolding gapNeeds
+    gap-stays e = rw (lt-ltb k len l, ne-eqb (getD τ k 0) 0 e) refl
+
+-- `leafNeeds`
+module _ (P S τ : List ℕ) (pcap base : ℕ) (r : Rows) (k link byte : ℕ) (q : Span) (e : q ≡ spanFrom P base pcap link (getD τ k 0)) where
+  pub leaf-splits : q ≡ Enough → (v : Level) → v ≡ levelAt r k → (x : Needed) → x ≡ distinctBytes P S pcap base v link byte → x ≡ leafNeeds P S τ pcap base r k link byte
+  unfolding leafNeeds
+  leaf-splits z v w x u = rw (sym e ∙ z, ← w) u
+
+  pub leaf-stays : q ≡ Short → Nodes 0 ≡ leafNeeds P S τ pcap base r k link byte
+  unfolding leafNeeds
+  leaf-stays z = rw (sym e ∙ z) refl
+
+  pub leaf-wild : q ≡ Wild → Broken ≡ leafNeeds P S τ pcap base r k link byte
+  unfolding leafNeeds
+  leaf-wild z = rw (sym e ∙ z) refl
+
+-- what a match tells
+pub leaf-in : (N : List ℕ) (cap len : ℕ) (g : Reach) (n s k : ℕ) → g ≡ Leaf n s k → Inside N cap len g → (n < cap) × (1 < getD N (stateAt cap n) 0)
+leaf-in N cap len g n s k q h = let i : Inside N cap len (Leaf n s k) = rw q at h in (i .0, i .3)
+
+pub gap-in : (N : List ℕ) (cap len : ℕ) (g : Reach) (n s k : ℕ) → g ≡ Gap n s k → Inside N cap len g → k < len
+gap-in N cap len g n s k q h = let i : Inside N cap len (Gap n s k) = rw q at h in i .2
+
+-- `neededAt`
+module _ (P S τ : List ℕ) (pcap base : ℕ) (r : Rows) (Y N : List ℕ) (cap : ℕ) (g : Reach) where
+  module _ (n s k : ℕ) (q : g ≡ Leaf n s k) where
+    pub at-end : length Y ≤ k → Nodes 0 ≡ neededAt P S τ pcap base r Y N cap g
+    at-end l = rw (q, le-ltb k (length Y) l) refl
+
+    pub at-leaf : k < length Y → (x : Needed) → x ≡ leafNeeds P S τ pcap base r k (getD N (stateAt cap n) 0 - 2) (getD Y k 0) → x ≡ neededAt P S τ pcap base r Y N cap g
+    at-leaf l x e = rw (q, lt-ltb k (length Y) l) e
+
+  pub at-gap : (n s k : ℕ) → g ≡ Gap n s k → (x : ℕ) → x ≡ gapNeeds τ (length Y) (k + 1) → Nodes x ≡ neededAt P S τ pcap base r Y N cap g
+  at-gap n s k q x e = rw q (ap Nodes (e ∙ ap (gapNeeds τ (length Y)) (add-one k)))
+
+  pub at-none : g ≡ Lost → Broken ≡ neededAt P S τ pcap base r Y N cap g
+  at-none q = rw q refl
