@@ -1,0 +1,2 @@
+// Add: a page's row, its leaf in each block's trie, and its live word and class.
+mod questions;
