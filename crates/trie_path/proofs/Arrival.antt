@@ -32,7 +32,7 @@ pub record Leads (bytesOf : ℕ → List ℕ) (p : ℕ) (t : Tree) (Y : List ℕ
   pub octets : (k : ℕ) → getD Y k 0 < 256
   pub shallow : (k : ℕ) (cs : Children) → hasPath (pathOf bytesOf 0 p k) t ≡ true → subtree (pathOf bytesOf 0 p k) t ≡ inner cs → k < length Y
 
--- a sound trie is not
+-- a sound trie is no deeper
 pub sound-leads : (bytesOf : ℕ → List ℕ) (b n p : ℕ) (t : Tree) (Y : List ℕ) → soundTrie bytesOf b n (length Y) 0 t ≡ true →
     ((k : ℕ) → k < length Y → byteAt bytesOf k p ≡ getD Y k 0) → ((k : ℕ) → getD Y k 0 < 256) → Leads bytesOf p t Y
 sound-leads bytesOf b n p t Y g e o =

@@ -11,7 +11,7 @@ use Rattle.trie.proofs.Spot.{starts, SpotB}
 use Rattle.trie.proofs.Fresh.{tail-above}
 use Rattle.trie_laws.specs.Path.{has, kid, setKid, dropKid, putKid}
 use Rattle.trie_laws.proofs.Lists.{holds, fails, truth}
-use Rattle.trie_laws.proofs.Kids.{has-putKid, kid-putKid, setKid-putKid, dropKid-putKid, dropKid-nodes}
+use Rattle.trie_laws.proofs.Kids.{has-put, kid-put, set-put, drop-put, drop-nodes}
 
 -- ---- a child put among others, and a child taken out where it is there
 put-skips : (b : ℕ) (u : Tree) → Skips b (putKid b u)
@@ -50,7 +50,7 @@ unfolding out
 out-none b cs e = elim (truth (has b cs)) [
   | holds h ↦
       let d : dropKid b cs ≡ cs = rw h at e in
-      absurd (omega (arith, rw d at (dropKid-nodes b cs h), some (kid b cs)))
+      absurd (omega (arith, rw d at (drop-nodes b cs h), some (kid b cs)))
   | fails h ↦ h
 ]
 
@@ -79,16 +79,16 @@ module _ (cap pcap base : ℕ) (small : cap ≤ 262144) {bs : Buckets} {n g b : 
     with-this = ap kids (sym (s .whole) ∙ ap (s .put) e) ∙ with-kid u
 
     pub spot-has : has b (kids bs) ≡ true
-    spot-has = ap (has b) with-this ∙ has-putKid b (tree u) (kids (s .put after))
+    spot-has = ap (has b) with-this ∙ has-put b (tree u) (kids (s .put after))
 
     pub spot-kid : kid b (kids bs) ≡ tree u
-    spot-kid = ap (kid b) with-this ∙ kid-putKid b (tree u) (kids (s .put after))
+    spot-kid = ap (kid b) with-this ∙ kid-put b (tree u) (kids (s .put after))
 
     pub spot-set : (v : Phys) → kids (s .put (link b v after)) ≡ setKid b (tree v) (kids bs)
-    spot-set v = with-kid v ∙ sym (ap (setKid b (tree v)) with-this ∙ setKid-putKid b (tree v) (tree u) (kids (s .put after)))
+    spot-set v = with-kid v ∙ sym (ap (setKid b (tree v)) with-this ∙ set-put b (tree v) (tree u) (kids (s .put after)))
 
     pub spot-drop : kids (s .put after) ≡ dropKid b (kids bs)
-    spot-drop = sym (ap (dropKid b) with-this ∙ dropKid-putKid b (tree u) (kids (s .put after)))
+    spot-drop = sym (ap (dropKid b) with-this ∙ drop-put b (tree u) (kids (s .put after)))
 
   -- none is there
   module _ (gap : starts (s .tail) b ≡ false) where

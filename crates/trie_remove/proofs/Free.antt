@@ -5,7 +5,7 @@ use mathlib.Core.Path.{_≡_, refl}
 use mathlib.Core.List.{List, [], _∷_}
 use lib.ListN.{getD, length-set}
 use Rattle.layout.specs.Nodes.{chainWord, withLink, stateAt, freeState, innerState, leafState}
-use Rattle.trie.specs.Heap.{Cells, Heap, node, _⊕_}
+use Rattle.trie.specs.Heap.{Cells, node, _⊕_}
 use Rattle.trie.specs.Model.{linkAt}
 use Rattle.trie.specs.Phys.{Buckets, Chain, first, noHeads, freeCells, cells, SoundC, State, leafP, innerP, link}
 use Rattle.trie.proofs.Frame.{Less, less, node-write3, nodes-kept}

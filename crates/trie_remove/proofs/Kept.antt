@@ -2,7 +2,7 @@
 use Prim.Native.Nat.{ℕ, _+_, _≤_}
 use native.Mathlib.Omega.{arith}
 use mathlib.Core.Path.{_≡_, refl, ap, _∙_, sym}
-use mathlib.Core.Bool.{true, false, cond}
+use mathlib.Core.Bool.{true}
 use mathlib.Core.List.{List}
 use borrow.Author.Tests.{eqb-true}
 use lib.Dec.{eqb}
@@ -41,14 +41,14 @@ module _ {N P : List ℕ} {xs ys G : Cells} (h : Heap N P (xs ⊕ ys ⊕ G)) (a 
         pages = λ x. omega (arith, hit-more a x (pageClaims (xs ⊕ ys) x) (λ e. ap (pageClaims (xs ⊕ ys)) (sym e) ∙ z) (omega (arith, h .pages x)));
       }
 
-module _ {cap pcap base : ℕ} (small : cap ≤ 262144) (bytesOf : ℕ → List ℕ) (p : ℕ) {N P : List ℕ} {free : ℕ} {t : Phys} {fs : List ℕ} {G : Cells} (st : State cap pcap base N P free t fs G)
-    {Y : List ℕ} (bits symbols len : ℕ) (sound : soundTrie bytesOf bits symbols len 0 (tree t) ≡ true) (stands : any (eqb p) (pagesIn (tree t)) ≡ true) (y : Leads bytesOf p (tree t) Y)
+module _ {cap pcap base : ℕ} (bytesOf : ℕ → List ℕ) (p : ℕ) {N P : List ℕ} {free : ℕ} {t : Phys} {fs : List ℕ} {G : Cells} (st : State cap pcap base N P free t fs G) {Y : List ℕ}
+    (y : Leads bytesOf p (tree t) Y) (bits symbols len : ℕ) (sound : soundTrie bytesOf bits symbols len 0 (tree t) ≡ true) (stands : any (eqb p) (pagesIn (tree t)) ≡ true)
     (d : RemoveDone cap pcap base bytesOf p N P t fs G (removePage N P cap pcap base (root t) Y p free)) (a : ℕ) where
   with : (G' : Cells) → Heap N P (cells cap base t ⊕ freeCells cap fs ⊕ G') → RemoveDone cap pcap base bytesOf p N P t fs G' (removePage N P cap pcap base (root t) Y p free)
   with G' h =
-      remove-right small bytesOf p
+      remove-right bytesOf p
       (record { nodeTable = st .nodeTable; pageTable = st .pageTable; heap = h; sound = st .sound; chain = st .chain; below = st .below })
-      bits symbols len sound stands y
+      y bits symbols len sound stands
 
   pub other-node : nodeClaims (cells cap base t ⊕ freeCells cap fs) a ≡ 0 → getD (d .nodesTo) a 0 ≡ getD N a 0
   other-node z =

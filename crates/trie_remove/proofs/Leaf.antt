@@ -1,7 +1,7 @@
 -- A page out of a leaf that holds it: what `removeAt` comes to, and the state with the leaf that is left.
 use Prim.Native.Nat.{ℕ, _+_, _-_, _<_}
 use native.Mathlib.Omega.{arith}
-use mathlib.Core.Path.{_≡_, refl, ap, _∙_, sym}
+use mathlib.Core.Path.{_≡_, refl, sym}
 use mathlib.Core.Bool.{Bool, true, false, cond, false≢true}
 use mathlib.Core.List.{List, [], _∷_}
 use lib.Dec.{eqb}
@@ -16,7 +16,7 @@ use Rattle.trie_remove.specs.declared.Taken.{Taken}
 use Rattle.trie_remove.specs.declared.Taken.the-variants.{First, Inside, Missing, Broken}
 use Rattle.trie_remove.specs.declared.Removed.the-variants.{Done}
 use Rattle.trie_remove.specs.Take.{takePage, took}
-use Rattle.trie_remove.specs.Remove.{freeChild, setFirst, removeAt, Gone, freed, gone}
+use Rattle.trie_remove.specs.Remove.{freeChild, removeAt, Gone, freed, gone}
 use Rattle.trie_remove.proofs.Steps.{first-some, first-root, first-freed, remove-first, remove-inside}
 use Rattle.trie_remove.proofs.Take.{Tells, TakeDone, take-right}
 

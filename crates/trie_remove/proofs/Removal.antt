@@ -3,16 +3,16 @@ use Prim.Native.Nat.{ℕ, zero, suc, _+_, _*_, _/_, _<_, _≤_}
 use native.Mathlib.Nat.{zero-add}
 use native.Mathlib.Omega.{arith}
 use mathlib.Core.Path.{_≡_, refl, ap, _∙_, sym, subst}
-use mathlib.Core.Bool.{Bool, true, false, cond, true≢false}
+use mathlib.Core.Bool.{true, false, cond}
 use mathlib.Core.List.{List, [], _∷_}
 use lib.Dec.{eqb}
-use lib.ListN.{length, getD, length-set}
+use lib.ListN.{length, length-set}
 use Rattle.meaning.specs.Lists.{any}
 use Rattle.meaning.specs.Trie.{Children, leaf, inner, without, byteAt, remove}
 use Rattle.trie.specs.Heap.{Cells, page, _⊕_}
 use Rattle.trie.specs.Phys.{Phys, Chain, root, tree, kids, first, SoundC, State, leafP, innerP, link}
 use Rattle.trie.proofs.Frame.{same-swap}
-use Rattle.trie.proofs.Context.{enter, leave, beside}
+use Rattle.trie.proofs.Context.{enter, beside}
 use Rattle.trie_laws.specs.Sound.{pagesIn, filled, soundTrie}
 use Rattle.trie_laws.specs.Needed.{frees}
 use Rattle.trie_laws.specs.Path.{has, kid, subtree, replace, pathOf, depth}
@@ -23,7 +23,7 @@ use Rattle.trie_path.specs.declared.Reach.the-variants.{Leaf, Gap, Broken}
 use Rattle.trie_path.specs.Descend.{descendTo}
 use Rattle.trie_path.proofs.Spots.{from-here, spot-has, spot-kid, spot-drop}
 use Rattle.trie_path.proofs.Way.{Way, onward, onward-put, go-in, go-out}
-use Rattle.trie_path.proofs.Arrival.{Leads, Parent, AtLeaf, AtGap, Arrives, arrives}
+use Rattle.trie_path.proofs.Arrival.{Leads, Parent, AtLeaf, Arrives, arrives}
 use Rattle.trie_remove.specs.declared.Removed.the-variants.{Done}
 use Rattle.trie_remove.specs.Remove.{freeChild, removeAt, removePage, Gone, gone}
 use Rattle.trie_remove.proofs.Steps.{remove-leaf}
@@ -167,25 +167,28 @@ module _ {cap pcap base : ℕ} (small : cap ≤ 262144) (bytesOf : ℕ → List 
       go zero z = at-last (a .linked) m z
       go (suc x) z = at-full (a .way) s m (omega arith)
 
-  -- the law of `remove_page`
-  module _ {Y : List ℕ} (bits symbols len : ℕ) (sound : soundTrie bytesOf bits symbols len 0 (tree t) ≡ true) (stands : any (eqb p) (pagesIn (tree t)) ≡ true) (y : Leads bytesOf p (tree t) Y) where
-    -- the page stands in the leaf where its bytes lead
-    reached : (k : ℕ) → depth bytesOf 0 p (tree t) ≡ k → (ps : List ℕ) × (subtree (pathOf bytesOf 0 p k) (tree t) ≡ leaf ps) × (any (eqb p) ps ≡ true)
-    reached k e = rw e at (reach-leaf bytesOf bits symbols len p 0 (tree t) sound stands)
+-- the law of `remove_page`
+module _ {cap pcap base : ℕ} (bytesOf : ℕ → List ℕ) (p : ℕ) {N P : List ℕ} {free : ℕ} {t : Phys} {fs : List ℕ} {G : Cells} (st : State cap pcap base N P free t fs G) {Y : List ℕ}
+    (y : Leads bytesOf p (tree t) Y) (bits symbols len : ℕ) (sound : soundTrie bytesOf bits symbols len 0 (tree t) ≡ true) (stands : any (eqb p) (pagesIn (tree t)) ≡ true) where
+  -- the page stands in the leaf where its bytes lead
+  reached : (k : ℕ) → depth bytesOf 0 p (tree t) ≡ k → (ps : List ℕ) × (subtree (pathOf bytesOf 0 p k) (tree t) ≡ leaf ps) × (any (eqb p) ps ≡ true)
+  reached k e = rw e at (reach-leaf bytesOf bits symbols len p 0 (tree t) sound stands)
 
-    pub remove-right : RemoveDone cap pcap base bytesOf p N P t fs G (removePage N P cap pcap base (root t) Y p free)
-    remove-right = go (descendTo N cap (root t) Y) refl (arrives cap pcap base small bytesOf p st y)
-      where
-        go : (r : Reach) → r ≡ descendTo N cap (root t) Y → Arrives cap pcap base small bytesOf p t r → RemoveDone cap pcap base bytesOf p N P t fs G (removePage N P cap pcap base (root t) Y p free)
-        go (Leaf n s k) e a =
-            let x = reached k (a .deep) in
-            let q : a .pages ≡ x .0 = let o : leaf (a .pages) ≡ leaf (x .0) = sym (a .way .sub) ∙ x .1 in cc in
-            subst (RemoveDone cap pcap base bytesOf p N P t fs G)
-            (remove-leaf N P cap pcap base (root t) Y p free (Leaf n s k) e n s k (removeAt N P cap pcap base n s k p free) refl refl)
-            (at-leaf n s k a (rw q (x .2)))
-        go (Gap n s k) e a =
-            let x = reached k (a .deep) in
-            let o : inner (kids (a .buckets)) ≡ leaf (x .0) = sym (a .way .sub) ∙ x .1 in
-            let i : _≡_ {A = ℕ} 0 1 = cc in
-            absurd (omega arith)
-        go Broken e a = absurd a
+  pub remove-right : RemoveDone cap pcap base bytesOf p N P t fs G (removePage N P cap pcap base (root t) Y p free)
+  remove-right = go (descendTo N cap (root t) Y) refl (arrives cap pcap base (st .nodeTable .small) bytesOf p st y)
+    where
+      go : (r : Reach) → r ≡ descendTo N cap (root t) Y → Arrives cap pcap base (st .nodeTable .small) bytesOf p t r →
+          RemoveDone cap pcap base bytesOf p N P t fs G (removePage N P cap pcap base (root t) Y p free)
+      go (Leaf n s k) e a =
+          let x = reached k (a .deep) in
+          let o : leaf (a .pages) ≡ leaf (x .0) = sym (a .way .sub) ∙ x .1 in
+          let q : a .pages ≡ x .0 = cc in
+          subst (RemoveDone cap pcap base bytesOf p N P t fs G)
+          (remove-leaf N P cap pcap base (root t) Y p free (Leaf n s k) e n s k (removeAt N P cap pcap base n s k p free) refl refl)
+          (at-leaf (st .nodeTable .small) bytesOf p st n s k a (rw q (x .2)))
+      go (Gap n s k) e a =
+          let x = reached k (a .deep) in
+          let o : inner (kids (a .buckets)) ≡ leaf (x .0) = sym (a .way .sub) ∙ x .1 in
+          let i : _≡_ {A = ℕ} 0 1 = cc in
+          absurd (omega arith)
+      go Broken e a = absurd a

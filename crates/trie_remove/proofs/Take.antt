@@ -1,9 +1,8 @@
 -- `takePage` takes a page out of the chain of a list that holds it, once: the other pages stay as they are, and the page's link is left over.
-use Prim.Native.Nat.{ℕ, zero, suc, _+_, _-_, _<_, _≤_}
+use Prim.Native.Nat.{ℕ, _+_, _-_, _<_, _≤_}
 use native.Mathlib.Omega.{arith}
-use native.Mathlib.Nat.{add-zero}
-use mathlib.Core.Path.{_≡_, refl, ap, _∙_, sym, subst}
-use mathlib.Core.Bool.{Bool, true, false, cond, _||_, false≢true, true≢false}
+use mathlib.Core.Path.{_≡_, refl, ap, _∙_, sym}
+use mathlib.Core.Bool.{true, false, cond, false≢true}
 use mathlib.Core.List.{List, [], _∷_}
 use borrow.Author.Tests.{eq-eqb, ne-eqb, lt-ltb, eqb-true, eqb-false}
 use lib.Dec.{ltb, eqb}
@@ -13,7 +12,7 @@ use Rattle.meaning.specs.Trie.{without}
 use Rattle.trie.specs.Heap.{Cells, hit, pageClaims, Heap, page, _⊕_}
 use Rattle.trie.specs.Tables.{PageTable}
 use Rattle.trie.specs.Phys.{first, pageCells, Below}
-use Rattle.trie.proofs.Frame.{Less, less, same-swap, page-write}
+use Rattle.trie.proofs.Frame.{Less, less, page-write}
 use Rattle.trie_laws.proofs.Lists.{holds, fails, truth, and-intro, eqb-comm}
 use Rattle.trie_laws.proofs.Distinct.{distinct-once, distinct-below}
 use Rattle.trie_remove.specs.declared.Taken.{Taken}
