@@ -1,1 +1,4 @@
 pub mod Admission
+pub mod Lent
+pub mod Blocks
+pub mod Room
