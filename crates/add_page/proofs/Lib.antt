@@ -5,3 +5,4 @@ pub mod Rooms
 pub mod Enough
 pub mod NewBytes
 pub mod Question12
+pub mod Inserts

@@ -56,3 +56,13 @@ pub needs-block : (h : Header) (τ N P S x : List ℕ) (j : ℕ) (b : Block) →
     nodesNeeded P S τ (b .pages) (b .base) r (take (r .bytes) bytes) N (b .nodes) j ≡ blockNeeds (withThresholds h τ) N P S x j
 unfolding blockNeeds rowsOf blockBytes bytesOfSketch
 needs-block h τ N P S x j b e r f bytes g = rw (e, f, g) refl
+
+-- other tables of the same lengths
+pub lent-kept : (h : Header) (τ N P S N' P' : List ℕ) → Lent h τ N P S → length N' ≡ length N → length P' ≡ length P → Lent h τ N' P' S
+lent-kept h τ N P S N' P' lent e f = record {
+  limits = lent .limits;
+  levels = lent .levels;
+  nodes-long = omega (arith, lent .nodes-long);
+  pages-long = omega (arith, lent .pages-long);
+  sketches-long = lent .sketches-long;
+}

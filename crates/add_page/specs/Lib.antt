@@ -2,3 +2,4 @@ pub mod Admission
 pub mod Lent
 pub mod Blocks
 pub mod Room
+pub mod Insert
