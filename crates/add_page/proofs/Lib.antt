@@ -6,3 +6,4 @@ pub mod Enough
 pub mod NewBytes
 pub mod Question12
 pub mod Inserts
+pub mod Grows
