@@ -7,3 +7,4 @@ pub mod NewBytes
 pub mod Question12
 pub mod Inserts
 pub mod Grows
+pub mod Claims
