@@ -1,0 +1,53 @@
+-- The loop over the blocks that puts the page into each trie.
+use Prim.Native.Nat.{ℕ, suc, _+_, _-_, _≤_, _<_}
+use native.Mathlib.Omega.{arith}
+use native.Mathlib.Numerals.{add-one}
+use mathlib.Core.Path.{_≡_, refl, sym, ap, _∙_}
+use mathlib.Core.List.{List}
+use lib.ListN.{take}
+use Rattle.meaning.specs.Ledger.{Settings}
+use Rattle.meaning.specs.Forest.{blockBytes, bytesOfSketch}
+use Rattle.layout.specs.declared.Header.{Header}
+use Rattle.layout.specs.Header.{bare, withThresholds}
+use Rattle.trie.specs.declared.Block.{Block}
+use Rattle.trie.specs.declared.Rows.{Rows}
+use Rattle.trie.specs.declared.Got.{Got}
+use Rattle.trie.specs.declared.Got.the-variants.{Node, Full, Bad}
+use Rattle.trie.specs.Model.{After, after, insertPage}
+use Rattle.trie_room.specs.RowBytes.{rowsOf}
+use Rattle.add_page.specs.declared.insert.Inserted.the-variants.{Free, Stopped}
+use Rattle.add_page.specs.Blocks.{blockOf}
+use Rattle.add_page.specs.Insert.{Filled, filled, onInsert, insertBlock, insertFrom, insertAll}
+
+-- one block, over its part of an array of bytes
+pub insert-one : (h : Header) (τ S x : List ℕ) (p j : ℕ) (N P : List ℕ) (free : ℕ) (b : Block) → b ≡ blockOf (bare h) j → (r : Rows) → r ≡ rowsOf (bare h) j →
+    (bytes : List ℕ) → take (blockBytes (bare h) j) bytes ≡ bytesOfSketch (bare h) j x →
+    insertPage S τ r (b .nodes) (b .pages) (b .base) N P (take (r .bytes) bytes) j p free ≡ insertBlock (withThresholds h τ) S x p j N P free
+unfolding insertBlock rowsOf blockBytes bytesOfSketch
+insert-one h τ S x p j N P free b e r f bytes g = rw (e, f, g) refl
+
+pub insert-start : (s : Settings) (S x : List ℕ) (p : ℕ) (N P : List ℕ) (free : ℕ) → insertFrom s S x p (s .blocks - 0) 0 N P free ≡ insertAll s S x p N P free
+unfolding insertAll
+insert-start s S x p N P free = ap (λ (k : ℕ). insertFrom s S x p k 0 N P free) (omega arith)
+
+module _ (s : Settings) (S x : List ℕ) (p j : ℕ) (N P : List ℕ) (free : ℕ) (R : Filled) (inv : insertFrom s S x p (s .blocks - j) j N P free ≡ R) where
+  pub insert-done : s .blocks ≤ j → filled N P (Free free) ≡ R
+  unfolding insertFrom
+  insert-done h = let e : s .blocks - j ≡ 0 = omega arith in rw (← inv, e) refl
+
+  module _ (h : j < s .blocks) (N' P' : List ℕ) (g : Got) (e : after N' P' g ≡ insertBlock s S x p j N P free) where
+    unroll : insertFrom s S x p (s .blocks - j) j N P free ≡ onInsert (λ N'' P'' free'. insertFrom s S x p (s .blocks - (j + 1)) (j + 1) N'' P'' free') (insertBlock s S x p j N P free)
+    unfolding insertFrom
+    unroll = let q : s .blocks - j ≡ suc (s .blocks - (j + 1)) = omega arith in rw (q, add-one j) refl
+
+    step : onInsert (λ N'' P'' free'. insertFrom s S x p (s .blocks - (j + 1)) (j + 1) N'' P'' free') (after N' P' g) ≡ R
+    step = ap (onInsert (λ N'' P'' free'. insertFrom s S x p (s .blocks - (j + 1)) (j + 1) N'' P'' free')) e ∙ sym unroll ∙ inv
+
+    pub insert-more : (n next : ℕ) → g ≡ Node n next → insertFrom s S x p (s .blocks - (j + 1)) (j + 1) N' P' next ≡ R
+    insert-more n next m = rw m at step
+
+    pub insert-full : g ≡ Full → filled N' P' Stopped ≡ R
+    insert-full m = rw m at step
+
+    pub insert-bad : g ≡ Bad → filled N' P' Stopped ≡ R
+    insert-bad m = rw m at step

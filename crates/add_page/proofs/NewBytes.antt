@@ -1,0 +1,66 @@
+-- The packed bytes of the pages, by the rows after an add: the sketch's for the new page, those of their rows for live pages.
+use Prim.Native.Nat.{ℕ, zero, suc, _+_, _≤_, _<_}
+use native.Mathlib.Omega.{arith}
+use mathlib.Core.Path.{_≡_, refl, sym, ap, _∙_}
+use mathlib.Core.Bool.{Bool, true, false, cond, _&&_, false≢true}
+use mathlib.Core.Logic.{_≢_}
+use mathlib.Core.List.{List, _∷_}
+use borrow.Author.Tests.{eq-eqb, ne-eqb, eqb-true, eqb-false, ltb-true}
+use lib.Dec.{ltb, eqb}
+use lib.ListN.{length}
+use Rattle.meaning.specs.Ledger.{Settings, Row, putRow}
+use Rattle.meaning.specs.Forest.{bytesOfSketch, bytesIn}
+use Rattle.layout.specs.Pages.{isLive}
+use Rattle.layout.proofs.Tests.{and-left, and-right}
+use Rattle.trie_laws.proofs.Forest.{bytes-put}
+use Rattle.trie_room.specs.RowBytes.{rowBytes}
+use Rattle.trie_room.proofs.RowBytes.{row-same}
+use Rattle.promises.specs.Tables.{Tables, given, pageClass, pageRow, rowsFrom, rowsOf}
+use Rattle.store.specs.Sound.{livePage, pageBytes, SoundPage}
+
+module _ (s : Settings) (j : ℕ) (l : ℕ → Bool) (h : ℕ → Row) (own : (i : ℕ) → h i .page ≡ i) where
+  rows-bytes : (q k n : ℕ) → k ≤ q → q < k + n → l q ≡ true → bytesIn s (rowsFrom l h k n) j q ≡ bytesOfSketch s j (h q .sketch)
+  unfolding bytesIn rowsFrom
+  rows-bytes q k zero a b live = absurd (omega arith)
+  rows-bytes q k (suc n) a b live = go (eqb k q) refl (l k) refl (λ c. rows-bytes q (suc k) n (omega arith) (omega arith) live)
+    where
+      rest : List Row
+      rest = rowsFrom l h (suc k) n
+
+      go : (t : Bool) → eqb k q ≡ t → (u : Bool) → l k ≡ u → (k ≢ q → bytesIn s rest j q ≡ bytesOfSketch s j (h q .sketch))
+          → bytesIn s (cond u (h k ∷ rest) rest) j q ≡ bytesOfSketch s j (h q .sketch)
+      go true e true m ih = rw (own k, e) (ap (λ (i : ℕ). bytesOfSketch s j (h i .sketch)) (eqb-true k q e))
+      go true e false m ih = absurd (false≢true (sym m ∙ ap l (eqb-true k q e) ∙ live))
+      go false e true m ih = rw (own k, e) (ih (eqb-false k q e))
+      go false e false m ih = ih (eqb-false k q e)
+
+module _ (T : Tables) where
+  live-bytes : (j q : ℕ) → livePage T q ≡ true → bytesIn (given T) (rowsOf T) j q ≡ pageBytes T j q
+  unfolding rowsOf livePage pageBytes
+  live-bytes j q live =
+      rows-bytes (given T) j (isLive (T .pages)) (λ i. record { page = i; class = pageClass T i; sketch = pageRow T i }) (λ i. refl) q 0 (given T .pages)
+      (omega arith)
+      (omega (arith, ltb-true q (given T .pages) (and-left (ltb q (given T .pages)) (isLive (T .pages) q) live)))
+      (and-right (ltb q (given T .pages)) (isLive (T .pages) q) live)
+
+  -- after an add of page p
+  module _ (p c : ℕ) (x : List ℕ) where
+    unfoldable pub newBytes : ℕ → ℕ → List ℕ
+    newBytes = bytesIn (given T) (putRow (record { page = p; class = c; sketch = x }) (rowsOf T))
+
+    pub new-mine : (j : ℕ) → newBytes j p ≡ bytesOfSketch (given T) j x
+    unfolding newBytes
+    new-mine j =
+        bytes-put (given T) j p (record { page = p; class = c; sketch = x }) (rowsOf T) ∙ rw (eq-eqb p p refl) refl
+
+    module _ (dead : livePage T p ≡ false) where
+      pub new-live : (j q : ℕ) → livePage T q ≡ true → newBytes j q ≡ pageBytes T j q
+      unfolding newBytes
+      new-live j q live =
+          let apart : p ≢ q = λ e. false≢true (sym dead ∙ ap (livePage T) e ∙ live) in
+          bytes-put (given T) j q (record { page = p; class = c; sketch = x }) (rowsOf T)
+          ∙ rw (ne-eqb p q apart) (live-bytes j q live)
+
+      pub new-rows : ((q : ℕ) → livePage T q ≡ true → SoundPage T q) → (j q : ℕ) → livePage T q ≡ true → newBytes j q ≡ rowBytes (given T) j (T .sketches) q
+      unfolding pageBytes pageRow
+      new-rows sound j q live = new-live j q live ∙ sym (row-same (given T) j (T .sketches) q (unfold pageRow in (sound q live .symbols)))

@@ -1,0 +1,57 @@
+-- `block_needs` is `blockNeeds`.
+use native.Mathlib.Omega.{arith}
+use mathlib.Core.Path.{_≡_, sym, ap, _∙_}
+use borrow.Author.Needs.{needs}
+use lib.Seq.{length-take-le}
+use Rattle.layout.specs.Header.{bare}
+use Rattle.add_page.proofs.Tables.{InTables, in-tables, needs-block}
+use Rattle.add_page.proofs.room.block_needs.Statement.{statement}
+use Rattle.add_page.proofs.room.block_needs.Tie as tie
+
+block-bytes-requires : tie.Need-block-bytes-requires
+block-bytes-requires c κs = search needs
+
+block-of-requires : tie.Need-block-of-requires
+block-of-requires c κs = search needs
+
+rows-of-requires : tie.Need-rows-of-requires
+rows-of-requires c κs = search needs
+
+-- the block's tables
+tables : (c : tie.After-rows-of) → let entry = c .before .before .before .before .before .before .before .before in
+    InTables (entry .args .thresholds .now) (entry .args .nodes .now) (entry .args .pages .now) (entry .args .sketches .now) (entry .args .j)
+    (c .before .block-of .result) (c .rows-of .result)
+tables c =
+    let entry = c .before .before .before .before .before .before .before .before in
+    in-tables _ _ _ _ _ (entry .pre .0) _ (entry .pre .1 .1) _ (c .before .block-of .ensures) _ (c .rows-of .ensures)
+
+array-share-prefix-bytes : tie.Need-array-share-prefix-bytes
+array-share-prefix-bytes c = omega (arith, tables c .few)
+
+slice-aggregate-nodes-needed : tie.Need-slice-aggregate-nodes-needed
+slice-aggregate-nodes-needed c =
+    sym (length-take-le (c .before .rows-of .result .bytes) (c .before .before .before .block-bytes .result) (omega (arith, tables (c .before) .few)))
+
+nodes-needed-requires : tie.Need-nodes-needed-requires
+nodes-needed-requires c κs =
+    let t = tables (c .before) in
+    let l = length-take-le (c .before .rows-of .result .bytes) (c .before .before .before .block-bytes .result) (omega (arith, t .few)) in
+    (t .nodes, (t .pages, (t .rows, (t .levels, (l, t .root)))))
+
+returns : tie.Need-returns
+returns c =
+    let b = c .before .before .before in
+    c .nodes-needed .ensures
+    ∙ needs-block _ _ _ _ _ _ _ _ (b .block-of .ensures) _ (c .before .before .rows-of .ensures) _ (b .before .block-bytes .ensures)
+
+pub block-needs-spec : {M : Type 1} → statement M
+block-needs-spec =
+    tie.close
+    (tie.spec
+    block-bytes-requires
+    block-of-requires
+    rows-of-requires
+    array-share-prefix-bytes
+    slice-aggregate-nodes-needed
+    nodes-needed-requires
+    returns)

@@ -1,0 +1,89 @@
+// The page put into the trie of each block. Its row is in the sketch table by now: a split reads the rows of all pages of the leaf.
+ghost use mathlib.Core.Path.{_≡_};
+ghost use Prim.Native.Nat.{_<_};
+ghost use Rattle.layout.specs.Header.{withThresholds};
+ghost use Rattle.add_page.specs.Lent.{Fits, Lent};
+ghost use Rattle.add_page.specs.Insert.{filled, insertBlock, insertAll};
+ghost use Rattle.trie.specs.Model.{after};
+use crate::blocks;
+use layout::Header;
+use trie::Got;
+use trie::insert_page;
+use trie_room::rows::rows_of;
+
+// The free link then, or that a link led outside.
+pub enum Inserted {
+    Free(u32),
+    Stopped,
+}
+
+fn insert_block(
+    nodes: &mut [u32],
+    pages: &mut [u32],
+    sketches: &[u8],
+    thresholds: &[u32],
+    h: Header,
+    sketch: &[u8],
+    p: usize,
+    j: usize,
+    free: u32,
+) -> Got
+    requires { ⌜ Lent h (now thresholds) (now nodes) (now pages) (now sketches) ⌝ }
+    requires { ⌜ Fits h (now sketch) ⌝ }
+    requires { ⌜ p < h .pages ⌝ }
+    requires { ⌜ j < h .q ⌝ }
+    ensures { λ r. ⌜ after (now (nodes .exit)) (now (pages .exit)) r ≡ insertBlock (withThresholds h (now (thresholds .entry))) (now (sketches .entry)) (now (sketch .entry)) p j (now (nodes .entry)) (now (pages .entry)) free ⌝ }
+{
+    let bytes = blocks::block_bytes(h, sketch, j);
+    let block = blocks::block_of(h, j);
+    let rows = rows_of(h, j);
+    let n = rows.bytes;
+    insert_page(
+        nodes,
+        pages,
+        sketches,
+        thresholds,
+        &bytes[..n],
+        block,
+        rows,
+        j,
+        p,
+        free,
+    )
+}
+
+pub fn insert_all(
+    nodes: &mut [u32],
+    pages: &mut [u32],
+    sketches: &[u8],
+    thresholds: &[u32],
+    h: Header,
+    sketch: &[u8],
+    p: usize,
+    free: u32,
+) -> Inserted
+    requires { ⌜ Lent h (now thresholds) (now nodes) (now pages) (now sketches) ⌝ }
+    requires { ⌜ Fits h (now sketch) ⌝ }
+    requires { ⌜ p < h .pages ⌝ }
+    ensures { λ r. ⌜ filled (now (nodes .exit)) (now (pages .exit)) r ≡ insertAll (withThresholds h (now (thresholds .entry))) (now (sketches .entry)) (now (sketch .entry)) p (now (nodes .entry)) (now (pages .entry)) free ⌝ }
+{
+    let q = h.q;
+    let mut link = free;
+    let mut j = 0;
+    while j < q {
+        let got = insert_block(nodes, pages, sketches, thresholds, h, sketch, p, j, link);
+        match got {
+            Got::Node(_, next) => {
+                link = next;
+                j += 1;
+            }
+            Got::Full => {
+                return Inserted::Stopped;
+            }
+            Got::Bad => {
+                return Inserted::Stopped;
+            }
+        }
+    }
+    Inserted::Free(link)
+}
