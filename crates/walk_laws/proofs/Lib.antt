@@ -1,2 +1,3 @@
 pub mod Marks
 pub mod Apart
+pub mod Ran
