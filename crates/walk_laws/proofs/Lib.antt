@@ -1,3 +1,4 @@
 pub mod Marks
 pub mod Apart
 pub mod Ran
+pub mod Chains
