@@ -2,3 +2,4 @@ pub mod Marks
 pub mod Apart
 pub mod Ran
 pub mod Chains
+pub mod Fit
