@@ -3,3 +3,4 @@ pub mod Apart
 pub mod Ran
 pub mod Chains
 pub mod Fit
+pub mod Right
