@@ -99,3 +99,67 @@ module _ (w : Given) where
           ran-within w f _ _ 0 (stepsC ch) (omega arith)
           (ran-to w f _ _ _ 0 (sym (ap (λ ps. after map left ps (atLink frame (frame .at) 0) stack) none-met ∙ after-none map left (atLink frame (frame .at) 0) stack))
           (ran-none w f (state map left (atLink frame (frame .at) 0) stack)))
+
+  -- a child and the rest of its chain
+  link-through : (ch : Chain) (t : Phys) (stack : List Frame) (c hi k : ℕ) → SoundC (w .cap) (w .pcap) ch (suc c) hi
+      → FitC (w .b) (length (w .bytes)) ch k → here stack < 2 ^ (w .b * perByte (w .b)) → Through ch stack
+      → (f : ℕ) (map : List ℕ) (left : ℕ) (frame : Frame) (ps : List ℕ) → steps t + stepsC ch ≤ f
+      → length (ps ++ metC ch (frame .radius) stack) ≤ left
+      → Ran w f (state map left frame stack)
+      (after map left ps (atLink frame (frame .at) (following (frame .radius) c (here stack) (firstLink ch))) stack) (steps t)
+      → Ran w f (state map left frame stack)
+      (after map left (ps ++ metC ch (frame .radius) stack) (atLink frame (frame .at) 0) stack) (steps t + stepsC ch)
+  link-through ch t stack c hi k s u q through f map left frame ps l m one =
+      let qs : List ℕ = metC ch (frame .radius) stack in
+      ran-to w f _ _ _ (steps t + stepsC ch) (after-join map left ps qs (atLink frame (frame .at) 0) stack)
+      (ran-then w f _ _ _ (steps t) (stepsC ch) one
+      (rest-through ch stack c hi k s u q through (one .rest) (markAll map (w .words) ps) (left - length ps) frame
+      (omega (arith, one .enough)) (omega (arith, length-append ps qs))))
+
+  -- the frames of an inner node are exhausted
+  record Under (f : ℕ) (map : List ℕ) (left : ℕ) (frame : Frame) (ps : List ℕ) (stack : List Frame) (cost : ℕ) : Type 0 where
+    done : Frame
+    empty : done .link ≡ 0
+    last : done .last ≤ done .at
+    ran : Ran w f (state map left frame stack) (after map left ps done stack) cost
+
+  -- a frame that stands at the chains of node x from g on
+  abbrev From : Buckets → ℕ → ℕ → Frame → Type 0
+  From end x g frame = (frame .link ≡ 0) × (frame .last ≤ frame .at)
+  From (bucket ch bs) x g frame = (frame .at ≡ headAt (w .cap) x g) × (frame .last ≡ headAt (w .cap) x 7) × (frame .link ≡ firstLink ch)
+
+  record Onward (f : ℕ) (map : List ℕ) (left : ℕ) (frame : Frame) (stack : List Frame) (bs : Buckets) (x g : ℕ) : Type 0 where
+    next : Frame
+    radius : next .radius ≡ frame .radius
+    from : From bs x g next
+    ran : Ran w f (state map left frame stack) (state map left next stack) 1
+
+  chains-left : (bs : Buckets) (g : ℕ) → SoundB (w .cap) (w .pcap) bs g → g ≤ 8
+  chains-left end g s = omega arith
+  chains-left (bucket ch bs) g s = omega (arith, chains-left bs (suc g) (s .1))
+
+  -- from chain g, which is exhausted, to the next
+  onward : (small : w .cap ≤ 262144) (bs : Buckets) (x g : ℕ) (stack : List Frame) → Holds (cellsB (w .cap) (w .next) bs x (suc g)) (w .nodes) (w .pages)
+      → SoundB (w .cap) (w .pcap) bs (suc g)
+      → (f : ℕ) (map : List ℕ) (left : ℕ) (frame : Frame) → 0 < f → frame .at ≡ headAt (w .cap) x g → frame .last ≡ headAt (w .cap) x 7 → frame .link ≡ 0
+      → Onward f map left frame stack bs x (suc g)
+  onward small end x g stack h s f map left frame z a b e = record {
+    next = frame;
+    radius = refl;
+    from = (e, omega arith);
+    ran = ran-within w f _ _ 0 1 (omega arith) (ran-none w f (state map left frame stack));
+  }
+  onward small (bucket ch bs) x g stack h s f map left frame z a b e =
+      let top : suc g < 8 + 0 = omega (arith, chains-left bs (suc (suc g)) (s .1)) in
+      let at : frame .at + 1 ≡ headAt (w .cap) x (suc g) = omega arith in
+      let word : getD (w .nodes) (headAt (w .cap) x (suc g)) 0 ≡ chainWord 0 (firstLink ch) = slot-word (w .cap) (w .next) (w .nodes) (w .pages) ch (headAt (w .cap) x (suc g)) 0 (h .0) in
+      let link-there : linkOf (getD (w .nodes) (frame .at + 1) 0) ≡ firstLink ch =
+      ap (λ n. linkOf (getD (w .nodes) n 0)) at ∙ ap linkOf word
+      ∙ link-in 0 (firstLink ch) (omega (arith, first-below (w .cap) (w .pcap) ch (32 * suc g) (32 * suc g + 32) (s .0))) in
+      record {
+        next = atLink frame (frame .at + 1) (linkOf (getD (w .nodes) (frame .at + 1) 0));
+        radius = refl;
+        from = (at, b, link-there);
+        ran = step-stay w f z map left frame stack (frame .at + 1) (linkOf (getD (w .nodes) (frame .at + 1) 0))
+            (step-next (w .nodes) (w .cap) (w .b) frame (here stack) e (omega arith));
+      }
