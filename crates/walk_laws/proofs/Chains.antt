@@ -1,0 +1,102 @@
+-- Steps along the chains of a trie that lies in the tables, and what a chain can have at radius 0.
+use Prim.Native.Nat.{ℕ, suc, _+_, _-_, _*_, _%_, _^_, _≤_, _<_}
+use native.Mathlib.Omega.{arith}
+use mathlib.Core.Path.{_≡_, refl, sym, ap, _∙_}
+use mathlib.Core.Logic.{_≢_}
+use mathlib.Core.Bool.{Bool, true, false, cond, _&&_}
+use mathlib.Core.List.{List, [], _∷_, _++_, append-assoc}
+use lib.Bits.{bitXor}
+use lib.Dec.{eqb, leb, ltb}
+use lib.ListN.{length, getD}
+use borrow.Author.Tests.{eq-eqb, ne-eqb, lt-ltb, le-ltb, lt-leb, le-leb}
+use Rattle.meaning.specs.Sketch.{perByte, byteDistance}
+use Rattle.meaning.specs.Trie.{Children, none, child, met, metIn}
+use Rattle.layout.specs.Nodes.{linkOf, byteOf, chainWord, chainAt, stateAt, innerState, leafState}
+use Rattle.trie.specs.Heap.{Holds}
+use Rattle.trie.specs.Phys.{Phys, leafP, innerP, Buckets, end, bucket, Chain, stop, link, root, tree, kids, kidsC, cells, cellsC, Sound, SoundC}
+use Rattle.walk.specs.declared.frame.Frame.{Frame}
+use Rattle.walk.specs.declared.frame.Step.the-variants.{Stay, Leaf, Down, Up}
+use Rattle.walk.specs.Frame.{following, stepTo, stepAlong, stepIn}
+use Rattle.walk.proofs.Steps.{along-inside}
+use Rattle.walk_laws.proofs.Apart.{apart}
+
+-- ---- what the tables hold
+
+-- the link to the first node of a chain
+abbrev pub firstLink : Chain → ℕ
+firstLink stop = 0
+firstLink (link c t ch) = root t + 1
+
+pub slot-word : (cap base : ℕ) (N P : List ℕ) (ch : Chain) (s y : ℕ) → Holds (cellsC cap base ch s y) N P → getD N s 0 ≡ chainWord y (firstLink ch)
+slot-word cap base N P stop s y h = h
+slot-word cap base N P (link c t ch) s y h = h .0
+
+pub root-below : (cap pcap : ℕ) (t : Phys) → Sound cap pcap t → root t < cap
+root-below cap pcap (leafP n ps) s = s .0
+root-below cap pcap (innerP n bs) s = s .0
+
+pub first-below : (cap pcap : ℕ) (ch : Chain) (lo hi : ℕ) → SoundC cap pcap ch lo hi → firstLink ch ≤ cap
+first-below cap pcap stop lo hi s = omega arith
+first-below cap pcap (link c t ch) lo hi s = omega (arith, root-below cap pcap t (s .2))
+
+pub link-in : (y l : ℕ) → l < 524288 → linkOf (chainWord y l) ≡ l
+link-in y l h = omega arith
+
+byte-in : (y l : ℕ) → l < 524288 → y ≡ byteOf (chainWord y l)
+byte-in y l h = omega arith
+
+-- ---- steps
+module _ (nodes : List ℕ) (cap b : ℕ) (frame : Frame) (y : ℕ) where
+  -- to node x of byte c, which is followed by l
+  pub step-chain : (x c l : ℕ) → frame .link ≡ x + 1 → x < cap → getD nodes x 0 ≡ chainWord c l → l < 524288 → c < 256
+      → stepIn nodes cap b frame y
+      ≡ stepTo nodes cap x (byteDistance b (bitXor c y)) (frame .radius) (frame .at) (following (frame .radius) c y l)
+  unfolding stepIn
+  step-chain x c l e i h m n =
+      let at-x : frame .link - 1 ≡ x = omega arith in
+      let small : c % 256 ≡ c = omega arith in
+      rw (ne-eqb (frame .link) 0 (omega arith))
+      (along-inside nodes cap b frame y (chainWord c l) c l (byteDistance b (bitXor c y)) (following (frame .radius) c y l)
+      (omega arith)
+      (sym (ap (λ k. getD nodes k 0) at-x ∙ h))
+      (byte-in c l m)
+      (sym (link-in c l m))
+      (ap (λ k. byteDistance b (bitXor k y)) (sym small))
+      (ap (λ k. following (frame .radius) k y l) (sym small))
+      ∙ ap (λ k. stepTo nodes cap k (byteDistance b (bitXor c y)) (frame .radius) (frame .at) (following (frame .radius) c y l)) at-x)
+
+  -- to the next chain, or up
+  pub step-next : frame .link ≡ 0 → frame .at < frame .last
+      → stepIn nodes cap b frame y ≡ Stay (frame .at + 1) (linkOf (getD nodes (frame .at + 1) 0))
+  unfolding stepIn
+  step-next e l = rw (eq-eqb (frame .link) 0 e, lt-ltb (frame .at) (frame .last) l)
+
+  pub step-last : frame .link ≡ 0 → frame .last ≤ frame .at → stepIn nodes cap b frame y ≡ Up
+  unfolding stepIn
+  step-last e l = rw (eq-eqb (frame .link) 0 e, le-ltb (frame .at) (frame .last) l)
+
+module _ (nodes : List ℕ) (cap x d radius at l : ℕ) where
+  pub to-far : radius < d → stepTo nodes cap x d radius at l ≡ Stay at l
+  unfolding stepTo
+  to-far h = rw (lt-ltb radius d h)
+
+  pub to-leaf : (first : ℕ) → d ≤ radius → getD nodes (stateAt cap x) 0 ≡ leafState first → stepTo nodes cap x d radius at l ≡ Leaf first l
+  unfolding stepTo
+  to-leaf first h e =
+      let less : 2 + first - 2 ≡ first = omega arith in
+      rw (le-ltb radius d h, e, ne-eqb (2 + first) 0 (omega arith), ne-eqb (2 + first) 1 (omega arith)) (ap (λ k. Leaf k l) less)
+
+  pub to-inner : d ≤ radius → getD nodes (stateAt cap x) 0 ≡ innerState → stepTo nodes cap x d radius at l ≡ Down x (radius - d) l
+  unfolding stepTo
+  to-inner h e = rw (le-ltb radius d h, e)
+
+-- ---- what is met
+module _ (b r y : ℕ) (ys : List ℕ) where
+  -- in a chain, and in the chains after it
+  pub met-chain : (ch : Chain) (cs : Children) → metIn b r (kidsC ch cs) (y ∷ ys) ≡ metIn b r (kidsC ch none) (y ∷ ys) ++ metIn b r cs (y ∷ ys)
+  unfolding metIn
+  met-chain stop cs = refl
+  met-chain (link c t ch) cs =
+      let here : List ℕ = cond (leb (byteDistance b (bitXor c y)) r) (met b (r - byteDistance b (bitXor c y)) (tree t) ys) [] in
+      ap (λ ps. here ++ ps) (met-chain ch cs)
+      ∙ sym (append-assoc here (metIn b r (kidsC ch none) (y ∷ ys)) (metIn b r cs (y ∷ ys)))

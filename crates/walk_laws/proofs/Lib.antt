@@ -1,0 +1,6 @@
+pub mod Marks
+pub mod Apart
+pub mod Ran
+pub mod Chains
+pub mod Fit
+pub mod Right

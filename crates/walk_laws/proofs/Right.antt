@@ -1,0 +1,165 @@
+-- On tables that hold a trie, the walk marks exactly the pages that `met` meets, in order.
+use Prim.Native.Nat.{ℕ, zero, suc, _+_, _-_, _*_, _/_, _^_, _≤_, _<_}
+use native.Mathlib.Omega.{arith}
+use native.Mathlib.Numerals.{add-one}
+use native.Mathlib.Decide.{ℕ-discrete}
+use mathlib.Core.Path.{_≡_, refl, sym, ap, ap₂, _∙_}
+use mathlib.Core.Logic.{_≢_}
+use mathlib.Core.Bool.{Bool, true, false, cond, _&&_}
+use mathlib.Core.List.{List, [], _∷_, _++_}
+use lib.Bits.{bitXor}
+use lib.Dec.{eqb, leb}
+use lib.ListN.{length, getD, drop, length-append}
+use lib.Seq.{drop-cons}
+use borrow.Author.Tests.{eqb-true, eqb-false, leb-true, leb-false, eq-eqb, ne-eqb}
+use Rattle.meaning.specs.Sketch.{perByte, byteDistance}
+use Rattle.meaning.specs.Trie.{Tree, Children, none, child, met, metIn}
+use Rattle.layout.specs.Nodes.{linkOf, chainWord, headAt, stateAt}
+use Rattle.trie.specs.Heap.{Holds}
+use Rattle.trie.specs.Phys.{Phys, leafP, innerP, Buckets, end, bucket, Chain, stop, link, root, first, tree, kids, kidsC, cells, cellsB, cellsC, Sound, SoundB, SoundC}
+use Rattle.walk.specs.declared.frame.Frame.{Frame}
+use Rattle.walk.specs.Mark.{markAll}
+use Rattle.walk.specs.Frame.{frameAt, entered, following, stepIn}
+use Rattle.walk.specs.Walk.{Given, State, state, Walked, walked, atLink, run}
+use Rattle.walk_laws.proofs.Marks.{mark-append}
+use Rattle.walk_laws.proofs.Ran.{leaf-marks, Ran, ran-none, ran-then, ran-within, ran-to, step-stay, step-leaf, step-down, step-up, step-end}
+use Rattle.walk_laws.proofs.Chains.{firstLink, slot-word, root-below, first-below, link-in, step-chain, step-next, step-last, to-far, to-leaf, to-inner, met-chain}
+use Rattle.walk_laws.proofs.Fit.{Fit, FitB, FitC, byte-small, unmet, unmet-past}
+
+-- the steps that a part of a trie can cost
+abbrev mutual
+  pub steps : Phys → ℕ
+  steps (leafP n ps) = 1
+  steps (innerP n bs) = 2 + stepsB bs
+
+  pub stepsB : Buckets → ℕ
+  stepsB end = 0
+  stepsB (bucket ch bs) = stepsC ch + 1 + stepsB bs
+
+  pub stepsC : Chain → ℕ
+  stepsC stop = 0
+  stepsC (link c t ch) = steps t + stepsC ch
+
+module _ (w : Given) where
+  -- with some pages marked
+  abbrev after : List ℕ → ℕ → List ℕ → Frame → List Frame → State
+  after map left ps frame stack = state (markAll map (w .words) ps) (left - length ps) frame stack
+
+  after-none : (map : List ℕ) (left : ℕ) (frame : Frame) (stack : List Frame) → after map left [] frame stack ≡ state map left frame stack
+  unfolding markAll
+  after-none map left frame stack = ap (λ n. state map n frame stack) (omega arith)
+
+  after-join : (map : List ℕ) (left : ℕ) (ps qs : List ℕ) (frame : Frame) (stack : List Frame)
+      → after (markAll map (w .words) ps) (left - length ps) qs frame stack ≡ after map left (ps ++ qs) frame stack
+  after-join map left ps qs frame stack =
+      ap₂ (λ m n. state m n frame stack) (sym (mark-append map (w .words) ps qs)) (omega (arith, length-append ps qs))
+
+  -- the query's byte at the level of a stack, and the bytes behind it
+  abbrev here : List Frame → ℕ
+  here stack = getD (w .bytes) (length stack) 0
+
+  abbrev behind : List Frame → List ℕ
+  behind stack = drop (suc (length stack)) (w .bytes)
+
+  -- the pages met in a chain
+  abbrev metC : Chain → ℕ → List Frame → List ℕ
+  metC ch r stack = metIn (w .b) r (kidsC ch none) (here stack ∷ behind stack)
+
+  -- a chain is gone through
+  abbrev Through : Chain → List Frame → Type 0
+  Through ch stack =
+      (f : ℕ) (map : List ℕ) (left : ℕ) (frame : Frame) → frame .link ≡ firstLink ch → stepsC ch ≤ f → length (metC ch (frame .radius) stack) ≤ left
+      → Ran w f (state map left frame stack) (after map left (metC ch (frame .radius) stack) (atLink frame (frame .at) 0) stack) (stepsC ch)
+
+  -- what follows a child of byte c: the rest of its chain, unless the radius is 0 and the query's byte is passed
+  rest-through : (ch : Chain) (stack : List Frame) (c hi k : ℕ) → SoundC (w .cap) (w .pcap) ch (suc c) hi → FitC (w .b) (length (w .bytes)) ch k
+      → here stack < 2 ^ (w .b * perByte (w .b)) → Through ch stack
+      → (f : ℕ) (map : List ℕ) (left : ℕ) (frame : Frame) → stepsC ch ≤ f → length (metC ch (frame .radius) stack) ≤ left
+      → Ran w f (state map left (atLink frame (frame .at) (following (frame .radius) c (here stack) (firstLink ch))) stack)
+      (after map left (metC ch (frame .radius) stack) (atLink frame (frame .at) 0) stack) (stepsC ch)
+  unfolding following
+  rest-through ch stack c hi k s t q through f map left frame l m = go (eqb (frame .radius) 0) refl (leb (here stack) c) refl
+    where
+      Goal : ℕ → Type 0
+      Goal n =
+          Ran w f (state map left (atLink frame (frame .at) n) stack)
+          (after map left (metC ch (frame .radius) stack) (atLink frame (frame .at) 0) stack) (stepsC ch)
+
+      onward : Goal (firstLink ch)
+      onward = through f map left (atLink frame (frame .at) (firstLink ch)) refl l m
+
+      go : (u : Bool) → eqb (frame .radius) 0 ≡ u → (v : Bool) → leb (here stack) c ≡ v → Goal (cond (u && v) 0 (firstLink ch))
+      go false d v e = onward
+      go true d false e = onward
+      go true d true e =
+          let none-met : metC ch (frame .radius) stack ≡ [] =
+          rw (eqb-true (frame .radius) 0 d)
+          (unmet (w .cap) (w .pcap) (w .b) (length (w .bytes)) (here stack) (behind stack) q ch (suc c) hi k s t
+          (λ x u v z. absurd (omega (arith, leb-true (here stack) c e)))) in
+          ran-within w f _ _ 0 (stepsC ch) (omega arith)
+          (ran-to w f _ _ _ 0 (sym (ap (λ ps. after map left ps (atLink frame (frame .at) 0) stack) none-met ∙ after-none map left (atLink frame (frame .at) 0) stack))
+          (ran-none w f (state map left (atLink frame (frame .at) 0) stack)))
+
+  -- a child and the rest of its chain
+  link-through : (ch : Chain) (t : Phys) (stack : List Frame) (c hi k : ℕ) → SoundC (w .cap) (w .pcap) ch (suc c) hi
+      → FitC (w .b) (length (w .bytes)) ch k → here stack < 2 ^ (w .b * perByte (w .b)) → Through ch stack
+      → (f : ℕ) (map : List ℕ) (left : ℕ) (frame : Frame) (ps : List ℕ) → steps t + stepsC ch ≤ f
+      → length (ps ++ metC ch (frame .radius) stack) ≤ left
+      → Ran w f (state map left frame stack)
+      (after map left ps (atLink frame (frame .at) (following (frame .radius) c (here stack) (firstLink ch))) stack) (steps t)
+      → Ran w f (state map left frame stack)
+      (after map left (ps ++ metC ch (frame .radius) stack) (atLink frame (frame .at) 0) stack) (steps t + stepsC ch)
+  link-through ch t stack c hi k s u q through f map left frame ps l m one =
+      let qs : List ℕ = metC ch (frame .radius) stack in
+      ran-to w f _ _ _ (steps t + stepsC ch) (after-join map left ps qs (atLink frame (frame .at) 0) stack)
+      (ran-then w f _ _ _ (steps t) (stepsC ch) one
+      (rest-through ch stack c hi k s u q through (one .rest) (markAll map (w .words) ps) (left - length ps) frame
+      (omega (arith, one .enough)) (omega (arith, length-append ps qs))))
+
+  -- the frames of an inner node are exhausted
+  record Under (f : ℕ) (map : List ℕ) (left : ℕ) (frame : Frame) (ps : List ℕ) (stack : List Frame) (cost : ℕ) : Type 0 where
+    done : Frame
+    empty : done .link ≡ 0
+    last : done .last ≤ done .at
+    ran : Ran w f (state map left frame stack) (after map left ps done stack) cost
+
+  -- a frame that stands at the chains of node x from g on
+  abbrev From : Buckets → ℕ → ℕ → Frame → Type 0
+  From end x g frame = (frame .link ≡ 0) × (frame .last ≤ frame .at)
+  From (bucket ch bs) x g frame = (frame .at ≡ headAt (w .cap) x g) × (frame .last ≡ headAt (w .cap) x 7) × (frame .link ≡ firstLink ch)
+
+  record Onward (f : ℕ) (map : List ℕ) (left : ℕ) (frame : Frame) (stack : List Frame) (bs : Buckets) (x g : ℕ) : Type 0 where
+    next : Frame
+    radius : next .radius ≡ frame .radius
+    from : From bs x g next
+    ran : Ran w f (state map left frame stack) (state map left next stack) 1
+
+  chains-left : (bs : Buckets) (g : ℕ) → SoundB (w .cap) (w .pcap) bs g → g ≤ 8
+  chains-left end g s = omega arith
+  chains-left (bucket ch bs) g s = omega (arith, chains-left bs (suc g) (s .1))
+
+  -- from chain g, which is exhausted, to the next
+  onward : (small : w .cap ≤ 262144) (bs : Buckets) (x g : ℕ) (stack : List Frame) → Holds (cellsB (w .cap) (w .next) bs x (suc g)) (w .nodes) (w .pages)
+      → SoundB (w .cap) (w .pcap) bs (suc g)
+      → (f : ℕ) (map : List ℕ) (left : ℕ) (frame : Frame) → 0 < f → frame .at ≡ headAt (w .cap) x g → frame .last ≡ headAt (w .cap) x 7 → frame .link ≡ 0
+      → Onward f map left frame stack bs x (suc g)
+  onward small end x g stack h s f map left frame z a b e = record {
+    next = frame;
+    radius = refl;
+    from = (e, omega arith);
+    ran = ran-within w f _ _ 0 1 (omega arith) (ran-none w f (state map left frame stack));
+  }
+  onward small (bucket ch bs) x g stack h s f map left frame z a b e =
+      let top : suc g < 8 + 0 = omega (arith, chains-left bs (suc (suc g)) (s .1)) in
+      let at : frame .at + 1 ≡ headAt (w .cap) x (suc g) = omega arith in
+      let word : getD (w .nodes) (headAt (w .cap) x (suc g)) 0 ≡ chainWord 0 (firstLink ch) = slot-word (w .cap) (w .next) (w .nodes) (w .pages) ch (headAt (w .cap) x (suc g)) 0 (h .0) in
+      let link-there : linkOf (getD (w .nodes) (frame .at + 1) 0) ≡ firstLink ch =
+      ap (λ n. linkOf (getD (w .nodes) n 0)) at ∙ ap linkOf word
+      ∙ link-in 0 (firstLink ch) (omega (arith, first-below (w .cap) (w .pcap) ch (32 * suc g) (32 * suc g + 32) (s .0))) in
+      record {
+        next = atLink frame (frame .at + 1) (linkOf (getD (w .nodes) (frame .at + 1) 0));
+        radius = refl;
+        from = (at, b, link-there);
+        ran = step-stay w f z map left frame stack (frame .at + 1) (linkOf (getD (w .nodes) (frame .at + 1) 0))
+            (step-next (w .nodes) (w .cap) (w .b) frame (here stack) e (omega arith));
+      }
