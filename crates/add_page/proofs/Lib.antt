@@ -8,3 +8,4 @@ pub mod Question12
 pub mod Inserts
 pub mod Grows
 pub mod Claims
+pub mod Spares
