@@ -30,7 +30,7 @@ hit-page base p x = go (eqb x p) refl
     go true e = rw (eq-eqb (base + p) (base + x) (omega (arith, eqb-true x p e))) refl
     go false e = rw (ne-eqb (base + p) (base + x) (λ q. eqb-false x p e (omega arith))) refl
 
-no-heads : (cap n a : ℕ) → pageClaims (noHeads cap n) a ≡ 0
+pub no-heads : (cap n a : ℕ) → pageClaims (noHeads cap n) a ≡ 0
 unfolding noHeads
 no-heads cap n a = omega arith
 
@@ -78,7 +78,7 @@ module _ (cap pcap base a : ℕ) (outside : (x : ℕ) → x < pcap → base + x 
     chain-none (link b t ch) s y lo hi h = omega (arith, trie-none t (h .2), chain-none ch (chainAt (root t)) b (suc b) hi (h .3))
 
 -- the links of two blocks are apart
-blocks-apart : (P i j x p : ℕ) → x < P → p < P → i ≢ j → nextAt P i + x ≢ nextAt P j + p
+pub blocks-apart : (P i j x p : ℕ) → x < P → p < P → i ≢ j → nextAt P i + x ≢ nextAt P j + p
 blocks-apart P i j x p lx lp d e =
     by-cases (decLt i j)
     (λ l. let q : 2 + i < 2 + j = omega arith in omega (arith, rows-apart P q))

@@ -14,11 +14,9 @@ use Rattle.meaning.specs.Ledger.{Settings}
 use Rattle.meaning.specs.Forest.{blockBytes, bytesOfSketch, eachFrom, totalNodes}
 use Rattle.layout.specs.Pages.{nextAt}
 use Rattle.layout.proofs.Tests.{and-left, and-right}
-use Rattle.trie.specs.declared.Got.{Got}
 use Rattle.trie.specs.declared.Got.the-variants.{Node}
 use Rattle.trie.specs.Heap.{Cells, Heap, nil, page, _⊕_}
 use Rattle.trie.specs.Tables.{RowTable}
-use Rattle.trie.specs.Model.{after}
 use Rattle.trie.specs.Phys.{Phys, root, tree, first, cells, freeCells, Below, State}
 use Rattle.trie.proofs.Frame.{Less, less, nodes-kept, pages-kept}
 use Rattle.trie.proofs.Abstract.{Shallow, ShallowIn}
@@ -36,6 +34,7 @@ use Rattle.add_page.specs.Insert.{Filled, onInsert, insertBlock, insertF
 use Rattle.add_page.specs.Insert.{filled as done}
 use Rattle.add_page.proofs.Bytes.{bytes-length}
 use Rattle.add_page.proofs.Enough.{Roomy, Needs, octets}
+use Rattle.add_page.proofs.Kept.{block-length}
 
 -- inner nodes of a sound trie are above the packed length
 module _ (bytesOf : ℕ → List ℕ) (b n len : ℕ) where
@@ -88,7 +87,6 @@ pub record GrownFrom (s : Settings) (j total : ℕ) (want : List Tree) (G : Cell
 module _ (s : Settings) (S x : List ℕ) (count : length x ≡ s .symbols) (range : inRange (s .bits) x ≡ true) (p : ℕ) (lp : p < s .pages) (live : ℕ → Bool)
     (mine : (j : ℕ) → j < s .blocks → rowBytes s j S p ≡ bytesOfSketch s j x)
     (rows : (j : ℕ) → j < s .blocks → RowTable (s .pages) (rowsOf s j) S)
-    (kept : (j : ℕ) (N P : List ℕ) (free : ℕ) (N' P' : List ℕ) (g : Got) → insertBlock s S x p j N P free ≡ after N' P' g → (length N' ≡ length N) × (length P' ≡ length P))
     (held : ℕ → ℕ) where
   abbrev bytes : ℕ → ℕ → List ℕ
   bytes j = rowBytes s j S
@@ -144,7 +142,7 @@ module _ (s : Settings) (S x : List ℕ) (count : length x ≡ s .symbols) (rang
       } in
       let A = one j t (T ⊕ W ⊕ G) (omega arith) (roomy .nodes .small) st (r .0) (k .0) (omega arith) in
       let X : Cells = cells (s .nodes) (nextAt (s .pages) j) (A .to) in
-      let same = kept j N P free (A .nodesTo) (A .pagesTo) (Node (A .leaf) (A .freeTo)) (A .is) in
+      let same = block-length s S x p j N P free (A .nodesTo) (A .pagesTo) (Node (A .leaf) (A .freeTo)) (A .is) in
       let E = insert-from ts (suc j) (record { nodes = nodes-kept (same .0) (roomy .nodes); pages = λ i li. pages-kept (same .1) (roomy .pages i li) })
       (A .freesTo) (A .state .chain) (A .state .below) (X ⊕ G) (omega arith) (less (past X T (freeCells (s .nodes) (A .freesTo)) W G) (A .state .heap)) (r .2) (k .1)
       (omega (arith, A .count, ap nodes (A .grown), inserted-nodes j (tree t))) in

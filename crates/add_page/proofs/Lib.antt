@@ -6,5 +6,7 @@ pub mod Enough
 pub mod NewBytes
 pub mod Question12
 pub mod Inserts
+pub mod Kept
 pub mod Grows
 pub mod Claims
+pub mod Spares
