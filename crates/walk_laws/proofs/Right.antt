@@ -19,7 +19,7 @@ use Rattle.trie.specs.Heap.{Holds}
 use Rattle.trie.specs.Phys.{Phys, leafP, innerP, Buckets, end, bucket, Chain, stop, link, root, first, tree, kids, kidsC, cells, cellsB, cellsC, Sound, SoundB, SoundC}
 use Rattle.walk.specs.declared.frame.Frame.{Frame}
 use Rattle.walk.specs.Mark.{markAll}
-use Rattle.walk.specs.Frame.{frameAt, entered, following, stepIn}
+use Rattle.walk.specs.Frame.{frameAt, entered, following, stepTo, stepIn}
 use Rattle.walk.specs.Walk.{Given, State, state, Walked, walked, atLink, run}
 use Rattle.walk_laws.proofs.Marks.{mark-append}
 use Rattle.walk_laws.proofs.Ran.{leaf-marks, Ran, ran-none, ran-then, ran-within, ran-to, step-stay, step-leaf, step-down, step-up, step-end}
@@ -162,4 +162,87 @@ module _ (w : Given) where
         from = (at, b, link-there);
         ran = step-stay w f z map left frame stack (frame .at + 1) (linkOf (getD (w .nodes) (frame .at + 1) 0))
             (step-next (w .nodes) (w .cap) (w .b) frame (here stack) e (omega arith));
+      }
+
+steps-some : (t : Phys) → 1 ≤ steps t
+steps-some (leafP n ps) = omega arith
+steps-some (innerP n bs) = omega arith
+
+module _ (w : Given) (small : w .cap ≤ 262144) (query : (k : ℕ) → getD (w .bytes) k 0 < 2 ^ (w .b * perByte (w .b))) where
+  abbrev N : List ℕ
+  N = w .nodes
+
+  abbrev P : List ℕ
+  P = w .pages
+
+  abbrev len : ℕ
+  len = length (w .bytes)
+
+  abbrev metT : Phys → ℕ → List Frame → List ℕ
+  metT t r stack = met (w .b) r (tree t) (behind w stack)
+
+  abbrev metB : Buckets → ℕ → List Frame → List ℕ
+  metB bs r stack = metIn (w .b) r (kids bs) (here w stack ∷ behind w stack)
+
+  -- an exhausted frame with other pages, by an equation
+  under-same : (f : ℕ) (map : List ℕ) (left : ℕ) (frame : Frame) (ps qs : List ℕ) (stack : List Frame) (cost : ℕ) → ps ≡ qs
+      → Under w f map left frame ps stack cost → Under w f map left frame qs stack cost
+  under-same f map left frame ps qs stack cost e u = record {
+    done = u .done;
+    empty = u .empty;
+    last = u .last;
+    ran = ran-to w f _ _ _ cost (ap (λ xs. after w map left xs (u .done) stack) e) (u .ran);
+  }
+
+  under-none : (f : ℕ) (map : List ℕ) (left : ℕ) (frame : Frame) (stack : List Frame) → frame .link ≡ 0 → frame .last ≤ frame .at
+      → Under w f map left frame [] stack 0
+  under-none f map left frame stack e l = record {
+    done = frame;
+    empty = e;
+    last = l;
+    ran = ran-to w f _ _ _ 0 (sym (after-none w map left frame stack)) (ran-none w f (state map left frame stack));
+  }
+
+  -- the chains that a node is entered at: one at radius 0, else all
+  entry : (bs : Buckets) (x : ℕ) (stack : List Frame) (f : ℕ) (map : List ℕ) (left r : ℕ)
+      → (r ≡ 0 → Under w f map left (frameAt N (headAt (w .cap) x (here w stack / 32)) (headAt (w .cap) x (here w stack / 32)) 0) (metB bs r stack) stack (stepsB bs))
+      → (r ≢ 0 → Under w f map left (frameAt N (headAt (w .cap) x 0) (headAt (w .cap) x 7) r) (metB bs r stack) stack (stepsB bs))
+      → Under w f map left (entered N (w .cap) x r (here w stack)) (metB bs r stack) stack (stepsB bs)
+  unfolding entered
+  entry bs x stack f map left r one all = go (eqb r 0) refl
+    where
+      go : (q : Bool) → eqb r 0 ≡ q
+          → Under w f map left
+          (cond q (frameAt N (headAt (w .cap) x (here w stack / 32)) (headAt (w .cap) x (here w stack / 32)) 0)
+          (frameAt N (headAt (w .cap) x 0) (headAt (w .cap) x 7) r)) (metB bs r stack) stack (stepsB bs)
+      go true e = one (eqb-true r 0 e)
+      go false e = all (eqb-false r 0 e)
+
+  -- one chain, then the next ones
+  then-under : (ch : Chain) (bs : Buckets) (x g : ℕ) (stack : List Frame) → Holds (cellsB (w .cap) (w .next) bs x (suc g)) N P
+      → SoundB (w .cap) (w .pcap) bs (suc g)
+      → (f : ℕ) (map : List ℕ) (left : ℕ) (frame : Frame) → From w (bucket ch bs) x g frame → stepsB (bucket ch bs) ≤ f
+      → length (metB (bucket ch bs) (frame .radius) stack) ≤ left → Through w ch stack
+      → ((f′ : ℕ) (map′ : List ℕ) (left′ : ℕ) (frame′ : Frame) → From w bs x (suc g) frame′ → stepsB bs ≤ f′ → length (metB bs (frame′ .radius) stack) ≤ left′
+      → Under w f′ map′ left′ frame′ (metB bs (frame′ .radius) stack) stack (stepsB bs))
+      → Under w f map left frame (metB (bucket ch bs) (frame .radius) stack) stack (stepsB (bucket ch bs))
+  then-under ch bs x g stack h s f map left frame from c m through ih =
+      let ps : List ℕ = metC w ch (frame .radius) stack in
+      let qs : List ℕ = metB bs (frame .radius) stack in
+      let split : metB (bucket ch bs) (frame .radius) stack ≡ ps ++ qs = met-chain (w .b) (frame .radius) (here w stack) (behind w stack) ch (kids bs) in
+      let sum : length (metB (bucket ch bs) (frame .radius) stack) ≡ length ps + length qs = ap length split ∙ length-append ps qs in
+      let one = through f map left frame (from .2) (omega arith) (omega arith) in
+      let map′ : List ℕ = markAll map (w .words) ps in
+      let nx = onward w small bs x g stack h s (one .rest) map′ (left - length ps) (atLink frame (frame .at) 0) (omega (arith, one .enough)) (from .0) (from .1) refl in
+      let same : metB bs (nx .next .radius) stack ≡ qs = ap (λ r. metB bs r stack) (nx .radius) in
+      let rest = under-same (nx .ran .rest) map′ (left - length ps) (nx .next) (metB bs (nx .next .radius) stack) qs stack (stepsB bs) same
+      (ih (nx .ran .rest) map′ (left - length ps) (nx .next) (nx .from) (omega (arith, one .enough, nx .ran .enough)) (omega (arith, ap length same))) in
+      record {
+        done = rest .done;
+        empty = rest .empty;
+        last = rest .last;
+        ran = ran-to w f _ _ _ (stepsC ch + 1 + stepsB bs) (after-join w map left ps qs (rest .done) stack ∙ ap (λ xs. after w map left xs (rest .done) stack) (sym split))
+            (ran-within w f _ _ (stepsC ch + (1 + stepsB bs)) (stepsC ch + 1 + stepsB bs) (omega arith)
+            (ran-then w f _ _ _ (stepsC ch) (1 + stepsB bs) one
+            (ran-then w (one .rest) _ _ _ 1 (stepsB bs) (nx .ran) (rest .ran))));
       }
