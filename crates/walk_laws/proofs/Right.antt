@@ -6,7 +6,7 @@ use native.Mathlib.Decide.{ℕ-discrete}
 use mathlib.Core.Path.{_≡_, refl, sym, ap, ap₂, _∙_}
 use mathlib.Core.Logic.{_≢_}
 use mathlib.Core.Bool.{Bool, true, false, cond, _&&_}
-use mathlib.Core.List.{List, [], _∷_, _++_}
+use mathlib.Core.List.{List, [], _∷_, _++_, append-nil}
 use lib.Bits.{bitXor}
 use lib.Dec.{eqb, leb}
 use lib.ListN.{length, getD, drop, length-append}
@@ -246,3 +246,114 @@ module _ (w : Given) (small : w .cap ≤ 262144) (query : (k : ℕ) → getD (w 
             (ran-then w f _ _ _ (stepsC ch) (1 + stepsB bs) one
             (ran-then w (one .rest) _ _ _ 1 (stepsB bs) (nx .ran) (rest .ran))));
       }
+
+  -- the frame of all chains
+  from-first : (bs : Buckets) (x r : ℕ) → Holds (cellsB (w .cap) (w .next) bs x 0) N P → SoundB (w .cap) (w .pcap) bs 0
+      → From w bs x 0 (frameAt N (headAt (w .cap) x 0) (headAt (w .cap) x 7) r)
+  unfolding frameAt
+  from-first end x r h s = absurd (omega arith)
+  from-first (bucket ch bs) x r h s =
+      (
+        refl,
+        refl,
+        ap linkOf (slot-word (w .cap) (w .next) N P ch (headAt (w .cap) x 0) 0 (h .0))
+        ∙ link-in 0 (firstLink ch) (omega (arith, first-below (w .cap) (w .pcap) ch 0 32 (s .0))),
+      )
+
+  under-within : (f : ℕ) (map : List ℕ) (left : ℕ) (frame : Frame) (ps : List ℕ) (stack : List Frame) (c d : ℕ) → c ≤ d
+      → Under w f map left frame ps stack c → Under w f map left frame ps stack d
+  under-within f map left frame ps stack c d l u = record {
+    done = u .done;
+    empty = u .empty;
+    last = u .last;
+    ran = ran-within w f _ _ c d l (u .ran);
+  }
+
+  -- the frame of the chain of the query's byte
+  abbrev only : ℕ → List Frame → Frame
+  only x stack = frameAt N (headAt (w .cap) x (here w stack / 32)) (headAt (w .cap) x (here w stack / 32)) 0
+
+  -- chain g at radius 0: it is that of the query's byte, or has none
+  only-here : (ch : Chain) (bs : Buckets) (x g : ℕ) (stack : List Frame) → Holds (cellsC (w .cap) (w .next) ch (headAt (w .cap) x g) 0) N P
+      → SoundC (w .cap) (w .pcap) ch (32 * g) (32 * g + 32) → SoundB (w .cap) (w .pcap) bs (suc g)
+      → FitC (w .b) len ch (length stack) → FitB (w .b) len bs (length stack) → g ≤ here w stack / 32
+      → (f : ℕ) (map : List ℕ) (left : ℕ) → stepsB (bucket ch bs) ≤ f → length (metB (bucket ch bs) 0 stack) ≤ left → Through w ch stack
+      → (suc g ≤ here w stack / 32 → stepsB bs ≤ f → length (metB bs 0 stack) ≤ left
+      → Under w f map left (only x stack) (metB bs 0 stack) stack (stepsB bs))
+      → Under w f map left (only x stack) (metB (bucket ch bs) 0 stack) stack (stepsB (bucket ch bs))
+  unfolding frameAt
+  only-here ch bs x g stack h s s′ u u′ l f map left c m through ih = go (ℕ-discrete g (here w stack / 32))
+    where
+      ps : List ℕ
+      ps = metC w ch 0 stack
+
+      split : metB (bucket ch bs) 0 stack ≡ ps ++ metB bs 0 stack
+      split = met-chain (w .b) 0 (here w stack) (behind w stack) ch (kids bs)
+
+      go : Dec (g ≡ here w stack / 32) → Under w f map left (only x stack) (metB (bucket ch bs) 0 stack) stack (stepsB (bucket ch bs))
+      go (yes e) =
+          let past : metB bs 0 stack ≡ [] =
+              unmet-past (w .cap) (w .pcap) (w .b) len (here w stack) (behind w stack) (query (length stack)) bs (suc g) (length stack) s′ u′ (omega arith) in
+          let same : ps ≡ metB (bucket ch bs) 0 stack = sym (split ∙ ap (λ qs. ps ++ qs) past ∙ append-nil ps) in
+          let first-there : linkOf (getD N (headAt (w .cap) x (here w stack / 32)) 0) ≡ firstLink ch =
+              ap (λ k. linkOf (getD N (headAt (w .cap) x k) 0)) (sym e)
+              ∙ ap linkOf (slot-word (w .cap) (w .next) N P ch (headAt (w .cap) x g) 0 h)
+              ∙ link-in 0 (firstLink ch) (omega (arith, first-below (w .cap) (w .pcap) ch (32 * g) (32 * g + 32) s)) in
+          record {
+            done = atLink (only x stack) (only x stack .at) 0;
+            empty = refl;
+            last = omega arith;
+            ran = ran-to w f _ _ _ (stepsC ch + 1 + stepsB bs) (ap (λ qs. after w map left qs (atLink (only x stack) (only x stack .at) 0) stack) same)
+                (ran-within w f _ _ (stepsC ch) (stepsC ch + 1 + stepsB bs) (omega arith)
+                (through f map left (only x stack) first-there (omega arith) (omega (arith, ap length same))));
+          }
+      go (no n) =
+          let gone : ps ≡ [] =
+              unmet (w .cap) (w .pcap) (w .b) len (here w stack) (behind w stack) (query (length stack)) ch (32 * g) (32 * g + 32) (length stack) s u
+              (λ k a b z. absurd (omega arith)) in
+          let same : metB bs 0 stack ≡ metB (bucket ch bs) 0 stack = sym (split ∙ ap (λ qs. qs ++ metB bs 0 stack) gone) in
+          under-same f map left (only x stack) (metB bs 0 stack) (metB (bucket ch bs) 0 stack) stack (stepsB (bucket ch bs)) same
+          (under-within f map left (only x stack) (metB bs 0 stack) stack (stepsB bs) (stepsB (bucket ch bs)) (omega arith)
+          (ih (omega arith) (omega arith) (omega (arith, ap length same))))
+
+  -- a child, near or far, and the rest of its chain
+  child-through : (t : Phys) (ch : Chain) (stack : List Frame) (c at y lo hi : ℕ) → Holds (cellsC (w .cap) (w .next) (link c t ch) at y) N P
+      → SoundC (w .cap) (w .pcap) (link c t ch) lo hi → FitC (w .b) len (link c t ch) (length stack)
+      → (f : ℕ) (map : List ℕ) (left : ℕ) (frame : Frame) → frame .link ≡ root t + 1 → steps t + stepsC ch ≤ f
+      → length (metC w (link c t ch) (frame .radius) stack) ≤ left → Through w ch stack
+      → ((d l : ℕ) → stepIn N (w .cap) (w .b) frame (here w stack) ≡ stepTo N (w .cap) (root t) d (frame .radius) (frame .at) l → d ≤ frame .radius
+      → steps t ≤ f → length (metT t (frame .radius - d) stack) ≤ left
+      → Ran w f (state map left frame stack) (after w map left (metT t (frame .radius - d) stack) (atLink frame (frame .at) l) stack) (steps t))
+      → Ran w f (state map left frame stack) (after w map left (metC w (link c t ch) (frame .radius) stack) (atLink frame (frame .at) 0) stack)
+      (steps t + stepsC ch)
+  unfolding metIn
+  child-through t ch stack c at y lo hi h s u f map left frame e n m through near = go (leb d r) refl m
+    where
+      r : ℕ
+      r = frame .radius
+
+      d : ℕ
+      d = byteDistance (w .b) (bitXor c (here w stack))
+
+      l : ℕ
+      l = following r c (here w stack) (firstLink ch)
+
+      found : stepIn N (w .cap) (w .b) frame (here w stack) ≡ stepTo N (w .cap) (root t) d r (frame .at) l
+      found =
+          step-chain N (w .cap) (w .b) frame (here w stack) (root t) c (firstLink ch) e (root-below (w .cap) (w .pcap) t (s .2))
+          (slot-word (w .cap) (w .next) N P ch (root t) c (h .1 .1))
+          (omega (arith, first-below (w .cap) (w .pcap) ch (suc c) hi (s .3)))
+          (omega (arith, u .0, byte-small (w .b)))
+
+      go : (q : Bool) → leb d r ≡ q → length (cond q (metT t (r - d) stack) [] ++ metC w ch r stack) ≤ left
+          → Ran w f (state map left frame stack)
+          (after w map left (cond q (metT t (r - d) stack) [] ++ metC w ch r stack) (atLink frame (frame .at) 0) stack) (steps t + stepsC ch)
+      go true k v =
+          link-through w ch t stack c hi (length stack) (s .3) (u .2) (query (length stack)) through f map left frame (metT t (r - d) stack) n v
+          (near d l found (leb-true d r k) (omega arith) (omega (arith, length-append (metT t (r - d) stack) (metC w ch r stack))))
+      go false k v =
+          link-through w ch t stack c hi (length stack) (s .3) (u .2) (query (length stack)) through f map left frame [] n v
+          (ran-to w f _ _ _ (steps t) (sym (after-none w map left (atLink frame (frame .at) l) stack))
+          (ran-within w f _ _ 1 (steps t) (steps-some t)
+          (step-stay w f (omega (arith, steps-some t)) map left frame stack (frame .at) l
+          (found ∙ to-far N (w .cap) (root t) d r (frame .at) l (leb-false d r k)))))
