@@ -6,7 +6,7 @@ use native.Mathlib.Decide.{ℕ-discrete}
 use mathlib.Core.Path.{_≡_, refl, sym, ap, ap₂, _∙_}
 use mathlib.Core.Logic.{_≢_}
 use mathlib.Core.Bool.{Bool, true, false, cond, _&&_}
-use mathlib.Core.List.{List, [], _∷_, _++_}
+use mathlib.Core.List.{List, [], _∷_, _++_, append-nil}
 use lib.Bits.{bitXor}
 use lib.Dec.{eqb, leb}
 use lib.ListN.{length, getD, drop, length-append}
@@ -19,7 +19,7 @@ use Rattle.trie.specs.Heap.{Holds}
 use Rattle.trie.specs.Phys.{Phys, leafP, innerP, Buckets, end, bucket, Chain, stop, link, root, first, tree, kids, kidsC, cells, cellsB, cellsC, Sound, SoundB, SoundC}
 use Rattle.walk.specs.declared.frame.Frame.{Frame}
 use Rattle.walk.specs.Mark.{markAll}
-use Rattle.walk.specs.Frame.{frameAt, entered, following, stepIn}
+use Rattle.walk.specs.Frame.{frameAt, entered, following, stepTo, stepIn}
 use Rattle.walk.specs.Walk.{Given, State, state, Walked, walked, atLink, run}
 use Rattle.walk_laws.proofs.Marks.{mark-append}
 use Rattle.walk_laws.proofs.Ran.{leaf-marks, Ran, ran-none, ran-then, ran-within, ran-to, step-stay, step-leaf, step-down, step-up, step-end}
@@ -163,3 +163,197 @@ module _ (w : Given) where
         ran = step-stay w f z map left frame stack (frame .at + 1) (linkOf (getD (w .nodes) (frame .at + 1) 0))
             (step-next (w .nodes) (w .cap) (w .b) frame (here stack) e (omega arith));
       }
+
+steps-some : (t : Phys) → 1 ≤ steps t
+steps-some (leafP n ps) = omega arith
+steps-some (innerP n bs) = omega arith
+
+module _ (w : Given) (small : w .cap ≤ 262144) (query : (k : ℕ) → getD (w .bytes) k 0 < 2 ^ (w .b * perByte (w .b))) where
+  abbrev N : List ℕ
+  N = w .nodes
+
+  abbrev P : List ℕ
+  P = w .pages
+
+  abbrev len : ℕ
+  len = length (w .bytes)
+
+  abbrev metT : Phys → ℕ → List Frame → List ℕ
+  metT t r stack = met (w .b) r (tree t) (behind w stack)
+
+  abbrev metB : Buckets → ℕ → List Frame → List ℕ
+  metB bs r stack = metIn (w .b) r (kids bs) (here w stack ∷ behind w stack)
+
+  -- an exhausted frame with other pages, by an equation
+  under-same : (f : ℕ) (map : List ℕ) (left : ℕ) (frame : Frame) (ps qs : List ℕ) (stack : List Frame) (cost : ℕ) → ps ≡ qs
+      → Under w f map left frame ps stack cost → Under w f map left frame qs stack cost
+  under-same f map left frame ps qs stack cost e u = record {
+    done = u .done;
+    empty = u .empty;
+    last = u .last;
+    ran = ran-to w f _ _ _ cost (ap (λ xs. after w map left xs (u .done) stack) e) (u .ran);
+  }
+
+  under-none : (f : ℕ) (map : List ℕ) (left : ℕ) (frame : Frame) (stack : List Frame) → frame .link ≡ 0 → frame .last ≤ frame .at
+      → Under w f map left frame [] stack 0
+  under-none f map left frame stack e l = record {
+    done = frame;
+    empty = e;
+    last = l;
+    ran = ran-to w f _ _ _ 0 (sym (after-none w map left frame stack)) (ran-none w f (state map left frame stack));
+  }
+
+  -- the chains that a node is entered at: one at radius 0, else all
+  entry : (bs : Buckets) (x : ℕ) (stack : List Frame) (f : ℕ) (map : List ℕ) (left r : ℕ)
+      → (r ≡ 0 → Under w f map left (frameAt N (headAt (w .cap) x (here w stack / 32)) (headAt (w .cap) x (here w stack / 32)) 0) (metB bs r stack) stack (stepsB bs))
+      → (r ≢ 0 → Under w f map left (frameAt N (headAt (w .cap) x 0) (headAt (w .cap) x 7) r) (metB bs r stack) stack (stepsB bs))
+      → Under w f map left (entered N (w .cap) x r (here w stack)) (metB bs r stack) stack (stepsB bs)
+  unfolding entered
+  entry bs x stack f map left r one all = go (eqb r 0) refl
+    where
+      go : (q : Bool) → eqb r 0 ≡ q
+          → Under w f map left
+          (cond q (frameAt N (headAt (w .cap) x (here w stack / 32)) (headAt (w .cap) x (here w stack / 32)) 0)
+          (frameAt N (headAt (w .cap) x 0) (headAt (w .cap) x 7) r)) (metB bs r stack) stack (stepsB bs)
+      go true e = one (eqb-true r 0 e)
+      go false e = all (eqb-false r 0 e)
+
+  -- one chain, then the next ones
+  then-under : (ch : Chain) (bs : Buckets) (x g : ℕ) (stack : List Frame) → Holds (cellsB (w .cap) (w .next) bs x (suc g)) N P
+      → SoundB (w .cap) (w .pcap) bs (suc g)
+      → (f : ℕ) (map : List ℕ) (left : ℕ) (frame : Frame) → From w (bucket ch bs) x g frame → stepsB (bucket ch bs) ≤ f
+      → length (metB (bucket ch bs) (frame .radius) stack) ≤ left → Through w ch stack
+      → ((f′ : ℕ) (map′ : List ℕ) (left′ : ℕ) (frame′ : Frame) → From w bs x (suc g) frame′ → stepsB bs ≤ f′ → length (metB bs (frame′ .radius) stack) ≤ left′
+      → Under w f′ map′ left′ frame′ (metB bs (frame′ .radius) stack) stack (stepsB bs))
+      → Under w f map left frame (metB (bucket ch bs) (frame .radius) stack) stack (stepsB (bucket ch bs))
+  then-under ch bs x g stack h s f map left frame from c m through ih =
+      let ps : List ℕ = metC w ch (frame .radius) stack in
+      let qs : List ℕ = metB bs (frame .radius) stack in
+      let split : metB (bucket ch bs) (frame .radius) stack ≡ ps ++ qs = met-chain (w .b) (frame .radius) (here w stack) (behind w stack) ch (kids bs) in
+      let sum : length (metB (bucket ch bs) (frame .radius) stack) ≡ length ps + length qs = ap length split ∙ length-append ps qs in
+      let one = through f map left frame (from .2) (omega arith) (omega arith) in
+      let map′ : List ℕ = markAll map (w .words) ps in
+      let nx = onward w small bs x g stack h s (one .rest) map′ (left - length ps) (atLink frame (frame .at) 0) (omega (arith, one .enough)) (from .0) (from .1) refl in
+      let same : metB bs (nx .next .radius) stack ≡ qs = ap (λ r. metB bs r stack) (nx .radius) in
+      let rest = under-same (nx .ran .rest) map′ (left - length ps) (nx .next) (metB bs (nx .next .radius) stack) qs stack (stepsB bs) same
+      (ih (nx .ran .rest) map′ (left - length ps) (nx .next) (nx .from) (omega (arith, one .enough, nx .ran .enough)) (omega (arith, ap length same))) in
+      record {
+        done = rest .done;
+        empty = rest .empty;
+        last = rest .last;
+        ran = ran-to w f _ _ _ (stepsC ch + 1 + stepsB bs) (after-join w map left ps qs (rest .done) stack ∙ ap (λ xs. after w map left xs (rest .done) stack) (sym split))
+            (ran-within w f _ _ (stepsC ch + (1 + stepsB bs)) (stepsC ch + 1 + stepsB bs) (omega arith)
+            (ran-then w f _ _ _ (stepsC ch) (1 + stepsB bs) one
+            (ran-then w (one .rest) _ _ _ 1 (stepsB bs) (nx .ran) (rest .ran))));
+      }
+
+  -- the frame of all chains
+  from-first : (bs : Buckets) (x r : ℕ) → Holds (cellsB (w .cap) (w .next) bs x 0) N P → SoundB (w .cap) (w .pcap) bs 0
+      → From w bs x 0 (frameAt N (headAt (w .cap) x 0) (headAt (w .cap) x 7) r)
+  unfolding frameAt
+  from-first end x r h s = absurd (omega arith)
+  from-first (bucket ch bs) x r h s =
+      (
+        refl,
+        refl,
+        ap linkOf (slot-word (w .cap) (w .next) N P ch (headAt (w .cap) x 0) 0 (h .0))
+        ∙ link-in 0 (firstLink ch) (omega (arith, first-below (w .cap) (w .pcap) ch 0 32 (s .0))),
+      )
+
+  under-within : (f : ℕ) (map : List ℕ) (left : ℕ) (frame : Frame) (ps : List ℕ) (stack : List Frame) (c d : ℕ) → c ≤ d
+      → Under w f map left frame ps stack c → Under w f map left frame ps stack d
+  under-within f map left frame ps stack c d l u = record {
+    done = u .done;
+    empty = u .empty;
+    last = u .last;
+    ran = ran-within w f _ _ c d l (u .ran);
+  }
+
+  -- the frame of the chain of the query's byte
+  abbrev only : ℕ → List Frame → Frame
+  only x stack = frameAt N (headAt (w .cap) x (here w stack / 32)) (headAt (w .cap) x (here w stack / 32)) 0
+
+  -- chain g at radius 0: it is that of the query's byte, or has none
+  only-here : (ch : Chain) (bs : Buckets) (x g : ℕ) (stack : List Frame) → Holds (cellsC (w .cap) (w .next) ch (headAt (w .cap) x g) 0) N P
+      → SoundC (w .cap) (w .pcap) ch (32 * g) (32 * g + 32) → SoundB (w .cap) (w .pcap) bs (suc g)
+      → FitC (w .b) len ch (length stack) → FitB (w .b) len bs (length stack) → g ≤ here w stack / 32
+      → (f : ℕ) (map : List ℕ) (left : ℕ) → stepsB (bucket ch bs) ≤ f → length (metB (bucket ch bs) 0 stack) ≤ left → Through w ch stack
+      → (suc g ≤ here w stack / 32 → stepsB bs ≤ f → length (metB bs 0 stack) ≤ left
+      → Under w f map left (only x stack) (metB bs 0 stack) stack (stepsB bs))
+      → Under w f map left (only x stack) (metB (bucket ch bs) 0 stack) stack (stepsB (bucket ch bs))
+  unfolding frameAt
+  only-here ch bs x g stack h s s′ u u′ l f map left c m through ih = go (ℕ-discrete g (here w stack / 32))
+    where
+      ps : List ℕ
+      ps = metC w ch 0 stack
+
+      split : metB (bucket ch bs) 0 stack ≡ ps ++ metB bs 0 stack
+      split = met-chain (w .b) 0 (here w stack) (behind w stack) ch (kids bs)
+
+      go : Dec (g ≡ here w stack / 32) → Under w f map left (only x stack) (metB (bucket ch bs) 0 stack) stack (stepsB (bucket ch bs))
+      go (yes e) =
+          let past : metB bs 0 stack ≡ [] =
+              unmet-past (w .cap) (w .pcap) (w .b) len (here w stack) (behind w stack) (query (length stack)) bs (suc g) (length stack) s′ u′ (omega arith) in
+          let same : ps ≡ metB (bucket ch bs) 0 stack = sym (split ∙ ap (λ qs. ps ++ qs) past ∙ append-nil ps) in
+          let first-there : linkOf (getD N (headAt (w .cap) x (here w stack / 32)) 0) ≡ firstLink ch =
+              ap (λ k. linkOf (getD N (headAt (w .cap) x k) 0)) (sym e)
+              ∙ ap linkOf (slot-word (w .cap) (w .next) N P ch (headAt (w .cap) x g) 0 h)
+              ∙ link-in 0 (firstLink ch) (omega (arith, first-below (w .cap) (w .pcap) ch (32 * g) (32 * g + 32) s)) in
+          record {
+            done = atLink (only x stack) (only x stack .at) 0;
+            empty = refl;
+            last = omega arith;
+            ran = ran-to w f _ _ _ (stepsC ch + 1 + stepsB bs) (ap (λ qs. after w map left qs (atLink (only x stack) (only x stack .at) 0) stack) same)
+                (ran-within w f _ _ (stepsC ch) (stepsC ch + 1 + stepsB bs) (omega arith)
+                (through f map left (only x stack) first-there (omega arith) (omega (arith, ap length same))));
+          }
+      go (no n) =
+          let gone : ps ≡ [] =
+              unmet (w .cap) (w .pcap) (w .b) len (here w stack) (behind w stack) (query (length stack)) ch (32 * g) (32 * g + 32) (length stack) s u
+              (λ k a b z. absurd (omega arith)) in
+          let same : metB bs 0 stack ≡ metB (bucket ch bs) 0 stack = sym (split ∙ ap (λ qs. qs ++ metB bs 0 stack) gone) in
+          under-same f map left (only x stack) (metB bs 0 stack) (metB (bucket ch bs) 0 stack) stack (stepsB (bucket ch bs)) same
+          (under-within f map left (only x stack) (metB bs 0 stack) stack (stepsB bs) (stepsB (bucket ch bs)) (omega arith)
+          (ih (omega arith) (omega arith) (omega (arith, ap length same))))
+
+  -- a child, near or far, and the rest of its chain
+  child-through : (t : Phys) (ch : Chain) (stack : List Frame) (c at y lo hi : ℕ) → Holds (cellsC (w .cap) (w .next) (link c t ch) at y) N P
+      → SoundC (w .cap) (w .pcap) (link c t ch) lo hi → FitC (w .b) len (link c t ch) (length stack)
+      → (f : ℕ) (map : List ℕ) (left : ℕ) (frame : Frame) → frame .link ≡ root t + 1 → steps t + stepsC ch ≤ f
+      → length (metC w (link c t ch) (frame .radius) stack) ≤ left → Through w ch stack
+      → ((d l : ℕ) → stepIn N (w .cap) (w .b) frame (here w stack) ≡ stepTo N (w .cap) (root t) d (frame .radius) (frame .at) l → d ≤ frame .radius
+      → steps t ≤ f → length (metT t (frame .radius - d) stack) ≤ left
+      → Ran w f (state map left frame stack) (after w map left (metT t (frame .radius - d) stack) (atLink frame (frame .at) l) stack) (steps t))
+      → Ran w f (state map left frame stack) (after w map left (metC w (link c t ch) (frame .radius) stack) (atLink frame (frame .at) 0) stack)
+      (steps t + stepsC ch)
+  unfolding metIn
+  child-through t ch stack c at y lo hi h s u f map left frame e n m through near = go (leb d r) refl m
+    where
+      r : ℕ
+      r = frame .radius
+
+      d : ℕ
+      d = byteDistance (w .b) (bitXor c (here w stack))
+
+      l : ℕ
+      l = following r c (here w stack) (firstLink ch)
+
+      found : stepIn N (w .cap) (w .b) frame (here w stack) ≡ stepTo N (w .cap) (root t) d r (frame .at) l
+      found =
+          step-chain N (w .cap) (w .b) frame (here w stack) (root t) c (firstLink ch) e (root-below (w .cap) (w .pcap) t (s .2))
+          (slot-word (w .cap) (w .next) N P ch (root t) c (h .1 .1))
+          (omega (arith, first-below (w .cap) (w .pcap) ch (suc c) hi (s .3)))
+          (omega (arith, u .0, byte-small (w .b)))
+
+      go : (q : Bool) → leb d r ≡ q → length (cond q (metT t (r - d) stack) [] ++ metC w ch r stack) ≤ left
+          → Ran w f (state map left frame stack)
+          (after w map left (cond q (metT t (r - d) stack) [] ++ metC w ch r stack) (atLink frame (frame .at) 0) stack) (steps t + stepsC ch)
+      go true k v =
+          link-through w ch t stack c hi (length stack) (s .3) (u .2) (query (length stack)) through f map left frame (metT t (r - d) stack) n v
+          (near d l found (leb-true d r k) (omega arith) (omega (arith, length-append (metT t (r - d) stack) (metC w ch r stack))))
+      go false k v =
+          link-through w ch t stack c hi (length stack) (s .3) (u .2) (query (length stack)) through f map left frame [] n v
+          (ran-to w f _ _ _ (steps t) (sym (after-none w map left (atLink frame (frame .at) l) stack))
+          (ran-within w f _ _ 1 (steps t) (steps-some t)
+          (step-stay w f (omega (arith, steps-some t)) map left frame stack (frame .at) l
+          (found ∙ to-far N (w .cap) (root t) d r (frame .at) l (leb-false d r k)))))
