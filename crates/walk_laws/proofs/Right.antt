@@ -13,14 +13,16 @@ use lib.ListN.{length, getD, drop, length-append}
 use lib.Seq.{drop-cons}
 use borrow.Author.Tests.{eqb-true, eqb-false, leb-true, leb-false, eq-eqb, ne-eqb}
 use Rattle.meaning.specs.Sketch.{perByte, byteDistance}
-use Rattle.meaning.specs.Trie.{Tree, Children, none, child, met, metIn}
+use Rattle.meaning.specs.Trie.{Tree, Children, none, child, met, metIn, nodes, nodesIn}
 use Rattle.layout.specs.Nodes.{linkOf, chainWord, headAt, stateAt}
 use Rattle.trie.specs.Heap.{Holds}
 use Rattle.trie.specs.Phys.{Phys, leafP, innerP, Buckets, end, bucket, Chain, stop, link, root, first, tree, kids, kidsC, cells, cellsB, cellsC, Sound, SoundB, SoundC}
 use Rattle.walk.specs.declared.frame.Frame.{Frame}
-use Rattle.walk.specs.Mark.{markAll}
+use Rattle.walk.specs.declared.mark.Left.the-variants.{Some}
+use Rattle.walk.specs.Mark.{markAll, markLeaf}
 use Rattle.walk.specs.Frame.{frameAt, entered, following, stepTo, stepIn}
-use Rattle.walk.specs.Walk.{Given, State, state, Walked, walked, atLink, run}
+use Rattle.walk.specs.Walk.{Given, State, state, Walked, walked, atLink, run, walkBelow, walkFrom}
+use Rattle.walk.proofs.Turns.{from-leaf, from-inner}
 use Rattle.walk_laws.proofs.Marks.{mark-append}
 use Rattle.walk_laws.proofs.Ran.{leaf-marks, Ran, ran-none, ran-then, ran-within, ran-to, step-stay, step-leaf, step-down, step-up, step-end}
 use Rattle.walk_laws.proofs.Chains.{firstLink, slot-word, root-below, first-below, link-in, step-chain, step-next, step-last, to-far, to-leaf, to-inner, met-chain}
@@ -432,3 +434,50 @@ module _ (w : Given) (small : w .cap ≤ 262144) (query : (k : ℕ) → getD (w 
         child-through t ch stack b at y lo hi h s u f map left frame e c m
         (λ f′ map′ left′ frame′ e′ c′ m′. chain-through ch stack (root t) b (suc b) hi (h .1 .1) (s .3) (u .2) v f′ map′ left′ frame′ e′ c′ m′)
         (λ d l q r c′ m′. tree-through t stack (h .1 .0) (s .2) (u .1) f map left frame d l q r c′ m′)
+
+  -- from the root
+  pub right : (t : Phys) (radius : ℕ) (map : List ℕ) → Holds (cells (w .cap) (w .next) t) N P → Sound (w .cap) (w .pcap) t → Fit (w .b) len t 0
+      → steps t ≤ 10 * (w .cap + 1) → length (met (w .b) radius (tree t) (w .bytes)) ≤ w .pcap
+      → walkFrom w (root t) radius map ≡ walked (markAll map (w .words) (met (w .b) radius (tree t) (w .bytes))) true
+  unfolding met walkBelow frameAt
+  right (leafP x ps) radius map h s u c m =
+      let word : getD N (stateAt (w .cap) x) 0 ≡ 2 + first ps = h .0 in
+      let less : getD N (stateAt (w .cap) x) 0 - 2 ≡ first ps = omega arith in
+      sym
+      (from-leaf w x radius map (stateAt (w .cap) x) refl (omega arith) (markAll map (w .words) ps) (Some (w .pcap - length ps)) (Some (w .pcap - length ps))
+      (sym (ap (λ n. markLeaf P (w .words) (w .pcap) (w .next) map n (w .pcap)) less ∙ leaf-marks P (w .words) (w .pcap) (w .next) N map ps (w .pcap) (h .1 .1) (s .1) m))
+      refl)
+  right (innerP x bs) radius map h s u c m =
+      let f : ℕ = 10 * (w .cap + 1) in
+      let cons : w .bytes ≡ here w [] ∷ behind w [] = drop-cons (w .bytes) 0 0 (u .0) in
+      let ps : List ℕ = metB bs radius [] in
+      let same : met (w .b) radius (tree (innerP x bs)) (w .bytes) ≡ ps = ap (metIn (w .b) radius (kids bs)) cons in
+      let under = entry bs x [] f map (w .pcap) radius
+      (λ z.
+      let zero-met : metB bs 0 [] ≡ ps = ap (λ k. metB bs k []) (sym z) in
+      under-same f map (w .pcap) (only x []) (metB bs 0 []) ps [] (stepsB bs) zero-met
+      (only-through bs x 0 [] (h .1) (s .1) (u .1) (u .0) (omega arith) f map (w .pcap) (omega arith) (omega (arith, ap length same, ap length zero-met))))
+      (λ z. all-through bs x 0 [] (h .1) (s .1) (u .1) (u .0) f map (w .pcap) (frameAt N (headAt (w .cap) x 0) (headAt (w .cap) x 7) radius)
+      (from-first bs x radius (h .1) (s .1)) (omega arith) (omega (arith, ap length same))) in
+      sym (from-inner w x radius map (stateAt (w .cap) x) refl (h .0))
+      ∙ under .ran .same
+      ∙ step-end w (under .ran .rest) (omega (arith, under .ran .enough)) (markAll map (w .words) ps) (w .pcap - length ps) (under .done)
+      (step-last N (w .cap) (w .b) (under .done) (here w []) (under .empty) (under .last))
+      ∙ ap (λ qs. walked (markAll map (w .words) qs) true) (sym same)
+
+-- ---- what a walk can cost: at most ten steps a node
+module _ (cap pcap : ℕ) where
+  mutual
+    unfolding nodes nodesIn
+
+    pub steps-nodes : (t : Phys) → Sound cap pcap t → steps t ≤ 10 * nodes (tree t)
+    steps-nodes (leafP n ps) s = omega arith
+    steps-nodes (innerP n bs) s = omega (arith, steps-buckets bs 0 (s .1))
+
+    steps-buckets : (bs : Buckets) (g : ℕ) → SoundB cap pcap bs g → stepsB bs + g ≤ 8 + 10 * nodesIn (kids bs)
+    steps-buckets end g s = omega arith
+    steps-buckets (bucket ch bs) g s = omega (arith, steps-chain ch (32 * g) (32 * g + 32) (kids bs) (s .0), steps-buckets bs (suc g) (s .1))
+
+    steps-chain : (ch : Chain) (lo hi : ℕ) (cs : Children) → SoundC cap pcap ch lo hi → stepsC ch + 10 * nodesIn cs ≤ 10 * nodesIn (kidsC ch cs)
+    steps-chain stop lo hi cs s = omega arith
+    steps-chain (link c t ch) lo hi cs s = omega (arith, steps-nodes t (s .2), steps-chain ch (suc c) hi cs (s .3))
