@@ -4,3 +4,4 @@ pub mod Ran
 pub mod Chains
 pub mod Fit
 pub mod Right
+pub mod Walk
