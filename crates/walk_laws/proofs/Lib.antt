@@ -5,3 +5,4 @@ pub mod Chains
 pub mod Fit
 pub mod Right
 pub mod Walk
+pub mod Anywhere

@@ -1,5 +1,5 @@
 -- On tables that hold a trie, the walk marks exactly the pages that `met` meets, in order.
-use Prim.Native.Nat.{ℕ, zero, suc, _+_, _-_, _*_, _/_, _^_, _≤_, _<_}
+use Prim.Native.Nat.{ℕ, suc, _+_, _-_, _*_, _/_, _^_, _≤_, _<_}
 use native.Mathlib.Omega.{arith}
 use native.Mathlib.Numerals.{add-one}
 use native.Mathlib.Decide.{ℕ-discrete}
@@ -11,9 +11,9 @@ use lib.Bits.{bitXor}
 use lib.Dec.{eqb, leb}
 use lib.ListN.{length, getD, drop, length-append}
 use lib.Seq.{drop-cons}
-use borrow.Author.Tests.{eqb-true, eqb-false, leb-true, leb-false, eq-eqb, ne-eqb}
+use borrow.Author.Tests.{eqb-true, eqb-false, leb-true, leb-false}
 use Rattle.meaning.specs.Sketch.{perByte, byteDistance}
-use Rattle.meaning.specs.Trie.{Tree, Children, none, child, met, metIn, nodes, nodesIn}
+use Rattle.meaning.specs.Trie.{Children, none, met, metIn, nodes, nodesIn}
 use Rattle.layout.specs.Nodes.{linkOf, chainWord, headAt, stateAt}
 use Rattle.trie.specs.Heap.{Holds}
 use Rattle.trie.specs.Phys.{Phys, leafP, innerP, Buckets, end, bucket, Chain, stop, link, root, first, tree, kids, kidsC, cells, cellsB, cellsC, Sound, SoundB, SoundC}
@@ -21,7 +21,7 @@ use Rattle.walk.specs.declared.frame.Frame.{Frame}
 use Rattle.walk.specs.declared.mark.Left.the-variants.{Some}
 use Rattle.walk.specs.Mark.{markAll, markLeaf}
 use Rattle.walk.specs.Frame.{frameAt, entered, following, stepTo, stepIn}
-use Rattle.walk.specs.Walk.{Given, State, state, Walked, walked, atLink, run, walkBelow, walkFrom}
+use Rattle.walk.specs.Walk.{Given, State, state, walked, atLink, walkBelow, walkFrom}
 use Rattle.walk.proofs.Turns.{from-leaf, from-inner}
 use Rattle.walk_laws.proofs.Marks.{mark-append}
 use Rattle.walk_laws.proofs.Ran.{leaf-marks, Ran, ran-none, ran-then, ran-within, ran-to, step-stay, step-leaf, step-down, step-up, step-end}

@@ -1,16 +1,16 @@
--- The walk over one block's trie: on sound tables it marks exactly what is met; on any tables it marks only pages below the capacity.
-use Prim.Native.Nat.{ℕ, zero, suc, _+_, _-_, _*_, _^_, _≤_, _<_}
+-- The walk over one block's trie, on tables that hold a sound one: it marks exactly what is met, all of it below the page capacity.
+use Prim.Native.Nat.{ℕ, suc, _+_, _-_, _*_, _^_, _≤_, _<_}
 use native.Mathlib.Omega.{arith}
-use mathlib.Core.Path.{_≡_, refl, sym, ap, _∙_}
-use mathlib.Core.Bool.{Bool, true, false, cond, _&&_}
+use mathlib.Core.Path.{_≡_, refl, _∙_}
+use mathlib.Core.Bool.{Bool, true, false, cond}
 use mathlib.Core.List.{List, [], _∷_, _++_}
-use lib.Dec.{ltb, leb, eqb}
+use lib.Dec.{ltb, leb}
 use lib.ListN.{length, getD}
 use lib.Bits.{bitXor}
 use borrow.Author.Tests.{lt-ltb}
 use Rattle.meaning.specs.Lists.{all}
 use Rattle.meaning.specs.Sketch.{perByte, byteDistance}
-use Rattle.meaning.specs.Trie.{Tree, leaf, inner, Children, none, child, met, metIn, nodes}
+use Rattle.meaning.specs.Trie.{Children, met, metIn, nodes}
 use Rattle.sketch_laws.proofs.Lists.{all-append}
 use Rattle.trie.specs.Heap.{Holds}
 use Rattle.trie.specs.Phys.{Phys, leafP, innerP, Buckets, end, bucket, Chain, stop, link, root, tree, kids, kidsC, cells, Below, Sound, SoundB, SoundC}
