@@ -6,3 +6,4 @@ pub mod Fit
 pub mod Right
 pub mod Walk
 pub mod Anywhere
+pub mod Example
