@@ -7,7 +7,7 @@ use lib.ListN.{getD, length, length-set}
 use borrow.Author.Tests.{le-ltb, lt-ltb, eq-eqb, ne-eqb}
 use Rattle.words.specs.Bits.{withFlag}
 use Rattle.walk.specs.declared.mark.Left.the-variants.{Some, Broken}
-use Rattle.walk.specs.Mark.{Marks, marks, marked, markLeaf}
+use Rattle.walk.specs.Mark.{marks, marked, markLeaf}
 
 pub marked-length : (map : List ℕ) (words p : ℕ) → length (marked map words p) ≡ length map
 unfolding marked withFlag

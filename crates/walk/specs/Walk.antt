@@ -13,7 +13,7 @@ use Rattle.walk.specs.declared.frame.Step.{Step}
 use Rattle.walk.specs.declared.frame.Step.the-variants as step
 use Rattle.walk.specs.declared.walk.Move.{Move}
 use Rattle.walk.specs.declared.walk.Move.the-variants as move
-use Rattle.walk.specs.Mark.{Marks, marks, markLeaf}
+use Rattle.walk.specs.Mark.{Marks, markLeaf}
 use Rattle.walk.specs.Frame.{entered, stepIn}
 
 -- what a walk goes by: the tables, the capacities, where the pages' links and the map of words begin, b, the query's bytes

@@ -1,8 +1,7 @@
 // The walk over one block's trie. It ends on any tables: each step and each page draws on a budget.
 ghost use mathlib.Core.Path.{_≡_};
-ghost use Prim.Native.Nat.{_+_, _*_, _/_, _<_, _≤_};
+ghost use Prim.Native.Nat.{_*_, _<_};
 ghost use lib.ListN.{length};
-ghost use Rattle.sketch.specs.Settings.{Bits};
 ghost use Rattle.sketch.specs.Table.{distanceTable};
 ghost use Rattle.walk.specs.Walk.{given, Fitting, visited, visit, walked, walkBelow, walkFrom};
 use crate::frame::Frame;

@@ -1,11 +1,11 @@
 -- Two different packed bytes are at a distance, so a walk at radius 0 meets only what is below the query's own byte.
-use Prim.Native.Nat.{ℕ, zero, suc, _+_, _-_, _*_, _%_, _^_, _≤_, _<_}
+use Prim.Native.Nat.{ℕ, zero, suc, _+_, _*_, _^_, _≤_, _<_}
 use native.Mathlib.Omega.{arith}
 use native.Mathlib.Nat.{mod-eq-of-lt}
 use mathlib.Core.Path.{_≡_, refl, sym, ap, ap₂, _∙_}
 use mathlib.Core.Logic.{_≢_}
 use mathlib.Core.Bool.{Bool, true, false, cond, not, false≢true}
-use mathlib.Core.List.{List, [], _∷_, map}
+use mathlib.Core.List.{_∷_, map}
 use lib.Dec.{eqb}
 use lib.Bits.{bitXor}
 use borrow.Author.Tests.{eqb-true, eqb-false, not-false}

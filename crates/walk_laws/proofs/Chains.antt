@@ -1,24 +1,22 @@
 -- Steps along the chains of a trie that lies in the tables, and what a chain can have at radius 0.
-use Prim.Native.Nat.{ℕ, suc, _+_, _-_, _*_, _%_, _^_, _≤_, _<_}
+use Prim.Native.Nat.{ℕ, _+_, _-_, _%_, _≤_, _<_}
 use native.Mathlib.Omega.{arith}
 use mathlib.Core.Path.{_≡_, refl, sym, ap, _∙_}
-use mathlib.Core.Logic.{_≢_}
-use mathlib.Core.Bool.{Bool, true, false, cond, _&&_}
+use mathlib.Core.Bool.{cond}
 use mathlib.Core.List.{List, [], _∷_, _++_, append-assoc}
 use lib.Bits.{bitXor}
-use lib.Dec.{eqb, leb, ltb}
-use lib.ListN.{length, getD}
-use borrow.Author.Tests.{eq-eqb, ne-eqb, lt-ltb, le-ltb, lt-leb, le-leb}
-use Rattle.meaning.specs.Sketch.{perByte, byteDistance}
-use Rattle.meaning.specs.Trie.{Children, none, child, met, metIn}
-use Rattle.layout.specs.Nodes.{linkOf, byteOf, chainWord, chainAt, stateAt, innerState, leafState}
+use lib.Dec.{leb}
+use lib.ListN.{getD}
+use borrow.Author.Tests.{eq-eqb, ne-eqb, lt-ltb, le-ltb}
+use Rattle.meaning.specs.Sketch.{byteDistance}
+use Rattle.meaning.specs.Trie.{Children, none, met, metIn}
+use Rattle.layout.specs.Nodes.{linkOf, byteOf, chainWord, stateAt, innerState, leafState}
 use Rattle.trie.specs.Heap.{Holds}
-use Rattle.trie.specs.Phys.{Phys, leafP, innerP, Buckets, end, bucket, Chain, stop, link, root, tree, kids, kidsC, cells, cellsC, Sound, SoundC}
+use Rattle.trie.specs.Phys.{Phys, leafP, innerP, Chain, stop, link, root, tree, kidsC, cellsC, Sound, SoundC}
 use Rattle.walk.specs.declared.frame.Frame.{Frame}
 use Rattle.walk.specs.declared.frame.Step.the-variants.{Stay, Leaf, Down, Up}
-use Rattle.walk.specs.Frame.{following, stepTo, stepAlong, stepIn}
+use Rattle.walk.specs.Frame.{following, stepTo, stepIn}
 use Rattle.walk.proofs.Steps.{along-inside}
-use Rattle.walk_laws.proofs.Apart.{apart}
 
 -- ---- what the tables hold
 

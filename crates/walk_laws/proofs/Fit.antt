@@ -3,14 +3,14 @@ use Prim.Native.Nat.{ℕ, suc, _+_, _-_, _*_, _^_, _≤_, _<_}
 use native.Mathlib.Omega.{arith}
 use native.Mathlib.Nat.{min-le-left, mul-le-mul-left, lt-of-lt-of-le}
 use lib.Pow.{pow-mono}
-use mathlib.Core.Path.{_≡_, refl, ap, _∙_}
+use mathlib.Core.Path.{_≡_, refl, _∙_}
 use mathlib.Core.Logic.{_≢_}
 use mathlib.Core.Bool.{true}
 use mathlib.Core.List.{List, [], _∷_}
 use lib.Bits.{bitXor}
 use borrow.Author.Tests.{ltb-true, lt-leb}
 use Rattle.meaning.specs.Sketch.{perByte, symbolsAt, packable, byteDistance}
-use Rattle.meaning.specs.Trie.{Tree, Children, none, child, metIn}
+use Rattle.meaning.specs.Trie.{Children, none, metIn}
 use Rattle.trie.specs.Phys.{Phys, leafP, innerP, Buckets, end, bucket, Chain, stop, link, tree, kids, kidsC, SoundB, SoundC}
 use Rattle.trie_laws.specs.Sound.{soundTrie, soundFrom}
 use Rattle.trie_laws.proofs.Sound.{inner-parts, child-parts}

@@ -4,3 +4,6 @@ pub mod Ran
 pub mod Chains
 pub mod Fit
 pub mod Right
+pub mod Walk
+pub mod Anywhere
+pub mod Example

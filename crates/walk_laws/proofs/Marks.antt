@@ -1,7 +1,7 @@
 -- What the maps say once pages are marked: the first has the old marks and the new ones, and the second map's invariant stays.
-use Prim.Native.Nat.{ℕ, _+_, _*_, _/_, _≤_, _<_}
+use Prim.Native.Nat.{ℕ, _*_, _/_, _≤_, _<_}
 use native.Mathlib.Omega.{arith}
-use mathlib.Core.Path.{_≡_, refl, sym, ap, _∙_}
+use mathlib.Core.Path.{_≡_, refl, ap, _∙_}
 use mathlib.Core.Bool.{Bool, true, false, cond, _||_}
 use mathlib.Core.List.{List, [], _∷_, _++_}
 use lib.Dec.{ltb, eqb}
@@ -9,7 +9,7 @@ use lib.ListN.{length}
 use borrow.Author.Tests.{ltb-true}
 use Rattle.meaning.specs.Lists.{all, any}
 use Rattle.words.specs.Bits.{flag, withFlag}
-use Rattle.words.proofs.Flags.{length-with, flag-with, flag-with-apart}
+use Rattle.words.proofs.Flags.{flag-with, flag-with-apart}
 use Rattle.trie_laws.proofs.Lists.{and-first, and-second}
 use Rattle.hits.specs.Marks.{Room, Summarised}
 use Rattle.hits.proofs.Summary.{summarised-mark}

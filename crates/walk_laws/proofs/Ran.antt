@@ -1,7 +1,7 @@
 -- The machine of a walk from one state to another: what it costs, and its single steps.
-use Prim.Native.Nat.{ℕ, suc, _+_, _-_, _≤_, _<_}
+use Prim.Native.Nat.{ℕ, _+_, _-_, _≤_, _<_}
 use native.Mathlib.Omega.{arith}
-use mathlib.Core.Path.{_≡_, refl, sym, ap, ap₂, _∙_}
+use mathlib.Core.Path.{_≡_, refl, sym, ap, _∙_}
 use mathlib.Core.Bool.{true}
 use mathlib.Core.List.{List, [], _∷_}
 use lib.ListN.{length, getD}
@@ -13,7 +13,7 @@ use Rattle.walk.specs.declared.frame.Step.the-variants as step
 use Rattle.walk.specs.declared.walk.Move.the-variants as move
 use Rattle.walk.specs.Mark.{marks, marked, markAll, markLeaf}
 use Rattle.walk.specs.Frame.{entered, stepIn}
-use Rattle.walk.specs.Walk.{Given, State, state, Walked, walked, atLink, run}
+use Rattle.walk.specs.Walk.{Given, State, state, walked, atLink, run}
 use Rattle.walk.proofs.LeafSteps.{leaf-end, leaf-next}
 use Rattle.walk.proofs.Visits.{visit-stay, visit-leaf, visit-down, visit-up}
 use Rattle.walk.proofs.Turns.{run-stay, run-down, run-up, run-done}

@@ -1,5 +1,5 @@
 -- On tables that hold a trie, the walk marks exactly the pages that `met` meets, in order.
-use Prim.Native.Nat.{ℕ, zero, suc, _+_, _-_, _*_, _/_, _^_, _≤_, _<_}
+use Prim.Native.Nat.{ℕ, suc, _+_, _-_, _*_, _/_, _^_, _≤_, _<_}
 use native.Mathlib.Omega.{arith}
 use native.Mathlib.Numerals.{add-one}
 use native.Mathlib.Decide.{ℕ-discrete}
@@ -11,16 +11,18 @@ use lib.Bits.{bitXor}
 use lib.Dec.{eqb, leb}
 use lib.ListN.{length, getD, drop, length-append}
 use lib.Seq.{drop-cons}
-use borrow.Author.Tests.{eqb-true, eqb-false, leb-true, leb-false, eq-eqb, ne-eqb}
+use borrow.Author.Tests.{eqb-true, eqb-false, leb-true, leb-false}
 use Rattle.meaning.specs.Sketch.{perByte, byteDistance}
-use Rattle.meaning.specs.Trie.{Tree, Children, none, child, met, metIn}
+use Rattle.meaning.specs.Trie.{Children, none, met, metIn, nodes, nodesIn}
 use Rattle.layout.specs.Nodes.{linkOf, chainWord, headAt, stateAt}
 use Rattle.trie.specs.Heap.{Holds}
 use Rattle.trie.specs.Phys.{Phys, leafP, innerP, Buckets, end, bucket, Chain, stop, link, root, first, tree, kids, kidsC, cells, cellsB, cellsC, Sound, SoundB, SoundC}
 use Rattle.walk.specs.declared.frame.Frame.{Frame}
-use Rattle.walk.specs.Mark.{markAll}
+use Rattle.walk.specs.declared.mark.Left.the-variants.{Some}
+use Rattle.walk.specs.Mark.{markAll, markLeaf}
 use Rattle.walk.specs.Frame.{frameAt, entered, following, stepTo, stepIn}
-use Rattle.walk.specs.Walk.{Given, State, state, Walked, walked, atLink, run}
+use Rattle.walk.specs.Walk.{Given, State, state, walked, atLink, walkBelow, walkFrom}
+use Rattle.walk.proofs.Turns.{from-leaf, from-inner}
 use Rattle.walk_laws.proofs.Marks.{mark-append}
 use Rattle.walk_laws.proofs.Ran.{leaf-marks, Ran, ran-none, ran-then, ran-within, ran-to, step-stay, step-leaf, step-down, step-up, step-end}
 use Rattle.walk_laws.proofs.Chains.{firstLink, slot-word, root-below, first-below, link-in, step-chain, step-next, step-last, to-far, to-leaf, to-inner, met-chain}
@@ -252,13 +254,12 @@ module _ (w : Given) (small : w .cap ≤ 262144) (query : (k : ℕ) → getD (w 
       → From w bs x 0 (frameAt N (headAt (w .cap) x 0) (headAt (w .cap) x 7) r)
   unfolding frameAt
   from-first end x r h s = absurd (omega arith)
-  from-first (bucket ch bs) x r h s =
-      (
-        refl,
-        refl,
-        ap linkOf (slot-word (w .cap) (w .next) N P ch (headAt (w .cap) x 0) 0 (h .0))
+  from-first (bucket ch bs) x r h s = (
+    refl,
+    refl,
+    ap linkOf (slot-word (w .cap) (w .next) N P ch (headAt (w .cap) x 0) 0 (h .0))
         ∙ link-in 0 (firstLink ch) (omega (arith, first-below (w .cap) (w .pcap) ch 0 32 (s .0))),
-      )
+  )
 
   under-within : (f : ℕ) (map : List ℕ) (left : ℕ) (frame : Frame) (ps : List ℕ) (stack : List Frame) (c d : ℕ) → c ≤ d
       → Under w f map left frame ps stack c → Under w f map left frame ps stack d
@@ -293,12 +294,12 @@ module _ (w : Given) (small : w .cap ≤ 262144) (query : (k : ℕ) → getD (w 
       go : Dec (g ≡ here w stack / 32) → Under w f map left (only x stack) (metB (bucket ch bs) 0 stack) stack (stepsB (bucket ch bs))
       go (yes e) =
           let past : metB bs 0 stack ≡ [] =
-              unmet-past (w .cap) (w .pcap) (w .b) len (here w stack) (behind w stack) (query (length stack)) bs (suc g) (length stack) s′ u′ (omega arith) in
+          unmet-past (w .cap) (w .pcap) (w .b) len (here w stack) (behind w stack) (query (length stack)) bs (suc g) (length stack) s′ u′ (omega arith) in
           let same : ps ≡ metB (bucket ch bs) 0 stack = sym (split ∙ ap (λ qs. ps ++ qs) past ∙ append-nil ps) in
           let first-there : linkOf (getD N (headAt (w .cap) x (here w stack / 32)) 0) ≡ firstLink ch =
-              ap (λ k. linkOf (getD N (headAt (w .cap) x k) 0)) (sym e)
-              ∙ ap linkOf (slot-word (w .cap) (w .next) N P ch (headAt (w .cap) x g) 0 h)
-              ∙ link-in 0 (firstLink ch) (omega (arith, first-below (w .cap) (w .pcap) ch (32 * g) (32 * g + 32) s)) in
+          ap (λ k. linkOf (getD N (headAt (w .cap) x k) 0)) (sym e)
+          ∙ ap linkOf (slot-word (w .cap) (w .next) N P ch (headAt (w .cap) x g) 0 h)
+          ∙ link-in 0 (firstLink ch) (omega (arith, first-below (w .cap) (w .pcap) ch (32 * g) (32 * g + 32) s)) in
           record {
             done = atLink (only x stack) (only x stack .at) 0;
             empty = refl;
@@ -309,8 +310,8 @@ module _ (w : Given) (small : w .cap ≤ 262144) (query : (k : ℕ) → getD (w 
           }
       go (no n) =
           let gone : ps ≡ [] =
-              unmet (w .cap) (w .pcap) (w .b) len (here w stack) (behind w stack) (query (length stack)) ch (32 * g) (32 * g + 32) (length stack) s u
-              (λ k a b z. absurd (omega arith)) in
+          unmet (w .cap) (w .pcap) (w .b) len (here w stack) (behind w stack) (query (length stack)) ch (32 * g) (32 * g + 32) (length stack) s u
+          (λ k a b z. absurd (omega arith)) in
           let same : metB bs 0 stack ≡ metB (bucket ch bs) 0 stack = sym (split ∙ ap (λ qs. qs ++ metB bs 0 stack) gone) in
           under-same f map left (only x stack) (metB bs 0 stack) (metB (bucket ch bs) 0 stack) stack (stepsB (bucket ch bs)) same
           (under-within f map left (only x stack) (metB bs 0 stack) stack (stepsB bs) (stepsB (bucket ch bs)) (omega arith)
@@ -357,3 +358,126 @@ module _ (w : Given) (small : w .cap ≤ 262144) (query : (k : ℕ) → getD (w 
           (ran-within w f _ _ 1 (steps t) (steps-some t)
           (step-stay w f (omega (arith, steps-some t)) map left frame stack (frame .at) l
           (found ∙ to-far N (w .cap) (root t) d r (frame .at) l (leb-false d r k)))))
+
+  mutual
+    unfolding met metIn frameAt
+
+    -- a child at distance d, within the radius
+    tree-through : (t : Phys) (stack : List Frame) → Holds (cells (w .cap) (w .next) t) N P → Sound (w .cap) (w .pcap) t → Fit (w .b) len t (suc (length stack))
+        → (f : ℕ) (map : List ℕ) (left : ℕ) (frame : Frame) (d l : ℕ)
+        → stepIn N (w .cap) (w .b) frame (here w stack) ≡ stepTo N (w .cap) (root t) d (frame .radius) (frame .at) l → d ≤ frame .radius
+        → steps t ≤ f → length (metT t (frame .radius - d) stack) ≤ left
+        → Ran w f (state map left frame stack) (after w map left (metT t (frame .radius - d) stack) (atLink frame (frame .at) l) stack) (steps t)
+    tree-through (leafP x ps) stack h s u f map left frame d l e r c m =
+        step-leaf w f c map left frame stack (first ps) l (markAll map (w .words) ps) (left - length ps)
+        (e ∙ to-leaf N (w .cap) x d (frame .radius) (frame .at) l (first ps) r (h .0))
+        (leaf-marks P (w .words) (w .pcap) (w .next) N map ps left (h .1 .1) (s .1) m)
+    tree-through (innerP x bs) stack h s u f map left frame d l e r c m =
+        let back : Frame = atLink frame (frame .at) l in
+        let stack′ : List Frame = back ∷ stack in
+        let down = step-down w f (omega arith) map left frame stack x (frame .radius - d) l
+        (e ∙ to-inner N (w .cap) x d (frame .radius) (frame .at) l r (h .0)) (omega (arith, u .0)) in
+        let arrived : state map left (entered N (w .cap) x (frame .radius - d) (getD (w .bytes) (length stack + 1) 0)) stack′
+        ≡ state map left (entered N (w .cap) x (frame .radius - d) (here w stack′)) stack′ =
+        ap (λ k. state map left (entered N (w .cap) x (frame .radius - d) (getD (w .bytes) k 0)) stack′) (add-one (length stack)) in
+        let cons : behind w stack ≡ here w stack′ ∷ behind w stack′ = drop-cons (w .bytes) (suc (length stack)) 0 (u .0) in
+        let ps : List ℕ = metB bs (frame .radius - d) stack′ in
+        let same : metT (innerP x bs) (frame .radius - d) stack ≡ ps = ap (metIn (w .b) (frame .radius - d) (kids bs)) cons in
+        let down′ = ran-to w f _ _ _ 1 arrived down in
+        let under = entry bs x stack′ (down′ .rest) map left (frame .radius - d)
+        (λ z.
+        let zero-met : metB bs 0 stack′ ≡ ps = ap (λ k. metB bs k stack′) (sym z) in
+        under-same (down′ .rest) map left (only x stack′) (metB bs 0 stack′) ps stack′ (stepsB bs) zero-met
+        (only-through bs x 0 stack′ (h .1) (s .1) (u .1) (u .0) (omega arith) (down′ .rest) map left
+        (omega (arith, down′ .enough)) (omega (arith, ap length same, ap length zero-met))))
+        (λ z. all-through bs x 0 stack′ (h .1) (s .1) (u .1) (u .0) (down′ .rest) map left
+        (frameAt N (headAt (w .cap) x 0) (headAt (w .cap) x 7) (frame .radius - d))
+        (from-first bs x (frame .radius - d) (h .1) (s .1))
+        (omega (arith, down′ .enough)) (omega (arith, ap length same))) in
+        let up = step-up w (under .ran .rest) (omega (arith, under .ran .enough, down′ .enough)) (markAll map (w .words) ps) (left - length ps) (under .done) back stack
+        (step-last N (w .cap) (w .b) (under .done) (here w stack′) (under .empty) (under .last)) in
+        ran-to w f _ _ _ (2 + stepsB bs) (ap (λ qs. after w map left qs back stack) (sym same))
+        (ran-within w f _ _ (1 + (stepsB bs + 1)) (2 + stepsB bs) (omega arith)
+        (ran-then w f _ _ _ 1 (stepsB bs + 1) down′ (ran-then w (down′ .rest) _ _ _ (stepsB bs) 1 (under .ran) up)))
+
+    -- the chains from g on, at a radius that is not 0
+    all-through : (bs : Buckets) (x g : ℕ) (stack : List Frame) → Holds (cellsB (w .cap) (w .next) bs x g) N P → SoundB (w .cap) (w .pcap) bs g
+        → FitB (w .b) len bs (length stack) → length stack < len
+        → (f : ℕ) (map : List ℕ) (left : ℕ) (frame : Frame) → From w bs x g frame → stepsB bs ≤ f → length (metB bs (frame .radius) stack) ≤ left
+        → Under w f map left frame (metB bs (frame .radius) stack) stack (stepsB bs)
+    all-through end x g stack h s u v f map left frame from c m = under-none f map left frame stack (from .0) (from .1)
+    all-through (bucket ch bs) x g stack h s u v f map left frame from c m =
+        then-under ch bs x g stack (h .1) (s .1) f map left frame from c m
+        (λ f′ map′ left′ frame′ e′ c′ m′.
+        chain-through ch stack (headAt (w .cap) x g) 0 (32 * g) (32 * g + 32) (h .0) (s .0) (u .0) v f′ map′ left′ frame′ e′ c′ m′)
+        (λ f′ map′ left′ frame′ e′ c′ m′. all-through bs x (suc g) stack (h .1) (s .1) (u .1) v f′ map′ left′ frame′ e′ c′ m′)
+
+    -- the chains from g on, at radius 0: only that of the query's byte
+    only-through : (bs : Buckets) (x g : ℕ) (stack : List Frame) → Holds (cellsB (w .cap) (w .next) bs x g) N P → SoundB (w .cap) (w .pcap) bs g
+        → FitB (w .b) len bs (length stack) → length stack < len → g ≤ here w stack / 32
+        → (f : ℕ) (map : List ℕ) (left : ℕ) → stepsB bs ≤ f → length (metB bs 0 stack) ≤ left
+        → Under w f map left (only x stack) (metB bs 0 stack) stack (stepsB bs)
+    only-through end x g stack h s u v l f map left c m = absurd (omega (arith, query (length stack), byte-small (w .b)))
+    only-through (bucket ch bs) x g stack h s u v l f map left c m =
+        only-here ch bs x g stack (h .0) (s .0) (s .1) (u .0) (u .1) l f map left c m
+        (λ f′ map′ left′ frame′ e′ c′ m′.
+        chain-through ch stack (headAt (w .cap) x g) 0 (32 * g) (32 * g + 32) (h .0) (s .0) (u .0) v f′ map′ left′ frame′ e′ c′ m′)
+        (λ k c′ m′. only-through bs x (suc g) stack (h .1) (s .1) (u .1) v k f map left c′ m′)
+
+    chain-through : (ch : Chain) (stack : List Frame) (at y lo hi : ℕ) → Holds (cellsC (w .cap) (w .next) ch at y) N P
+        → SoundC (w .cap) (w .pcap) ch lo hi → FitC (w .b) len ch (length stack) → length stack < len → Through w ch stack
+    chain-through stop stack at y lo hi h s u v f map left frame e c m =
+        ran-to w f _ _ _ 0
+        (ap (λ n. state map left (atLink frame (frame .at) n) stack) e ∙ sym (after-none w map left (atLink frame (frame .at) 0) stack))
+        (ran-none w f (state map left frame stack))
+    chain-through (link b t ch) stack at y lo hi h s u v f map left frame e c m =
+        child-through t ch stack b at y lo hi h s u f map left frame e c m
+        (λ f′ map′ left′ frame′ e′ c′ m′. chain-through ch stack (root t) b (suc b) hi (h .1 .1) (s .3) (u .2) v f′ map′ left′ frame′ e′ c′ m′)
+        (λ d l q r c′ m′. tree-through t stack (h .1 .0) (s .2) (u .1) f map left frame d l q r c′ m′)
+
+  -- from the root
+  pub right : (t : Phys) (radius : ℕ) (map : List ℕ) → Holds (cells (w .cap) (w .next) t) N P → Sound (w .cap) (w .pcap) t → Fit (w .b) len t 0
+      → steps t ≤ 10 * (w .cap + 1) → length (met (w .b) radius (tree t) (w .bytes)) ≤ w .pcap
+      → walkFrom w (root t) radius map ≡ walked (markAll map (w .words) (met (w .b) radius (tree t) (w .bytes))) true
+  unfolding met walkBelow frameAt
+  right (leafP x ps) radius map h s u c m =
+      let word : getD N (stateAt (w .cap) x) 0 ≡ 2 + first ps = h .0 in
+      let less : getD N (stateAt (w .cap) x) 0 - 2 ≡ first ps = omega arith in
+      sym
+      (from-leaf w x radius map (stateAt (w .cap) x) refl (omega arith) (markAll map (w .words) ps) (Some (w .pcap - length ps)) (Some (w .pcap - length ps))
+      (sym (ap (λ n. markLeaf P (w .words) (w .pcap) (w .next) map n (w .pcap)) less ∙ leaf-marks P (w .words) (w .pcap) (w .next) N map ps (w .pcap) (h .1 .1) (s .1) m))
+      refl)
+  right (innerP x bs) radius map h s u c m =
+      let f : ℕ = 10 * (w .cap + 1) in
+      let cons : w .bytes ≡ here w [] ∷ behind w [] = drop-cons (w .bytes) 0 0 (u .0) in
+      let ps : List ℕ = metB bs radius [] in
+      let same : met (w .b) radius (tree (innerP x bs)) (w .bytes) ≡ ps = ap (metIn (w .b) radius (kids bs)) cons in
+      let under = entry bs x [] f map (w .pcap) radius
+      (λ z.
+      let zero-met : metB bs 0 [] ≡ ps = ap (λ k. metB bs k []) (sym z) in
+      under-same f map (w .pcap) (only x []) (metB bs 0 []) ps [] (stepsB bs) zero-met
+      (only-through bs x 0 [] (h .1) (s .1) (u .1) (u .0) (omega arith) f map (w .pcap) (omega arith) (omega (arith, ap length same, ap length zero-met))))
+      (λ z. all-through bs x 0 [] (h .1) (s .1) (u .1) (u .0) f map (w .pcap) (frameAt N (headAt (w .cap) x 0) (headAt (w .cap) x 7) radius)
+      (from-first bs x radius (h .1) (s .1)) (omega arith) (omega (arith, ap length same))) in
+      sym (from-inner w x radius map (stateAt (w .cap) x) refl (h .0))
+      ∙ under .ran .same
+      ∙ step-end w (under .ran .rest) (omega (arith, under .ran .enough)) (markAll map (w .words) ps) (w .pcap - length ps) (under .done)
+      (step-last N (w .cap) (w .b) (under .done) (here w []) (under .empty) (under .last))
+      ∙ ap (λ qs. walked (markAll map (w .words) qs) true) (sym same)
+
+-- ---- what a walk can cost: at most ten steps a node
+module _ (cap pcap : ℕ) where
+  mutual
+    unfolding nodes nodesIn
+
+    pub steps-nodes : (t : Phys) → Sound cap pcap t → steps t ≤ 10 * nodes (tree t)
+    steps-nodes (leafP n ps) s = omega arith
+    steps-nodes (innerP n bs) s = omega (arith, steps-buckets bs 0 (s .1))
+
+    steps-buckets : (bs : Buckets) (g : ℕ) → SoundB cap pcap bs g → stepsB bs + g ≤ 8 + 10 * nodesIn (kids bs)
+    steps-buckets end g s = omega arith
+    steps-buckets (bucket ch bs) g s = omega (arith, steps-chain ch (32 * g) (32 * g + 32) (kids bs) (s .0), steps-buckets bs (suc g) (s .1))
+
+    steps-chain : (ch : Chain) (lo hi : ℕ) (cs : Children) → SoundC cap pcap ch lo hi → stepsC ch + 10 * nodesIn cs ≤ 10 * nodesIn (kidsC ch cs)
+    steps-chain stop lo hi cs s = omega arith
+    steps-chain (link c t ch) lo hi cs s = omega (arith, steps-nodes t (s .2), steps-chain ch (suc c) hi cs (s .3))

@@ -1,5 +1,4 @@
 -- `frame_at` reads the head of its first chain.
-use mathlib.Core.Path.{ap}
 use borrow.Author.Needs.{needs}
 use Rattle.walk.specs.Frame.{frameAt}
 use Rattle.walk.proofs.frame.frame_at.Statement.{statement}

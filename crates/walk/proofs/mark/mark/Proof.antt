@@ -1,10 +1,5 @@
 -- `mark` sets a page's bit, and that of its word.
-use mathlib.Core.Path.{_∙_, ap}
-use mathlib.Core.Bool.{true}
-use mathlib.Core.List.{List}
-use Prim.Native.Nat.{ℕ, _/_}
 use borrow.Author.Needs.{needs}
-use Rattle.words.specs.Bits.{withFlag}
 use Rattle.walk.specs.Mark.{marked}
 use Rattle.walk.proofs.mark.mark.Statement.{statement}
 use Rattle.walk.proofs.mark.mark.Tie as tie

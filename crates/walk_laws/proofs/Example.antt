@@ -1,0 +1,76 @@
+-- An example: two leaves below a root, at distances 2 and 0 from the query's byte. So what the law asks can be met.
+use Prim.Native.Nat.{ℕ, zero, suc, _*_, _^_, _<_}
+use native.Mathlib.Omega.{arith}
+use mathlib.Core.Path.{_≡_, refl, ap, _∙_}
+use mathlib.Core.Bool.{true}
+use mathlib.Core.List.{List, [], _∷_}
+use lib.ListN.{getD}
+use Rattle.meaning.specs.Lists.{count, from, upto}
+use Rattle.meaning.specs.Sketch.{perByte, group, byteDistance}
+use Rattle.meaning.specs.Trie.{met, metIn}
+use Rattle.trie.specs.Heap.{Holds}
+use Rattle.trie.specs.Phys.{Phys, leafP, innerP, end, bucket, stop, link, tree, cells, noHeads, Sound}
+use Rattle.walk.specs.Walk.{Given, given, walked, walkFrom}
+use Rattle.walk.specs.Mark.{markAll}
+use Rattle.walk_laws.proofs.Fit.{Fit}
+use Rattle.walk_laws.proofs.Right.{right}
+
+abbrev nodeTable : List ℕ
+nodeTable =
+    0 ∷ 94371840 ∷ 119537664 ∷ 1 ∷ 5 ∷ 10 ∷
+    0 ∷ 0 ∷ 0 ∷ 0 ∷ 0 ∷ 2 ∷ 0 ∷ 3 ∷
+    0 ∷ 0 ∷ 0 ∷ 0 ∷ 0 ∷ 0 ∷ 0 ∷ 0 ∷
+    0 ∷ 0 ∷ 0 ∷ 0 ∷ 0 ∷ 0 ∷ 0 ∷ 0 ∷ []
+
+abbrev pageTable : List ℕ
+pageTable = 0 ∷ 0 ∷ 0 ∷ 0 ∷ 0 ∷ 0 ∷ 0 ∷ 0 ∷ 0 ∷ 0 ∷ 0 ∷ 0 ∷ 0 ∷ 0 ∷ 0 ∷ 0 ∷ 0 ∷ 0 ∷ 0 ∷ 0 ∷ 0 ∷ 0 ∷ 0 ∷ 0 ∷ []
+
+abbrev w : Given
+w = given nodeTable pageTable 3 8 16 1 2 (228 ∷ [])
+
+abbrev t : Phys
+t =
+    innerP 0
+    (bucket stop
+    (bucket stop
+    (bucket stop
+    (bucket stop
+    (bucket stop (bucket (link 180 (leafP 1 (2 ∷ [])) stop) (bucket stop (bucket (link 228 (leafP 2 (7 ∷ [])) stop) end))))))))
+
+heads : Holds (noHeads 3 1) nodeTable pageTable × Holds (noHeads 3 2) nodeTable pageTable
+unfolding noHeads
+heads = ((refl, (refl, (refl, (refl, (refl, (refl, (refl, (refl, tt)))))))), (refl, (refl, (refl, (refl, (refl, (refl, (refl, (refl, tt)))))))))
+
+holds : Holds (cells 3 16 t) nodeTable pageTable
+holds =
+    (refl, (refl, (refl, (refl, (refl, (refl, ((refl, ((refl, (heads .0, (refl, tt))), refl)), (refl, ((refl, ((refl, (heads .1, (refl, tt))), refl)), tt)))))))))
+
+sound : Sound 3 8 t
+sound =
+    (omega arith, (tt, (tt, (tt, (tt, (tt, ((omega arith, omega arith, (omega arith, (omega arith, tt)), tt), (tt, ((omega arith, omega arith, (omega arith, (omega arith, tt)), tt), refl)))))))))
+
+query : (k : ℕ) → getD (w .bytes) k 0 < 2 ^ (2 * perByte 2)
+unfolding perByte
+query zero = omega arith
+query (suc k) = omega arith
+
+fits : Fit 2 1 t 0
+unfolding perByte
+fits = (omega arith, (tt, (tt, (tt, (tt, (tt, ((omega arith, tt, tt), (tt, ((omega arith, tt, tt), tt)))))))))
+
+-- both pages within 2 of 228, the second alone within 1
+met-two : met 2 2 (tree t) (228 ∷ []) ≡ 2 ∷ 7 ∷ []
+unfolding met metIn byteDistance count upto from perByte group
+met-two = refl
+
+met-one : met 2 1 (tree t) (228 ∷ []) ≡ 7 ∷ []
+unfolding met metIn byteDistance count upto from perByte group
+met-one = refl
+
+pub example : (map : List ℕ) → walkFrom w 0 2 map ≡ walked (markAll map 1 (2 ∷ 7 ∷ [])) true
+example map =
+    right w (omega arith) query t 2 map holds sound fits (omega arith) (rw met-two (omega arith)) ∙ ap (λ ps. walked (markAll map 1 ps) true) met-two
+
+pub example-near : (map : List ℕ) → walkFrom w 0 1 map ≡ walked (markAll map 1 (7 ∷ [])) true
+example-near map =
+    right w (omega arith) query t 1 map holds sound fits (omega arith) (rw met-one (omega arith)) ∙ ap (λ ps. walked (markAll map 1 ps) true) met-one

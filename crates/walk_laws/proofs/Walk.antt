@@ -1,0 +1,73 @@
+-- The walk over one block's trie, on tables that hold a sound one: it marks exactly what is met, all of it below the page capacity.
+use Prim.Native.Nat.{ℕ, suc, _+_, _-_, _*_, _^_, _≤_, _<_}
+use native.Mathlib.Omega.{arith}
+use mathlib.Core.Path.{_≡_, refl, _∙_}
+use mathlib.Core.Bool.{Bool, true, false, cond}
+use mathlib.Core.List.{List, [], _∷_, _++_}
+use lib.Dec.{ltb, leb}
+use lib.ListN.{length, getD}
+use lib.Bits.{bitXor}
+use borrow.Author.Tests.{lt-ltb}
+use Rattle.meaning.specs.Lists.{all}
+use Rattle.meaning.specs.Sketch.{perByte, byteDistance}
+use Rattle.meaning.specs.Trie.{Children, met, metIn, nodes}
+use Rattle.sketch_laws.proofs.Lists.{all-append}
+use Rattle.trie.specs.Heap.{Holds}
+use Rattle.trie.specs.Phys.{Phys, leafP, innerP, Buckets, end, bucket, Chain, stop, link, root, tree, kids, kidsC, cells, Below, Sound, SoundB, SoundC}
+use Rattle.trie_laws.specs.Sound.{soundTrie}
+use Rattle.trie_laws.proofs.Lists.{and-intro}
+use Rattle.walk.specs.Mark.{markAll}
+use Rattle.walk.specs.Walk.{Given, walked, walkFrom}
+use Rattle.walk_laws.proofs.Fit.{fit}
+use Rattle.walk_laws.proofs.Right.{right, steps-nodes}
+
+-- ---- on tables that hold a sound trie
+pub walk-right : (w : Given) (bytesOf : ℕ → List ℕ) (n : ℕ) (t : Phys) (radius : ℕ) (map : List ℕ) → w .cap ≤ 262144
+    → ((k : ℕ) → getD (w .bytes) k 0 < 2 ^ (w .b * perByte (w .b)))
+    → Holds (cells (w .cap) (w .next) t) (w .nodes) (w .pages) → Sound (w .cap) (w .pcap) t
+    → soundTrie bytesOf (w .b) n (length (w .bytes)) 0 (tree t) ≡ true
+    → nodes (tree t) ≤ w .cap → length (met (w .b) radius (tree t) (w .bytes)) ≤ w .pcap
+    → walkFrom w (root t) radius map ≡ walked (markAll map (w .words) (met (w .b) radius (tree t) (w .bytes))) true
+walk-right w bytesOf n t radius map small query h s sound few pages =
+    right w small query t radius map h s (fit bytesOf (w .b) n (length (w .bytes)) t 0 sound)
+    (omega (arith, steps-nodes (w .cap) (w .pcap) t s)) pages
+
+-- what is met is below the page capacity
+pub below-all : (pcap : ℕ) (ps : List ℕ) → Below pcap ps → all (λ p. ltb p pcap) ps ≡ true
+unfolding all
+below-all pcap [] h = refl
+below-all pcap (p ∷ ps) h = and-intro (ltb p pcap) (all (λ q. ltb q pcap) ps) (lt-ltb p pcap (h .0)) (below-all pcap ps (h .1))
+
+module _ (cap pcap b : ℕ) where
+  abbrev small : List ℕ → Bool
+  small ps = all (λ p. ltb p pcap) ps
+
+  both-small : (ps qs : List ℕ) → small ps ≡ true → small qs ≡ true → small (ps ++ qs) ≡ true
+  both-small ps qs h g = all-append (λ p. ltb p pcap) ps qs ∙ and-intro (small ps) (small qs) h g
+
+  cond-small : (q : Bool) (ps : List ℕ) → small ps ≡ true → small (cond q ps []) ≡ true
+  unfolding all
+  cond-small true ps h = h
+  cond-small false ps h = refl
+
+  mutual
+    unfolding met metIn all
+
+    pub met-small : (t : Phys) (r : ℕ) (ys : List ℕ) → Sound cap pcap t → small (met b r (tree t) ys) ≡ true
+    met-small (leafP x ps) r ys s = below-all pcap ps (s .1)
+    met-small (innerP x bs) r ys s = met-small-buckets bs r ys 0 (s .1)
+
+    met-small-buckets : (bs : Buckets) (r : ℕ) (ys : List ℕ) (g : ℕ) → SoundB cap pcap bs g → small (metIn b r (kids bs) ys) ≡ true
+    met-small-buckets end r ys g s = refl
+    met-small-buckets (bucket ch bs) r ys g s =
+        met-small-chain ch r ys (kids bs) (32 * g) (32 * g + 32) (s .0) (met-small-buckets bs r ys (suc g) (s .1))
+
+    met-small-chain : (ch : Chain) (r : ℕ) (ys : List ℕ) (cs : Children) (lo hi : ℕ) → SoundC cap pcap ch lo hi → small (metIn b r cs ys) ≡ true
+        → small (metIn b r (kidsC ch cs) ys) ≡ true
+    met-small-chain stop r ys cs lo hi s h = h
+    met-small-chain (link c t ch) r [] cs lo hi s h = refl
+    met-small-chain (link c t ch) r (y ∷ ys) cs lo hi s h =
+        both-small (cond (leb (byteDistance b (bitXor c y)) r) (met b (r - byteDistance b (bitXor c y)) (tree t) ys) []) (metIn b r (kidsC ch cs) (y ∷ ys))
+        (cond-small (leb (byteDistance b (bitXor c y)) r) (met b (r - byteDistance b (bitXor c y)) (tree t) ys)
+        (met-small t (r - byteDistance b (bitXor c y)) ys (s .2)))
+        (met-small-chain ch r (y ∷ ys) cs (suc c) hi (s .3) h)
