@@ -103,6 +103,14 @@ pub fn threshold(settings: &[u32], k: usize) -> usize
     settings[THRESHOLDS + k] as usize
 }
 
+// The thresholds of all levels: a part of the table itself.
+pub fn thresholds(settings: &[u32]) -> &[u32]
+    requires { ⌜ settingsLength ≤ length (now settings) ⌝ }
+    ensures { λ r. ⌜ now r ≡ settingsOf (now (settings .entry)) .thresholds ⌝ }
+{
+    &settings[THRESHOLDS..MEMBERS]
+}
+
 // The link to the first free node.
 pub fn free_link(settings: &[u32]) -> u32
     requires { ⌜ settingsLength ≤ length (now settings) ⌝ }
