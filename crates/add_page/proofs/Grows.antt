@@ -1,7 +1,7 @@
 -- On tables that hold a trie for each block, `insertFrom` inserts the page into each, if there are free nodes enough.
-use Prim.Native.Nat.{ℕ, suc, _+_, _≤_, _<_}
+use Prim.Native.Nat.{ℕ, suc, _+_, _*_, _≤_, _<_}
 use native.Mathlib.Omega.{arith}
-use mathlib.Core.Path.{_≡_, refl, sym, ap, _∙_}
+use mathlib.Core.Path.{_≡_, refl, sym, ap, _∙_, subst}
 use mathlib.Core.Bool.{Bool, true, _&&_}
 use mathlib.Core.List.{List, [], _∷_, map}
 use borrow.Author.Tests.{ltb-true}
@@ -12,6 +12,7 @@ use Rattle.meaning.specs.Sketch.{packable, inRange, blockLength}
 use Rattle.meaning.specs.Trie.{Tree, leaf, inner, Children, none, child, byteAt, insert, nodes}
 use Rattle.meaning.specs.Ledger.{Settings}
 use Rattle.meaning.specs.Forest.{blockBytes, bytesOfSketch, eachFrom, totalNodes}
+use Rattle.layout.specs.Lengths.{pagesLength}
 use Rattle.layout.specs.Pages.{nextAt}
 use Rattle.layout.proofs.Tests.{and-left, and-right}
 use Rattle.trie.specs.declared.Got.the-variants.{Node}
@@ -20,6 +21,7 @@ use Rattle.trie.specs.Tables.{RowTable}
 use Rattle.trie.specs.Phys.{Phys, root, tree, first, cells, freeCells, Below, State}
 use Rattle.trie.proofs.Frame.{Less, less, nodes-kept, pages-kept}
 use Rattle.trie.proofs.Abstract.{Shallow, ShallowIn}
+use Rattle.trie.proofs.Spot.{root-below}
 use Rattle.trie.proofs.Grow.{Grown}
 use Rattle.trie.proofs.Insert.{insert-right}
 use Rattle.trie_laws.specs.Sound.{soundTrie, soundFrom, filled, pagesIn}
@@ -34,7 +36,7 @@ use Rattle.add_page.specs.Insert.{Filled, onInsert, insertBlock, insertF
 use Rattle.add_page.specs.Insert.{filled as done}
 use Rattle.add_page.proofs.Bytes.{bytes-length}
 use Rattle.add_page.proofs.Enough.{Roomy, Needs, octets}
-use Rattle.add_page.proofs.Kept.{block-length}
+use Rattle.add_page.proofs.Kept.{Kept, block-kept}
 
 -- inner nodes of a sound trie are above the packed length
 module _ (bytesOf : ℕ → List ℕ) (b n len : ℕ) where
@@ -142,8 +144,10 @@ module _ (s : Settings) (S x : List ℕ) (count : length x ≡ s .symbols) (rang
       } in
       let A = one j t (T ⊕ W ⊕ G) (omega arith) (roomy .nodes .small) st (r .0) (k .0) (omega arith) in
       let X : Cells = cells (s .nodes) (nextAt (s .pages) j) (A .to) in
-      let same = block-length s S x p j N P free (A .nodesTo) (A .pagesTo) (Node (A .leaf) (A .freeTo)) (A .is) in
-      let E = insert-from ts (suc j) (record { nodes = nodes-kept (same .0) (roomy .nodes); pages = λ i li. pages-kept (same .1) (roomy .pages i li) })
+      let root = root-below (s .nodes) (s .pages) (nextAt (s .pages) j) (roomy .nodes .small) t (r .1) in
+      let same = subst (Kept (s .nodes) (2 * s .pages) (pagesLength s) N P) (A .is)
+      (block-kept s S x p lp (octets s x count range) rows j (omega arith) (omega (arith, r .0)) N P free) in
+      let E = insert-from ts (suc j) (record { nodes = nodes-kept (same .0 .same) (roomy .nodes); pages = λ i li. pages-kept (same .1 .same) (roomy .pages i li) })
       (A .freesTo) (A .state .chain) (A .state .below) (X ⊕ G) (omega arith) (less (past X T (freeCells (s .nodes) (A .freesTo)) W G) (A .state .heap)) (r .2) (k .1)
       (omega (arith, A .count, ap nodes (A .grown), inserted-nodes j (tree t))) in
       record {

@@ -1,15 +1,20 @@
--- An insertion leaves tables of the same lengths.
-use Prim.Native.Nat.{ℕ, zero, suc, _+_, _-_}
+-- An insertion, on any tables, changes no word outside the nodes and the links of its block, and no length.
+use Prim.Native.Nat.{ℕ, zero, suc, _+_, _*_, _-_, _/_, _≤_, _<_}
 use native.Mathlib.Omega.{arith}
+use native.Mathlib.Nat.{suc-mul, mul-le-mul-right}
 use mathlib.Core.Path.{_≡_, refl, _∙_, subst}
 use mathlib.Core.Bool.{Bool, true, false, cond}
 use mathlib.Core.List.{List}
-use lib.Dec.{ltb, eqb}
-use lib.ListN.{length, getD, set, length-set}
+use borrow.Author.Tests.{eqb-false, ltb-false}
+use lib.Dec.{ltb, leb, eqb}
+use lib.ListN.{length, getD, set, take, length-set}
+use lib.ListN.{drop as skip}
+use lib.Seq.{take-set-le, drop-set-lt}
 use Rattle.meaning.specs.Ledger.{Settings}
 use Rattle.meaning.specs.Forest.{bytesOfSketch}
+use Rattle.layout.specs.Lengths.{pagesLength}
 use Rattle.layout.specs.Pages.{nextAt}
-use Rattle.layout.specs.Nodes.{stateAt}
+use Rattle.layout.specs.Nodes.{stateAt, headAt}
 use Rattle.trie.specs.declared.Got.{Got}
 use Rattle.trie.specs.declared.Got.the-variants.{Node, Full, Bad}
 use Rattle.trie.specs.declared.Level.{Level}
@@ -21,133 +26,252 @@ use Rattle.trie.specs.declared.Rows.{Rows}
 use Rattle.trie.specs.declared.Span.{Span}
 use Rattle.trie.specs.declared.Span.the-variants.{Enough, Short, Wild}
 use Rattle.trie.specs.declared.Target.the-variants.{Ready, NoRoom, Damaged}
-use Rattle.trie.specs.Model.{Made, made, Pushed, pushed, After, after, Aimed, aimed, linkLeaf, freshLeaf, madeAt, childLeaf, findPlace, pushPage, pushNodes, pushPages, putDone, putInto, putLeafM, pageByte, onPut, splitFrom, openLeaf, levelAt, tooLong, splitLeaf, growSpan, growInto, growLeaf, descend, aimMade, aimAt, leafFor, insertAt, insertPage}
+use Rattle.trie.specs.Model.{Inside, Made, made, Pushed, pushed, After, after, Aimed, aimed, linkAt, childAt, byteIn, placeFrom, findPlace, linkLeaf, nodeIn, freshLeaf, madeAt, childLeaf, pushPage, pushNodes, pushPages, putDone, putInto, putLeafM, pageByte, onPut, splitFrom, openLeaf, levelAt, tooLong, splitLeaf, growSpan, growInto, growLeaf, Reached, onward, descend, targetIn, aimMade, aimAt, leafFor, insertAt, insertPage}
+use Rattle.trie.specs.Tables.{RowTable}
+use Rattle.trie.proofs.Bytes.{level-table, byte-small}
 use Rattle.trie_room.specs.RowBytes.{rowsOf}
-use Rattle.add_page.specs.Insert.{insertBlock}
+use Rattle.add_page.specs.declared.insert.Inserted.{Inserted}
+use Rattle.add_page.specs.Insert.{Filled, filled, onInsert, insertBlock, insertFrom, insertAll}
 
-abbrev pub Lengths : List ℕ → List ℕ → After → Type 0
-Lengths N P (after N' P' g) = (length N' ≡ length N) × (length P' ≡ length P)
+-- a table after a change inside lo .. hi
+pub record Within (lo hi : ℕ) (A B : List ℕ) : Type 0 where
+  pub same : length B ≡ length A
+  pub front : take lo B ≡ take lo A
+  pub back : skip hi B ≡ skip hi A
 
-abbrev LengthM : List ℕ → Made → Type 0
-LengthM N (made N' g) = length N' ≡ length N
+pub within-none : {lo hi : ℕ} {A : List ℕ} → Within lo hi A A
+within-none = record { same = refl; front = refl; back = refl }
 
-abbrev LengthP : List ℕ → List ℕ → Pushed → Type 0
-LengthP N P (pushed N' P' t) = (length N' ≡ length N) × (length P' ≡ length P)
+pub within-both : {lo hi : ℕ} {A B C : List ℕ} → Within lo hi A B → Within lo hi B C → Within lo hi A C
+within-both f g = record { same = g .same ∙ f .same; front = g .front ∙ f .front; back = g .back ∙ f .back }
 
-abbrev LengthA : List ℕ → Aimed → Type 0
-LengthA N (aimed N' t) = length N' ≡ length N
+pub within-set : {lo hi : ℕ} (A : List ℕ) (i v : ℕ) → lo ≤ i → i < hi → Within lo hi A (set A i v)
+within-set {lo} {hi} A i v l h =
+    record { same = length-set A i v; front = take-set-le lo A i v l; back = drop-set-lt hi A i v h }
 
-fresh-length : (N : List ℕ) (cap s b free : ℕ) → LengthM N (freshLeaf N cap s b free)
-unfolding freshLeaf linkLeaf
-fresh-length N cap s b free = go (eqb free 0) (ltb cap free)
-  where
-    go : (t u : Bool) → LengthM N (cond t (made N Full) (cond u (made N Bad) (made (linkLeaf N cap s (free - 1) b) (Node (free - 1) (getD N (free - 1) 0)))))
-    go true u = refl
-    go false true = refl
-    go false false = simp length-set refl
+-- ---- the node table
+module _ (cap : ℕ) where
+  node-set : (N : List ℕ) (i v : ℕ) → i < 10 * cap → Within 0 (10 * cap) N (set N i v)
+  node-set N i v h = within-set N i v (omega arith) h
 
-child-length : (N : List ℕ) (cap n b free : ℕ) → LengthM N (childLeaf N cap n b free)
-unfolding childLeaf
-child-length N cap n b free = go (findPlace N cap n b)
-  where
-    go : (q : Place) → LengthM N (madeAt N cap b free q)
-    go (Found s c) = refl
-    go (Missing s) = fresh-length N cap s b free
-    go Broken = refl
+  -- and the node given lies in it
+  abbrev KeptM : List ℕ → Made → Type 0
+  KeptM N (made N' g) = Within 0 (10 * cap) N N' × (nodeIn g ≤ cap)
 
-push-length : (N P : List ℕ) (cap base n p : ℕ) → LengthP N P (pushPage N P cap base n p)
-unfolding pushPage
-push-length N P cap base n p = go (ltb (getD N (stateAt cap n) 0) 2)
-  where
-    go : (t : Bool) → LengthP N P (cond t (pushed N P false) (pushed (pushNodes N cap n p) (pushPages N P cap base n p) true))
-    go true = (refl, refl)
-    go false = (simp length-set refl, simp length-set refl)
+  abbrev KeptA : List ℕ → Aimed → Type 0
+  KeptA N (aimed N' t) = Within 0 (10 * cap) N N' × (targetIn t ≤ cap)
 
-put-length : (N P : List ℕ) (cap base n b p free : ℕ) → Lengths N P (putLeafM N P cap base n b p free)
-unfolding putLeafM
-put-length N P cap base n b p free = go (childLeaf N cap n b free) (child-length N cap n b free)
-  where
-    into : (N' : List ℕ) (c next : ℕ) → length N' ≡ length N → (q : Pushed) → LengthP N' P q → Lengths N P (putDone c next q)
-    into N' c next e (pushed N'' P'' true) h = (h .0 ∙ e, h .1)
-    into N' c next e (pushed N'' P'' false) h = (h .0 ∙ e, h .1)
+  link-kept : (N : List ℕ) (s f b : ℕ) → s < 10 * cap → f < cap → Within 0 (10 * cap) N (linkLeaf N cap s f b)
+  unfolding linkLeaf
+  link-kept N s f b ls lf =
+      within-both (within-both (node-set N f _ (omega arith)) (node-set _ (stateAt cap f) _ (omega arith))) (node-set _ s _ ls)
 
-    go : (m : Made) → LengthM N m → Lengths N P (putInto P cap base p m)
-    go (made N' (Node c next)) e = into N' c next e (pushPage N' P cap base c p) (push-length N' P cap base c p)
-    go (made N' Full) e = (e, refl)
-    go (made N' Bad) e = (e, refl)
-
--- lengths of tables that have those of others
-onward : (N P N' P' : List ℕ) → length N' ≡ length N → length P' ≡ length P → (a : After) → Lengths N' P' a → Lengths N P a
-onward N P N' P' e f (after N'' P'' g) h = (h .0 ∙ e, h .1 ∙ f)
-
-module _ (S : List ℕ) (cap pcap base : ℕ) where
-  split-length : (v : Level) (n : ℕ) (f : ℕ) (N P : List ℕ) (l free : ℕ) → Lengths N P (splitFrom S v cap pcap base n N P l free f)
-  unfolding splitFrom
-  split-length v n zero N P l free = (refl, refl)
-  split-length v n (suc f) N P l free =
-      go (eqb l 0) (ltb pcap l) (putLeafM N P cap base n (pageByte S v (l - 1)) (l - 1) free)
-      (put-length N P cap base n (pageByte S v (l - 1)) (l - 1) free)
-      (λ N' P' free'. split-length v n f N' P' (getD P (base + (l - 1)) 0) free')
+  fresh-kept : (N : List ℕ) (s b free : ℕ) → s < 10 * cap → KeptM N (freshLeaf N cap s b free)
+  unfolding freshLeaf
+  fresh-kept N s b free ls = go (eqb free 0) refl (ltb cap free) refl
     where
-      go : (t u : Bool) (a : After) → Lengths N P a
-          → ((N' P' : List ℕ) (free' : ℕ) → Lengths N' P' (splitFrom S v cap pcap base n N' P' (getD P (base + (l - 1)) 0) free' f))
-          → Lengths N P (cond t (after N P (Node n free)) (cond u (after N P Bad)
-          (onPut (λ N' P' free'. splitFrom S v cap pcap base n N' P' (getD P (base + (l - 1)) 0) free' f) a)))
-      go true u a h ih = (refl, refl)
-      go false true a h ih = (refl, refl)
-      go false false (after N' P' (Node c free')) h ih =
-          onward N P N' P' (h .0) (h .1) (splitFrom S v cap pcap base n N' P' (getD P (base + (l - 1)) 0) free' f) (ih N' P' free')
-      go false false (after N' P' Full) h ih = h
-      go false false (after N' P' Bad) h ih = h
+      go : (t : Bool) → eqb free 0 ≡ t → (u : Bool) → ltb cap free ≡ u →
+          KeptM N (cond t (made N Full) (cond u (made N Bad) (made (linkLeaf N cap s (free - 1) b) (Node (free - 1) (getD N (free - 1) 0)))))
+      go true e u f = (within-none, omega arith)
+      go false e true f = (within-none, omega arith)
+      go false e false f =
+          let l : free - 1 < cap = omega (arith, eqb-false free 0 e, ltb-false cap free f) in
+          (link-kept N s (free - 1) b ls l, omega arith)
 
-  module _ (τ : List ℕ) (r : Rows) where
-    span-length : (N P : List ℕ) (k n p free : ℕ) (q : Span) → Lengths N P (growSpan S τ r cap pcap base N P k n p free q)
-    unfolding splitLeaf
-    span-length N P k n p free Enough =
-        onward N P (openLeaf N cap n) P (simp length-set refl) refl
-        (splitFrom S (levelAt r k) cap pcap base n (openLeaf N cap n) P (p + 1) free (pcap + 1))
-        (split-length (levelAt r k) n (pcap + 1) (openLeaf N cap n) P (p + 1) free)
-    span-length N P k n p free Short = (refl, refl)
-    span-length N P k n p free Wild = (refl, refl)
+  place-inside : (N : List ℕ) (b f s : ℕ) → 0 < cap → s < 10 * cap → Inside cap (placeFrom N cap b s f)
+  unfolding placeFrom
+  place-inside N b zero s some ls = record { slot = omega arith; child = some }
+  place-inside N b (suc f) s some ls =
+      go (eqb (linkAt N s) 0) refl (ltb cap (linkAt N s)) refl (ltb (byteIn N (childAt N s)) b) (eqb (byteIn N (childAt N s)) b)
+      (λ h. place-inside N b f (childAt N s) some h)
+    where
+      go : (t : Bool) → eqb (linkAt N s) 0 ≡ t → (u : Bool) → ltb cap (linkAt N s) ≡ u → (v w : Bool) →
+          (childAt N s < 10 * cap → Inside cap (placeFrom N cap b (childAt N s) f)) →
+          Inside cap (cond t (Missing s) (cond u Broken (cond v (placeFrom N cap b (childAt N s) f) (cond w (Found s (childAt N s)) (Missing s)))))
+      go true e u l v w ih = record { slot = ls; child = some }
+      go false e true l v w ih = record { slot = omega arith; child = some }
+      go false e false l true w ih = ih (omega (arith, eqb-false (linkAt N s) 0 e, ltb-false cap (linkAt N s) l))
+      go false e false l false true ih = record { slot = ls; child = omega (arith, eqb-false (linkAt N s) 0 e, ltb-false cap (linkAt N s) l) }
+      go false e false l false false ih = record { slot = ls; child = some }
 
-    grow-length : (N P : List ℕ) (k n p free : ℕ) → Lengths N P (growLeaf S τ r cap pcap base N P k n p free)
-    unfolding growLeaf
-    grow-length N P k n p free = go (pushPage N P cap base n p) (push-length N P cap base n p)
+  find-inside : (N : List ℕ) (n b : ℕ) → n < cap → b < 256 → Inside cap (findPlace N cap n b)
+  unfolding findPlace
+  find-inside N n b ln lb = place-inside N b 33 (headAt cap n (b / 32)) (omega arith) (omega arith)
+
+  child-kept : (N : List ℕ) (n b free : ℕ) → n < cap → b < 256 → KeptM N (childLeaf N cap n b free)
+  unfolding childLeaf
+  child-kept N n b free ln lb = go (findPlace N cap n b) (find-inside N n b ln lb)
+    where
+      go : (q : Place) → Inside cap q → KeptM N (madeAt N cap b free q)
+      go (Found s c) i = (within-none, omega (arith, i .child))
+      go (Missing s) i = fresh-kept N s b free (i .slot)
+      go Broken i = (within-none, omega arith)
+
+  module _ (N Y : List ℕ) (octets : (k : ℕ) → getD Y k 0 < 256) where
+    descend-inside : (f s n k : ℕ) → s < 10 * cap → n < cap → k + f ≡ length Y → Reached cap (length Y) (descend N cap Y s n k f)
+    unfolding descend
+    descend-inside zero s n k ls ln e = go (leb 2 (getD N (stateAt cap n) 0))
       where
-        go : (q : Pushed) → LengthP N P q → Lengths N P (growInto S τ r cap pcap base k n p free q)
-        go (pushed N' P' false) h = h
-        go (pushed N' P' true) h =
-            onward N P N' P' (h .0) (h .1) (growSpan S τ r cap pcap base N' P' k n p free (tooLong τ r pcap base P' k (p + 1)))
-            (span-length N' P' k n p free (tooLong τ r pcap base P' k (p + 1)))
+        go : (t : Bool) → Reached cap (length Y) (cond t (Leaf s n k) Lost)
+        go true = (ls, ln, omega arith)
+        go false = tt
+    descend-inside (suc f) s n k ls ln e =
+        go (leb 2 (getD N (stateAt cap n) 0)) (findPlace N cap n (getD Y k 0)) (find-inside N n (getD Y k 0) ln (octets k))
+        (λ s' c l m. descend-inside f s' c (k + 1) l m (omega arith))
+      where
+        go : (t : Bool) (q : Place) → Inside cap q →
+            ((s' c : ℕ) → s' < 10 * cap → c < cap → Reached cap (length Y) (descend N cap Y s' c (k + 1) f)) →
+            Reached cap (length Y) (cond t (Leaf s n k) (onward (λ s' c. descend N cap Y s' c (k + 1) f) k q))
+        go true q i ih = (ls, ln, omega arith)
+        go false (Found s' c) i ih = ih s' c (i .slot) (i .child)
+        go false (Missing s') i ih = (i .slot, omega arith)
+        go false Broken i ih = tt
 
-    aim-length : (N Y : List ℕ) (root free : ℕ) → LengthA N (leafFor N cap Y root free)
+    aim-kept : (root free : ℕ) → root < cap → KeptA N (leafFor N cap Y root free)
     unfolding leafFor
-    aim-length N Y root free = go (descend N cap Y root root 0 (length Y))
+    aim-kept root free l =
+        go (descend N cap Y root root 0 (length Y)) (descend-inside (length Y) root root 0 (omega arith) l (omega arith))
       where
-        fresh : (k : ℕ) (m : Made) → LengthM N m → LengthA N (aimMade k m)
+        fresh : (k : ℕ) (m : Made) → KeptM N m → KeptA N (aimMade k m)
         fresh k (made N' (Node n free)) e = e
         fresh k (made N' Full) e = e
         fresh k (made N' Bad) e = e
 
-        go : (q : Reach) → LengthA N (aimAt N cap Y free q)
-        go (Leaf s n k) = refl
-        go (Gap s k) = fresh (k + 1) (freshLeaf N cap s (getD Y k 0) free) (fresh-length N cap s (getD Y k 0) free)
-        go Lost = refl
+        go : (q : Reach) → Reached cap (length Y) q → KeptA N (aimAt N cap Y free q)
+        go (Leaf s n k) i = (within-none, omega arith)
+        go (Gap s k) i = fresh (k + 1) (freshLeaf N cap s (getD Y k 0) free) (fresh-kept N s (getD Y k 0) free (i .0))
+        go Lost i = (within-none, omega arith)
 
-    insert-length : (N P Y : List ℕ) (root p free : ℕ) → Lengths N P (insertPage S τ r cap pcap base N P Y root p free)
-    unfolding insertPage
-    insert-length N P Y root p free = go (leafFor N cap Y root free) (aim-length N Y root free)
+-- ---- both tables, of cap nodes, and pages inside lo .. hi
+module _ (cap lo hi : ℕ) where
+  abbrev Both : List ℕ → List ℕ → List ℕ → List ℕ → Type 0
+  Both N P N' P' = Within 0 (10 * cap) N N' × Within lo hi P P'
+
+  abbrev KeptP : List ℕ → List ℕ → Pushed → Type 0
+  KeptP N P (pushed N' P' t) = Both N P N' P'
+
+  abbrev pub Kept : List ℕ → List ℕ → After → Type 0
+  Kept N P (after N' P' g) = Both N P N' P'
+
+  abbrev pub KeptF : List ℕ → List ℕ → Filled → Type 0
+  KeptF N P (filled N' P' g) = Both N P N' P'
+
+-- the links of a block's pages lie from base on
+module _ (cap pcap base lo hi : ℕ) (low : lo ≤ base) (high : base + pcap ≤ hi) where
+  push-kept : (N P : List ℕ) (n p : ℕ) → n < cap → p < pcap → KeptP cap lo hi N P (pushPage N P cap base n p)
+  unfolding pushPage
+  push-kept N P n p ln lp = go (ltb (getD N (stateAt cap n) 0) 2)
+    where
+      go : (t : Bool) → KeptP cap lo hi N P (cond t (pushed N P false) (pushed (pushNodes N cap n p) (pushPages N P cap base n p) true))
+      go true = (within-none, within-none)
+      go false = (node-set cap N (stateAt cap n) _ (omega arith), within-set P (base + p) _ (omega arith) (omega arith))
+
+  put-kept : (N P : List ℕ) (n b p free : ℕ) → n < cap → b < 256 → p < pcap → Kept cap lo hi N P (putLeafM N P cap base n b p free)
+  unfolding putLeafM
+  put-kept N P n b p free ln lb lp = go (childLeaf N cap n b free) (child-kept cap N n b free ln lb)
+    where
+      into : (N' : List ℕ) (c next : ℕ) → Within 0 (10 * cap) N N' → (q : Pushed) → KeptP cap lo hi N' P q → Kept cap lo hi N P (putDone c next q)
+      into N' c next e (pushed N'' P'' true) h = (within-both e (h .0), h .1)
+      into N' c next e (pushed N'' P'' false) h = (within-both e (h .0), h .1)
+
+      go : (m : Made) → KeptM cap N m → Kept cap lo hi N P (putInto P cap base p m)
+      go (made N' (Node c next)) e = into N' c next (e .0) (pushPage N' P cap base c p) (push-kept N' P c p (omega (arith, e .1)) lp)
+      go (made N' Full) e = (e .0, within-none)
+      go (made N' Bad) e = (e .0, within-none)
+
+  -- one change after another
+  onto : (N P N' P' : List ℕ) → Within 0 (10 * cap) N N' → Within lo hi P P' → (a : After) → Kept cap lo hi N' P' a → Kept cap lo hi N P a
+  onto N P N' P' e f (after N'' P'' g) h = (within-both e (h .0), within-both f (h .1))
+
+  module _ (S : List ℕ) where
+    split-kept : (v : Level) (n : ℕ) → n < cap → ((p : ℕ) → pageByte S v p < 256) → (f : ℕ) (N P : List ℕ) (l free : ℕ) →
+        Kept cap lo hi N P (splitFrom S v cap pcap base n N P l free f)
+    unfolding splitFrom
+    split-kept v n ln bytes zero N P l free = (within-none, within-none)
+    split-kept v n ln bytes (suc f) N P l free =
+        go (eqb l 0) refl (ltb pcap l) refl (putLeafM N P cap base n (pageByte S v (l - 1)) (l - 1) free)
+        (λ h. put-kept N P n (pageByte S v (l - 1)) (l - 1) free ln (bytes (l - 1)) h)
+        (λ N' P' free'. split-kept v n ln bytes f N' P' (getD P (base + (l - 1)) 0) free')
       where
-        go : (q : Aimed) → LengthA N q → Lengths N P (insertAt S τ r cap pcap base P p q)
-        go (aimed N' (Ready n k next)) e =
-            onward N P N' P e refl (growLeaf S τ r cap pcap base N' P k n p next) (grow-length N' P k n p next)
-        go (aimed N' NoRoom) e = (e, refl)
-        go (aimed N' Damaged) e = (e, refl)
+        go : (t : Bool) → eqb l 0 ≡ t → (u : Bool) → ltb pcap l ≡ u → (a : After) → (l - 1 < pcap → Kept cap lo hi N P a)
+            → ((N' P' : List ℕ) (free' : ℕ) → Kept cap lo hi N' P' (splitFrom S v cap pcap base n N' P' (getD P (base + (l - 1)) 0) free' f))
+            → Kept cap lo hi N P (cond t (after N P (Node n free)) (cond u (after N P Bad)
+            (onPut (λ N' P' free'. splitFrom S v cap pcap base n N' P' (getD P (base + (l - 1)) 0) free' f) a)))
+        go true e u m a h ih = (within-none, within-none)
+        go false e true m a h ih = (within-none, within-none)
+        go false e false m (after N' P' (Node c free')) h ih =
+            let k = h (omega (arith, eqb-false l 0 e, ltb-false pcap l m)) in
+            onto N P N' P' (k .0) (k .1) (splitFrom S v cap pcap base n N' P' (getD P (base + (l - 1)) 0) free' f) (ih N' P' free')
+        go false e false m (after N' P' Full) h ih = h (omega (arith, eqb-false l 0 e, ltb-false pcap l m))
+        go false e false m (after N' P' Bad) h ih = h (omega (arith, eqb-false l 0 e, ltb-false pcap l m))
 
--- of one block of an add
-pub block-length : (s : Settings) (S x : List ℕ) (p j : ℕ) (N P : List ℕ) (free : ℕ) (N' P' : List ℕ) (g : Got) →
-    insertBlock s S x p j N P free ≡ after N' P' g → (length N' ≡ length N) × (length P' ≡ length P)
-unfolding insertBlock
-block-length s S x p j N P free N' P' g e =
-    subst (Lengths N P) e
-    (insert-length S (s .nodes) (s .pages) (nextAt (s .pages) j) (s .thresholds) (rowsOf s j) N P (bytesOfSketch s j x) j p free)
+    module _ (τ : List ℕ) (r : Rows) (rows : RowTable pcap r S) where
+      span-kept : (N P : List ℕ) (k n p free : ℕ) → n < cap → (q : Span) → Kept cap lo hi N P (growSpan S τ r cap pcap base N P k n p free q)
+      unfolding splitLeaf
+      span-kept N P k n p free ln Enough =
+          onto N P (openLeaf N cap n) P (node-set cap N (stateAt cap n) _ (omega arith)) within-none
+          (splitFrom S (levelAt r k) cap pcap base n (openLeaf N cap n) P (p + 1) free (pcap + 1))
+          (split-kept (levelAt r k) n ln (λ q. byte-small pcap (levelAt r k) S q (level-table pcap r S k rows)) (pcap + 1) (openLeaf N cap n) P (p + 1) free)
+      span-kept N P k n p free ln Short = (within-none, within-none)
+      span-kept N P k n p free ln Wild = (within-none, within-none)
+
+      grow-kept : (N P : List ℕ) (k n p free : ℕ) → n < cap → p < pcap → Kept cap lo hi N P (growLeaf S τ r cap pcap base N P k n p free)
+      unfolding growLeaf
+      grow-kept N P k n p free ln lp = go (pushPage N P cap base n p) (push-kept N P n p ln lp)
+        where
+          go : (q : Pushed) → KeptP cap lo hi N P q → Kept cap lo hi N P (growInto S τ r cap pcap base k n p free q)
+          go (pushed N' P' false) h = h
+          go (pushed N' P' true) h =
+              onto N P N' P' (h .0) (h .1) (growSpan S τ r cap pcap base N' P' k n p free (tooLong τ r pcap base P' k (p + 1)))
+              (span-kept N' P' k n p free ln (tooLong τ r pcap base P' k (p + 1)))
+
+      insert-kept : (N P Y : List ℕ) → ((k : ℕ) → getD Y k 0 < 256) → (root p free : ℕ) → root < cap → p < pcap →
+          Kept cap lo hi N P (insertPage S τ r cap pcap base N P Y root p free)
+      unfolding insertPage
+      insert-kept N P Y octets root p free lr lp = go (leafFor N cap Y root free) (aim-kept cap N Y octets root free lr)
+        where
+          go : (q : Aimed) → KeptA cap N q → Kept cap lo hi N P (insertAt S τ r cap pcap base P p q)
+          go (aimed N' (Ready n k next)) e =
+              onto N P N' P (e .0) within-none (growLeaf S τ r cap pcap base N' P k n p next) (grow-kept N' P k n p next (omega (arith, e .1)) lp)
+          go (aimed N' NoRoom) e = (e .0, within-none)
+          go (aimed N' Damaged) e = (e .0, within-none)
+
+-- ---- the blocks of an add
+module _ (s : Settings) (S x : List ℕ) (p : ℕ) (page : p < s .pages)
+    (octets : (j k : ℕ) → getD (bytesOfSketch s j x) k 0 < 256)
+    (rows : (j : ℕ) → j < s .blocks → RowTable (s .pages) (rowsOf s j) S) where
+  links-low : (j : ℕ) → 2 * s .pages ≤ nextAt (s .pages) j
+  links-low j = let l : 2 ≤ 2 + j = omega arith in mul-le-mul-right (s .pages) l
+
+  links-high : (j : ℕ) → j < s .blocks → nextAt (s .pages) j + s .pages ≤ pagesLength s
+  unfolding pagesLength
+  links-high j l = let m : 2 + j < 2 + s .blocks = omega arith in omega (arith, rw suc-mul at (mul-le-mul-right (s .pages) m))
+
+  abbrev KeptAll : List ℕ → List ℕ → Filled → Type 0
+  KeptAll = KeptF (s .nodes) (2 * s .pages) (pagesLength s)
+
+  pub block-kept : (j : ℕ) → j < s .blocks → j < s .nodes → (N P : List ℕ) (free : ℕ) → Kept (s .nodes) (2 * s .pages) (pagesLength s) N P (insertBlock s S x p j N P free)
+  unfolding insertBlock
+  block-kept j l root N P free =
+      insert-kept (s .nodes) (s .pages) (nextAt (s .pages) j) (2 * s .pages) (pagesLength s) (links-low j) (links-high j l)
+      S (s .thresholds) (rowsOf s j) (rows j l) N P (bytesOfSketch s j x) (octets j) j p free root page
+
+  from-kept : s .blocks ≤ s .nodes → (k j : ℕ) → j + k ≤ s .blocks → (N P : List ℕ) (free : ℕ) → KeptAll N P (insertFrom s S x p k j N P free)
+  unfolding insertFrom
+  from-kept roots zero j l N P free = (within-none, within-none)
+  from-kept roots (suc k) j l N P free =
+      go (insertBlock s S x p j N P free) (block-kept j (omega arith) (omega arith) N P free) (λ N' P' free'. from-kept roots k (suc j) (omega arith) N' P' free')
+    where
+      more : (N' P' : List ℕ) → Both (s .nodes) (2 * s .pages) (pagesLength s) N P N' P' → (a : Filled) → KeptAll N' P' a → KeptAll N P a
+      more N' P' e (filled N'' P'' i) h = (within-both (e .0) (h .0), within-both (e .1) (h .1))
+
+      go : (a : After) → Kept (s .nodes) (2 * s .pages) (pagesLength s) N P a
+          → ((N' P' : List ℕ) (free' : ℕ) → KeptAll N' P' (insertFrom s S x p k (suc j) N' P' free'))
+          → KeptAll N P (onInsert (λ N' P' free'. insertFrom s S x p k (suc j) N' P' free') a)
+      go (after N' P' (Node n free')) h ih = more N' P' h (insertFrom s S x p k (suc j) N' P' free') (ih N' P' free')
+      go (after N' P' Full) h ih = h
+      go (after N' P' Bad) h ih = h
+
+  pub all-kept : s .blocks ≤ s .nodes → (N P : List ℕ) (free : ℕ) → KeptAll N P (insertAll s S x p N P free)
+  unfolding insertAll
+  all-kept roots N P free = from-kept roots (s .blocks) 0 (omega arith) N P free

@@ -1,4 +1,6 @@
 pub mod Admits
+pub mod Passed
+pub mod Puts
 pub mod Bytes
 pub mod Tables
 pub mod Rooms

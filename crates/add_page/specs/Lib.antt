@@ -3,3 +3,4 @@ pub mod Lent
 pub mod Blocks
 pub mod Room
 pub mod Insert
+pub mod Add

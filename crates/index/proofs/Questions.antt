@@ -2,9 +2,10 @@
 use Prim.Native.Nat.{ℕ}
 use mathlib.Core.Path.{_≡_, refl, sym, _∙_}
 use mathlib.Core.Bool.{Bool, true, false, cond, not}
-use mathlib.Core.List.{List, [], _∷_}
-use borrow.Author.Tests.{not-true, not-false}
-use Rattle.meaning.specs.Refusal.{Question, firstNo}
+use mathlib.Core.List.{List, [], _∷_, _++_}
+use borrow.Author.Tests.{not-true, not-false, ne-eqb}
+use lib.Dec.{eqb}
+use Rattle.meaning.specs.Refusal.{Question, ask, firstNo}
 
 -- ---- a branch on `!r`, where r is the answer to a test
 module _ {r t : Bool} (answer : r ≡ t) where
@@ -33,3 +34,18 @@ pub all-yes : (qs : List Question) → Numbered qs → firstNo qs ≡ 0 → AllY
 unfolding firstNo
 all-yes [] h e = tt
 all-yes (q ∷ qs) h e = step (q .passed) (q .number) (firstNo qs) (AllYes qs) (h .0) (all-yes qs (h .1)) e
+
+-- a question behind others is asked where none of them says no
+pub last-asked : (qs : List Question) → Numbered qs → (n : ℕ) (t : Bool) →
+    firstNo (qs ++ ask n t ∷ []) ≡ cond (eqb (firstNo (qs ++ ask n true ∷ [])) 0) (cond t 0 n) (firstNo (qs ++ ask n true ∷ []))
+unfolding firstNo
+last-asked [] h n t = refl
+last-asked (q ∷ qs) h n t = go (q .passed) (last-asked qs (h .1) n t)
+  where
+    rest : Bool → ℕ
+    rest u = firstNo (qs ++ ask n u ∷ [])
+
+    go : (u : Bool) → rest t ≡ cond (eqb (rest true) 0) (cond t 0 n) (rest true)
+        → cond u (rest t) (q .number) ≡ cond (eqb (cond u (rest true) (q .number)) 0) (cond t 0 n) (cond u (rest true) (q .number))
+    go true ih = ih
+    go false ih = rw (ne-eqb (q .number) 0 (h .0)) refl

@@ -1,0 +1,159 @@
+-- What the questions of an add tell where none says no, and what 12 adds to those ahead of it.
+use Prim.Native.Nat.{ℕ, _+_, _*_, _≤_, _<_}
+use native.Mathlib.Omega.{arith}
+use mathlib.Core.Path.{_≡_, refl, sym, ap, _∙_}
+use mathlib.Core.Bool.{Bool, true, false, cond, _&&_, not}
+use mathlib.Core.Logic.{_≢_}
+use mathlib.Core.List.{List, [], _∷_}
+use borrow.Author.Tests.{ltb-true, leb-true, le-leb, eqb-true, eqb-false, eq-eqb, ne-eqb, not-true}
+use lib.Dec.{ltb, leb, eqb}
+use lib.ListN.{length}
+use Rattle.meaning.specs.Lists.{sum}
+use Rattle.meaning.specs.Refusal.{Question, ask, firstNo}
+use Rattle.meaning.specs.Sketch.{inRange}
+use Rattle.meaning.specs.Trie.{Tree}
+use Rattle.meaning.specs.Ledger.{add}
+use Rattle.meaning.specs.Forest.{eachFrom, forestAfter, totalNodes}
+use Rattle.meaning.specs.Questions.{asked}
+use Rattle.layout.specs.declared.Header.{Header}
+use Rattle.layout.specs.declared.Opening.the-variants.{Shown, Refused}
+use Rattle.layout.specs.Settings.{settingsLength, showsOpening}
+use Rattle.layout.specs.Header.{headerOf, withThresholds, bare, pick}
+use Rattle.layout.specs.Lengths.{nodesLength, pagesLength, sketchesLength}
+use Rattle.layout.specs.Pages.{isLive, withRow}
+use Rattle.layout.proofs.Openings.{shown, shows}
+use Rattle.layout.proofs.Rows.{row-inside, length-with-row}
+use Rattle.layout.proofs.Tests.{and-left, and-right}
+use Rattle.layout.proofs.Words.{class-inside}
+use Rattle.promises.specs.Tables.{Tables, given, byTables, rowsOf}
+use Rattle.promises.specs.Answers.{number, entered, shown56, longSettings, longFor, longNodes, longPages}
+use Rattle.index.proofs.Questions.{all-yes, last-asked}
+use Rattle.add_page.specs.Admission.{admission}
+use Rattle.add_page.specs.Lent.{Fits, Lent}
+
+-- no question of 5 to 11 says no
+pub record Passed (T : Tables) (h : Header) (p c : ℕ) (x : List ℕ) : Type 0 where
+  pub header : headerOf (given T) ≡ h
+  pub long : settingsLength ≤ length (T .settings)
+  pub lent : Lent h (given T .thresholds) (T .nodes) (T .pages) (T .sketches)
+  pub fits : Fits h x
+  pub page : p < h .pages
+  pub class : c < 64
+  pub dead : isLive (T .pages) p ≡ false
+
+module _ (T : Tables) (p c : ℕ) (x : List ℕ) where
+  -- 5 to 11, then 12
+  abbrev ahead : List Question → List Question
+  ahead qs =
+      ask 5 (leb settingsLength (length (T .settings)))
+      ∷ ask 6 (showsOpening (T .settings) && (longNodes (given T) T && longPages (given T) T))
+      ∷ ask 7 (ltb c 64)
+      ∷ ask 8 (ltb p (given T .pages))
+      ∷ ask 9 (not (isLive (T .pages) p))
+      ∷ ask 10 (eqb (length x) (given T .symbols))
+      ∷ ask 11 (inRange (given T .bits) x)
+      ∷ qs
+
+  abbrev pub room12 : List Tree → Bool
+  room12 F = leb (totalNodes (forestAfter (given T) (rowsOf T) (add p c x) F)) (given T .nodes)
+
+  number-by : (F : List Tree) → number T F (add p c x) ≡ firstNo (ahead (ask 12 (room12 F) ∷ []))
+  unfolding number entered shown56 longSettings longFor asked byTables
+  number-by F = refl
+
+  -- with no tries, 12 is passed
+  room-none : room12 [] ≡ true
+  unfolding forestAfter eachFrom totalNodes sum
+  room-none = le-leb 0 (given T .nodes) (omega arith)
+
+  abbrev passes : Header → Type 0
+  passes h = Passed T h p c x
+
+  pub passed : (F : List Tree) → number T F (add p c x) ≡ 0 → passes (headerOf (given T))
+  unfolding longNodes longPages nodesLength pagesLength sketchesLength
+  passed F z =
+      let yes = all-yes (ahead (ask 12 (room12 F) ∷ [])) (omega arith) (sym (number-by F) ∙ z) in
+      let N : Bool = leb (nodesLength (given T)) (length (T .nodes)) in
+      let P : Bool = leb (pagesLength (given T)) (length (T .pages)) in
+      let S : Bool = leb (sketchesLength (given T)) (length (T .sketches)) in
+      let tables : N && (P && S) ≡ true = and-right (showsOpening (T .settings)) (N && (P && S)) (yes .1 .0) in
+      let behind : P && S ≡ true = and-right N (P && S) tables in
+      let long : settingsLength ≤ length (T .settings) = leb-true settingsLength (length (T .settings)) (yes .0) in
+      let told = shown (T .settings) (headerOf (given T)) (shows (T .settings) long (and-left (showsOpening (T .settings)) (N && (P && S)) (yes .1 .0))) in
+      record {
+        header = refl;
+        long = long;
+        lent = record {
+          limits = told .limits;
+          levels = told .bounds .count;
+          nodes-long = leb-true (nodesLength (given T)) (length (T .nodes)) (and-left N (P && S) tables);
+          pages-long = leb-true (pagesLength (given T)) (length (T .pages)) (and-left P S behind);
+          sketches-long = leb-true (sketchesLength (given T)) (length (T .sketches)) (and-right P S behind);
+        };
+        fits = record { count = eqb-true (length x) (given T .symbols) (yes .1 .1 .1 .1 .1 .0); range = yes .1 .1 .1 .1 .1 .1 .0 };
+        page = ltb-true p (given T .pages) (yes .1 .1 .1 .0);
+        class = ltb-true c 64 (yes .1 .1 .0);
+        dead = not-true (isLive (T .pages) p) (yes .1 .1 .1 .1 .0);
+      }
+
+  -- what `admit` tells
+  pub admit-shown : (h : Header) → admission T (add p c x) ≡ Shown h → (number T [] (add p c x) ≡ 0) × passes h
+  unfolding admission
+  admit-shown h e = go (eqb (number T [] (add p c x)) 0) refl e
+    where
+      go : (t : Bool) → eqb (number T [] (add p c x)) 0 ≡ t → pick t (Shown (headerOf (given T))) (Refused (number T [] (add p c x))) ≡ Shown h →
+          (number T [] (add p c x) ≡ 0) × passes h
+      go true q e =
+          let z = eqb-true (number T [] (add p c x)) 0 q in
+          let same : headerOf (given T) ≡ h = cc in
+          (z, rw same at (passed [] z))
+      go false q e = let z : _≡_ {A = ℕ} 0 1 = cc in absurd (omega arith)
+
+  pub admit-refused : (n : ℕ) → admission T (add p c x) ≡ Refused n → (number T [] (add p c x) ≡ n) × (n ≢ 0)
+  unfolding admission
+  admit-refused n e = go (eqb (number T [] (add p c x)) 0) refl e
+    where
+      go : (t : Bool) → eqb (number T [] (add p c x)) 0 ≡ t → pick t (Shown (headerOf (given T))) (Refused (number T [] (add p c x))) ≡ Refused n →
+          (number T [] (add p c x) ≡ n) × (n ≢ 0)
+      go true q e = let z : _≡_ {A = ℕ} 0 1 = cc in absurd (omega arith)
+      go false q e =
+          let same : number T [] (add p c x) ≡ n = cc in
+          (same, λ z. eqb-false (number T [] (add p c x)) 0 q (same ∙ z))
+
+  -- 12 is asked last
+  module _ (F : List Tree) where
+    pub asked-last : number T F (add p c x) ≡ cond (eqb (number T [] (add p c x)) 0) (cond (room12 F) 0 12) (number T [] (add p c x))
+    asked-last =
+        let none : number T [] (add p c x) ≡ firstNo (ahead (ask 12 true ∷ [])) = number-by [] ∙ ap (λ (t : Bool). firstNo (ahead (ask 12 t ∷ []))) room-none in
+        number-by F
+        ∙ last-asked (ahead []) (omega arith) 12 (room12 F)
+        ∙ ap (λ (n : ℕ). cond (eqb n 0) (cond (room12 F) 0 12) n) (sym none)
+
+    pub asked-12 : number T [] (add p c x) ≡ 0 → number T F (add p c x) ≡ cond (room12 F) 0 12
+    asked-12 z = asked-last ∙ rw z refl
+
+    pub asked-ahead : number T [] (add p c x) ≢ 0 → number T F (add p c x) ≡ number T [] (add p c x)
+    asked-ahead h = asked-last ∙ rw (ne-eqb (number T [] (add p c x)) 0 h) refl
+
+-- the settings of the opening, from its header and the thresholds
+pub same-settings : (T : Tables) (h : Header) (τ : List ℕ) → headerOf (given T) ≡ h → τ ≡ given T .thresholds → withThresholds h τ ≡ given T
+same-settings T h τ e f = rw (← e, f) refl
+
+-- the tables with the page's row
+pub row-fits : (T : Tables) (h : Header) (p c : ℕ) (x : List ℕ) → Passed T h p c x → p * h .m + h .m ≤ length (T .sketches)
+unfolding sketchesLength
+row-fits T h p c x ok = row-inside (h .m) (h .pages) (length (T .sketches)) (ok .page) (ok .lent .sketches-long)
+
+pub lent-row : (T : Tables) (h : Header) (p c : ℕ) (x : List ℕ) → Passed T h p c x → (S : List ℕ) → S ≡ withRow (h .m) (T .sketches) p x →
+    Lent h (given T .thresholds) (T .nodes) (T .pages) S
+lent-row T h p c x ok S e = record {
+  limits = ok .lent .limits;
+  levels = ok .lent .levels;
+  nodes-long = ok .lent .nodes-long;
+  pages-long = ok .lent .pages-long;
+  sketches-long = omega (arith, ok .lent .sketches-long, ap length e, length-with-row (h .m) (T .sketches) p (row-fits T h p c x ok) x (ok .fits .count));
+}
+
+-- the class word lies in the page table, also after the tries have changed
+pub class-fits : (T : Tables) (h : Header) (p c : ℕ) (x : List ℕ) → Passed T h p c x → (P : List ℕ) → length P ≡ length (T .pages) → h .pages + p < length P
+class-fits T h p c x ok P e = omega (arith, class-inside (bare h) (ok .page), ok .lent .pages-long)

@@ -1,0 +1,70 @@
+-- The steps of an add past 11, as the code takes them.
+use Prim.Native.Nat.{ℕ}
+use mathlib.Core.Path.{_≡_, refl, sym, ap, _∙_}
+use mathlib.Core.List.{List}
+use lib.ListN.{getD, set}
+use Rattle.meaning.specs.Ledger.{add}
+use Rattle.layout.specs.declared.Header.{Header}
+use Rattle.layout.specs.declared.Opening.{Opening}
+use Rattle.layout.specs.declared.Opening.the-variants.{Shown, Refused}
+use Rattle.layout.specs.Settings.{freeAt}
+use Rattle.layout.specs.Header.{headerOf, withThresholds}
+use Rattle.layout.specs.Pages.{withRow, withPage}
+use Rattle.trie.specs.declared.Span.{Span}
+use Rattle.trie.specs.declared.Span.the-variants.{Enough, Short, Wild}
+use Rattle.promises.specs.Tables.{Tables, tables, given}
+use Rattle.add_page.specs.declared.insert.Inserted.{Inserted}
+use Rattle.add_page.specs.declared.insert.Inserted.the-variants.{Free, Stopped}
+use Rattle.add_page.specs.Admission.{admission}
+use Rattle.add_page.specs.Room.{roomOf}
+use Rattle.add_page.specs.Insert.{Filled, filled, insertAll}
+use Rattle.add_page.specs.Add.{Added, added, rowAdded, onFilled, putPage, onRoom, placePage, onOpening, addPage}
+use Rattle.add_page.proofs.Passed.{same-settings}
+
+module _ (T : Tables) (h : Header) (header : headerOf (given T) ≡ h) (p c : ℕ) (x τ : List ℕ) (levels : τ ≡ given T .thresholds)
+    (free : ℕ) (link : free ≡ getD (T .settings) freeAt 0) where
+  -- question 12
+  module _ (q : Span) (e : q ≡ roomOf (withThresholds h τ) (T .nodes) (T .pages) (T .sketches) x free) where
+    answered : onRoom T p c x q ≡ placePage T p c x
+    unfolding placePage
+    answered = ap (onRoom T p c x) (rw (same-settings T h τ header levels, link) at e)
+
+    pub place-short : q ≡ Short → added 12 T ≡ placePage T p c x
+    place-short m = rw m at answered
+
+    pub place-wild : q ≡ Wild → added 14 T ≡ placePage T p c x
+    place-wild m = rw m at answered
+
+    pub place-enough : q ≡ Enough → putPage T p c x ≡ placePage T p c x
+    place-enough m = rw m at answered
+
+  -- the row is written, and the page is put into each trie
+  module _ (S : List ℕ) (row : S ≡ withRow (h .m) (T .sketches) p x) (N P : List ℕ) (i : Inserted)
+      (e : filled N P i ≡ insertAll (withThresholds h τ) S x p (T .nodes) (T .pages) free) where
+    rowed : S ≡ rowAdded T p c x
+    rowed = row ∙ ap (λ (g : Header). withRow (g .m) (T .sketches) p x) (sym header)
+
+    inserted : onFilled T p c x (filled N P i) ≡ putPage T p c x
+    unfolding putPage
+    inserted = ap (onFilled T p c x) (rw (same-settings T h τ header levels, rowed, link) at e)
+
+    pub put-stopped : i ≡ Stopped → added 14 (tables (T .settings) N P S (T .working)) ≡ putPage T p c x
+    put-stopped m = rw rowed (rw m at inserted)
+
+    pub put-free : (l : ℕ) → i ≡ Free l → (ws : List ℕ) → ws ≡ set (T .settings) freeAt l → (P' : List ℕ) → P' ≡ withPage (h .pages) P p c →
+        added 0 (tables ws N P' S (T .working)) ≡ putPage T p c x
+    put-free l m ws w P' f =
+        let g : P' ≡ withPage (given T .pages) P p c = f ∙ ap (λ (g : Header). withPage (g .pages) P p c) (sym header) in
+        rw (rowed, w, g) (rw m at inserted)
+
+-- 5 to 11
+module _ (T : Tables) (p c : ℕ) (x : List ℕ) (o : Opening) (e : o ≡ admission T (add p c x)) where
+  told : onOpening T p c x o ≡ addPage T p c x
+  unfolding addPage
+  told = ap (onOpening T p c x) e
+
+  pub add-refused : (n : ℕ) → o ≡ Refused n → added n T ≡ addPage T p c x
+  add-refused n m = rw m at told
+
+  pub add-placed : (h : Header) → o ≡ Shown h → placePage T p c x ≡ addPage T p c x
+  add-placed h m = rw m at told

@@ -1,0 +1,94 @@
+// Add: a page with its class and sketch. What it promises is in crates/store/specs.
+ghost use mathlib.Core.Path.{_≡_};
+ghost use mathlib.Core.List.{[]};
+ghost use Rattle.meaning.specs.Ledger.{add};
+ghost use Rattle.layout.specs.declared.Opening.the-variants.{Shown};
+ghost use Rattle.promises.specs.Tables.{tables};
+ghost use Rattle.add_page.specs.Admission.{admission};
+ghost use Rattle.add_page.specs.Add.{added, putPage, placePage, addPage};
+use crate::insert::Inserted;
+use crate::insert::insert_all;
+use crate::questions::admit;
+use crate::room::room;
+use layout::Header;
+use layout::Opening;
+use trie::Span;
+
+// The page's row, its leaf in each trie, its live word and its class. 14 where a link led outside.
+fn put_page(
+    settings: &mut [u32],
+    nodes: &mut [u32],
+    pages: &mut [u32],
+    sketches: &mut [u8],
+    h: Header,
+    p: usize,
+    class: u32,
+    sketch: &[u8],
+) -> u32
+    requires { ⌜ admission (tables (now settings) (now nodes) (now pages) (now sketches) []) (add p «class» (now sketch)) ≡ Shown h ⌝ }
+    ensures { λ r. ⌜ added r (tables (now (settings .exit)) (now (nodes .exit)) (now (pages .exit)) (now (sketches .exit)) []) ≡ putPage (tables (now (settings .entry)) (now (nodes .entry)) (now (pages .entry)) (now (sketches .entry)) []) p «class» (now (sketch .entry)) ⌝ }
+{
+    layout::pages::write_row(sketches, h.m, p, sketch);
+    let free = layout::settings::free_link(settings);
+    let thresholds = layout::settings::thresholds(settings);
+    let inserted = insert_all(nodes, pages, sketches, thresholds, h, sketch, p, free);
+    match inserted {
+        Inserted::Free(link) => {
+            layout::settings::set_free_link(settings, link);
+            layout::pages::write_page(pages, h.pages, p, class);
+            0
+        }
+        Inserted::Stopped => 14,
+    }
+}
+
+// Past 11: question 12, before anything is written.
+fn place_page(
+    settings: &mut [u32],
+    nodes: &mut [u32],
+    pages: &mut [u32],
+    sketches: &mut [u8],
+    h: Header,
+    p: usize,
+    class: u32,
+    sketch: &[u8],
+) -> u32
+    requires { ⌜ admission (tables (now settings) (now nodes) (now pages) (now sketches) []) (add p «class» (now sketch)) ≡ Shown h ⌝ }
+    ensures { λ r. ⌜ added r (tables (now (settings .exit)) (now (nodes .exit)) (now (pages .exit)) (now (sketches .exit)) []) ≡ placePage (tables (now (settings .entry)) (now (nodes .entry)) (now (pages .entry)) (now (sketches .entry)) []) p «class» (now (sketch .entry)) ⌝ }
+{
+    let free = layout::settings::free_link(settings);
+    let thresholds = layout::settings::thresholds(settings);
+    let span = room(thresholds, nodes, pages, sketches, h, sketch, free);
+    match span {
+        Span::Enough => put_page(settings, nodes, pages, sketches, h, p, class, sketch),
+        Span::Short => 12,
+        Span::Wild => 14,
+    }
+}
+
+pub fn add(
+    settings: &mut [u32],
+    nodes: &mut [u32],
+    pages: &mut [u32],
+    sketches: &mut [u8],
+    page: u32,
+    class: u32,
+    sketch: &[u8],
+) -> u32
+    ensures { λ r. ⌜ added r (tables (now (settings .exit)) (now (nodes .exit)) (now (pages .exit)) (now (sketches .exit)) []) ≡ addPage (tables (now (settings .entry)) (now (nodes .entry)) (now (pages .entry)) (now (sketches .entry)) []) page «class» (now (sketch .entry)) ⌝ }
+{
+    let h = match admit(settings, nodes, pages, sketches, page, class, sketch) {
+        Opening::Refused(number) => return number,
+        Opening::Shown(h) => h,
+    };
+    place_page(
+        settings,
+        nodes,
+        pages,
+        sketches,
+        h,
+        page as usize,
+        class,
+        sketch,
+    )
+}
