@@ -10,3 +10,6 @@ pub mod Kept
 pub mod Grows
 pub mod Claims
 pub mod Spares
+pub mod KeepsAsked
+pub mod KeepsBytes
+pub mod KeepsWords
