@@ -13,3 +13,4 @@ pub mod Spares
 pub mod KeepsAsked
 pub mod KeepsBytes
 pub mod KeepsWords
+pub mod KeepsGrown
