@@ -14,3 +14,4 @@ pub mod KeepsAsked
 pub mod KeepsBytes
 pub mod KeepsWords
 pub mod KeepsGrown
+pub mod KeepsAdd
