@@ -1,22 +1,22 @@
 -- An add keeps the store sound: on a sound store with the tries F, where no question refuses the add, `insertAll` is not stopped, and the
 -- tables with its nodes and pages, the free link, the page live in its class and its row written are sound, with the tries that
 -- `forestAfter` gives.
-use Prim.Native.Nat.{ℕ, _+_, _*_, _≤_, _<_}
+use Prim.Native.Nat.{ℕ, _+_, _<_}
 use native.Mathlib.Decide.{ℕ-discrete}
 use native.Mathlib.Omega.{arith}
 use mathlib.Core.Path.{_≡_, refl, sym, ap, _∙_, fun-ext}
-use mathlib.Core.Bool.{Bool, true, false, cond, _&&_}
+use mathlib.Core.Bool.{Bool, true, false, _&&_}
 use mathlib.Core.Logic.{_≢_, by-cases}
-use mathlib.Core.List.{List, map}
-use borrow.Author.Tests.{eqb-true, eqb-false, eq-eqb, ne-eqb, ltb-true, lt-ltb}
+use mathlib.Core.List.{List}
+use borrow.Author.Tests.{eqb-true, eqb-false, ltb-true, lt-ltb}
 use lib.Dec.{ltb, eqb}
 use lib.ListN.{length, getD, set, length-map}
 use lib.Seq.{getD-set-same}
 use Rattle.meaning.specs.Trie.{Tree}
 use Rattle.meaning.specs.Ledger.{Settings, add}
-use Rattle.meaning.specs.Forest.{eachFrom, forestAfter, totalNodes}
+use Rattle.meaning.specs.Forest.{eachFrom, forestAfter}
 use Rattle.layout.specs.Settings.{freeAt, settingsOf}
-use Rattle.layout.specs.Pages.{isLive, classOf, rowOf, withPage}
+use Rattle.layout.specs.Pages.{isLive, classOf, withPage}
 use Rattle.layout.proofs.Words.{live-written, class-written, live-written-other, class-written-other}
 use Rattle.layout.proofs.Written.{settings-set}
 use Rattle.layout.proofs.Tests.{and-left}
@@ -28,7 +28,7 @@ use Rattle.trie_laws.proofs.Forest.{each-length}
 use Rattle.promises.specs.Tables.{Tables, tables, given, pageClass, pageRow, rowsOf}
 use Rattle.promises.specs.Answers.{number}
 use Rattle.store.specs.Sound.{Holding, Sound, SoundPage, livePage, pageBytes}
-use Rattle.add_page.specs.declared.insert.Inserted.the-variants.{Free}
+use Rattle.add_page.specs.declared.insert.Inserted.the-variants.{Free, Stopped}
 use Rattle.add_page.specs.Insert.{filled, insertAll}
 use Rattle.add_page.proofs.Grows.{Inserts}
 use Rattle.add_page.proofs.KeepsAsked.{Accepted, accepted}
@@ -154,3 +154,23 @@ insert-sound T F p c x sound e =
     let a = accepted T F p c x e in
     let G = placed T F sound p c x a in
     record { nodes = G .nodesTo; pages = G .pagesTo; link = G .link; is = G .is; sound = sound-after T F sound p c x a G }
+
+-- of the tables that `insertAll` gives
+module _ (T : Tables) (F : List Tree) (p c : ℕ) (x : List ℕ) (sound : Sound T F) (e : number T F (add p c x) ≡ 0) (N P : List ℕ) where
+  pub filled-sound : (link : ℕ) → insertAll (given T) (sketchesAfter T p x) x p (T .nodes) (T .pages) (getD (T .settings) freeAt 0) ≡ filled N P (Free link)
+      → Sound (tablesAfter T p c x N P link) (forestAfter (given T) (rowsOf T) (add p c x) F)
+  filled-sound link f =
+      let I = insert-sound T F p c x sound e in
+      let same : filled (I .nodes) (I .pages) (Free (I .link)) ≡ filled N P (Free link) = sym (I .is) ∙ f in
+      let n : I .nodes ≡ N = cc in
+      let q : I .pages ≡ P = cc in
+      let l : I .link ≡ link = cc in
+      rw (n, q, l) at (I .sound)
+
+  pub never-stopped : insertAll (given T) (sketchesAfter T p x) x p (T .nodes) (T .pages) (getD (T .settings) freeAt 0) ≡ filled N P Stopped → ⊥
+  never-stopped f =
+      let I = insert-sound T F p c x sound e in
+      let same : filled (I .nodes) (I .pages) (Free (I .link)) ≡ filled N P Stopped = sym (I .is) ∙ f in
+      let r : Free (I .link) ≡ Stopped = cc in
+      let z : _≡_ {A = ℕ} 0 1 = cc in
+      omega arith

@@ -10,12 +10,12 @@ use Rattle.meaning.specs.Forest.{blockBytes, eachFrom, forestAfter, totalNodes}
 use Rattle.layout.specs.Settings.{freeAt}
 use Rattle.layout.specs.Lengths.{nodesLength, sketchesLength}
 use Rattle.layout.specs.Header.{headerOf, bare}
-use Rattle.layout.specs.Pages.{nextAt, withRow, withPage}
+use Rattle.layout.specs.Pages.{withRow, withPage}
 use Rattle.layout.proofs.Rows.{row-inside, length-with-row}
 use Rattle.layout.proofs.Words.{class-inside}
 use Rattle.trie.specs.declared.Got.the-variants.{Node, Full, Bad}
 use Rattle.trie.specs.Model.{After, after}
-use Rattle.trie.specs.Heap.{Cells, Heap, nil, _⊕_}
+use Rattle.trie.specs.Heap.{Heap, _⊕_}
 use Rattle.trie.specs.Tables.{RowTable}
 use Rattle.trie.specs.Phys.{Phys, tree, first, freeCells, Below}
 use Rattle.trie_laws.specs.Sound.{Stands}
@@ -26,14 +26,14 @@ use Rattle.trie_laws.proofs.Forest.{total-insert}
 use Rattle.trie_room.specs.RowBytes.{rowBytes, rowsOf as rowsIn}
 use Rattle.trie_room.proofs.RowBytes.{rows-table}
 use Rattle.promises.specs.Tables.{Tables, given, rowsOf}
-use Rattle.store.specs.Sound.{Holding, Sound, livePage, triesCells, Rooted}
+use Rattle.store.specs.Sound.{Sound, livePage, triesCells, Rooted}
 use Rattle.add_page.specs.declared.insert.Inserted.the-variants.{Free}
 use Rattle.add_page.specs.Blocks.{blockOf}
 use Rattle.add_page.specs.Insert.{Filled, filled, onInsert, insertBlock, insertFrom, insertAll}
 use Rattle.add_page.proofs.Tables.{in-tables}
 use Rattle.add_page.proofs.Enough.{Roomy, Needs}
 use Rattle.add_page.proofs.Kept.{block-length}
-use Rattle.add_page.proofs.Grows.{Inserts, GrownFrom, insert-from, spareCells}
+use Rattle.add_page.proofs.Grows.{Inserts, GrownFrom, insert-from}
 use Rattle.add_page.proofs.Spares.{heldBy, spare-heap}
 use Rattle.add_page.proofs.KeepsAsked.{Accepted}
 use Rattle.add_page.proofs.KeepsBytes.{Reads, read-blocks, forest-read, row-reads}

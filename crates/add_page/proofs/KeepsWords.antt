@@ -3,14 +3,13 @@ use Prim.Native.Nat.{ℕ, zero, suc, _+_, _*_, _≤_, _<_}
 use native.Mathlib.Decide.{decLt, ℕ-discrete}
 use native.Mathlib.Omega.{arith}
 use mathlib.Core.Path.{_≡_, refl, sym, ap, _∙_}
-use mathlib.Core.Bool.{Bool}
-use mathlib.Core.Logic.{_≢_, by-cases}
+use mathlib.Core.Logic.{by-cases}
 use mathlib.Core.List.{List, [], _∷_}
 use lib.ListN.{length, getD}
 use Rattle.layout.specs.Pages.{nextAt, withPage}
 use Rattle.layout.proofs.Words.{behind-written, link-behind}
-use Rattle.trie.specs.Heap.{Cells, Heap, Holds, hit, nodeClaims, pageClaims, nil, node, page, _⊕_}
-use Rattle.trie.specs.Phys.{Phys, cells, freeCells}
+use Rattle.trie.specs.Heap.{Cells, Heap, Holds, nodeClaims, pageClaims, nil, node, page, _⊕_}
+use Rattle.trie.specs.Phys.{Phys, freeCells}
 use Rattle.trie.proofs.Frame.{hit-other, hit-same}
 use Rattle.store.specs.Sound.{triesCells, Rooted}
 use Rattle.add_page.proofs.Claims.{trie-none}
