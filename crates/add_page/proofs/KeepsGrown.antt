@@ -1,7 +1,7 @@
 -- On a sound store an add that no question refuses puts its page into the trie of every block; the live words and classes stay.
-use Prim.Native.Nat.{ℕ, zero, suc, _+_, _*_, _≤_, _<_}
+use Prim.Native.Nat.{ℕ, _+_, _*_, _≤_, _<_}
 use native.Mathlib.Omega.{arith}
-use mathlib.Core.Path.{_≡_, refl, sym, ap, _∙_, subst}
+use mathlib.Core.Path.{_≡_, refl, sym, ap, _∙_}
 use mathlib.Core.List.{List, map}
 use lib.ListN.{length, getD}
 use Rattle.meaning.specs.Trie.{Tree}
@@ -12,9 +12,6 @@ use Rattle.layout.specs.Lengths.{nodesLength, sketchesLength}
 use Rattle.layout.specs.Header.{headerOf, bare}
 use Rattle.layout.specs.Pages.{withRow, withPage}
 use Rattle.layout.proofs.Rows.{row-inside, length-with-row}
-use Rattle.layout.proofs.Words.{class-inside}
-use Rattle.trie.specs.declared.Got.the-variants.{Node, Full, Bad}
-use Rattle.trie.specs.Model.{After, after}
 use Rattle.trie.specs.Heap.{Heap, _⊕_}
 use Rattle.trie.specs.Tables.{RowTable}
 use Rattle.trie.specs.Phys.{Phys, tree, first, freeCells, Below}
@@ -29,37 +26,14 @@ use Rattle.promises.specs.Tables.{Tables, given, rowsOf}
 use Rattle.store.specs.Sound.{Sound, livePage, triesCells, Rooted}
 use Rattle.add_page.specs.declared.insert.Inserted.the-variants.{Free}
 use Rattle.add_page.specs.Blocks.{blockOf}
-use Rattle.add_page.specs.Insert.{Filled, filled, onInsert, insertBlock, insertFrom, insertAll}
+use Rattle.add_page.specs.Insert.{filled, insertFrom, insertAll}
 use Rattle.add_page.proofs.Tables.{in-tables}
 use Rattle.add_page.proofs.Enough.{Roomy, Needs}
-use Rattle.add_page.proofs.Kept.{block-length}
 use Rattle.add_page.proofs.Grows.{Inserts, GrownFrom, insert-from}
 use Rattle.add_page.proofs.Spares.{heldBy, spare-heap}
 use Rattle.add_page.proofs.KeepsAsked.{Accepted}
 use Rattle.add_page.proofs.KeepsBytes.{Reads, read-blocks, forest-read, row-reads}
 use Rattle.add_page.proofs.KeepsWords.{wordCells, words-kept, words-heap, written-heap}
-
--- tables of the same lengths
-abbrev pub Lengths : List ℕ → List ℕ → Filled → Type 0
-Lengths N P (filled N' P' r) = (length N' ≡ length N) × (length P' ≡ length P)
-
-onward : (N P N' P' : List ℕ) → length N' ≡ length N → length P' ≡ length P → (r : Filled) → Lengths N' P' r → Lengths N P r
-onward N P N' P' e f (filled N'' P'' r) h = (h .0 ∙ e, h .1 ∙ f)
-
-module _ (s : Settings) (S x : List ℕ) (p : ℕ) where
-  pub from-lengths : (k j : ℕ) (N P : List ℕ) (free : ℕ) → Lengths N P (insertFrom s S x p k j N P free)
-  unfolding insertFrom
-  from-lengths zero j N P free = (refl, refl)
-  from-lengths (suc k) j N P free = go (insertBlock s S x p j N P free) refl (λ N' P' free'. from-lengths k (suc j) N' P' free')
-    where
-      go : (a : After) → insertBlock s S x p j N P free ≡ a →
-          ((N' P' : List ℕ) (free' : ℕ) → Lengths N' P' (insertFrom s S x p k (suc j) N' P' free')) →
-          Lengths N P (onInsert (λ N' P' free'. insertFrom s S x p k (suc j) N' P' free') a)
-      go (after N' P' (Node n free')) e ih =
-          let l = block-length s S x p j N P free N' P' (Node n free') e in
-          onward N P N' P' (l .0) (l .1) (insertFrom s S x p k (suc j) N' P' free') (ih N' P' free')
-      go (after N' P' Full) e ih = block-length s S x p j N P free N' P' Full e
-      go (after N' P' Bad) e ih = block-length s S x p j N P free N' P' Bad e
 
 -- the sketch table afterwards
 abbrev pub sketchesAfter : Tables → ℕ → List ℕ → List ℕ
@@ -143,8 +117,7 @@ module _ (T : Tables) (F : List Tree) (sound : Sound T F) (p c : ℕ) (x : List 
   unfolding insertAll
   placed =
       let E = grown in
-      let lengths = subst (Lengths (T .nodes) (T .pages)) (E .is) (from-lengths s S′ x p (length (sound .tries)) 0 (T .nodes) (T .pages) (getD (T .settings) freeAt 0)) in
-      let long : s .pages + p < length (E .pagesTo) = omega (arith, lengths .1, a .lent .pages-long, class-inside (bare (headerOf s)) {p = p} (a .page)) in
+      let long : s .pages + p < length (E .pagesTo) = omega (arith, E .tables .pages 0 (a .lent .limits .blocks-least) .long, a .page) in
       record {
         nodesTo = E .nodesTo;
         pagesTo = E .pagesTo;
