@@ -1,13 +1,13 @@
 -- What an add that no question refuses tells: of the opening, the tables, the page and the sketch.
 use Prim.Native.Nat.{ℕ, _≤_, _<_}
 use native.Mathlib.Omega.{arith}
-use mathlib.Core.Path.{_≡_, refl}
-use mathlib.Core.Bool.{Bool, true, false, cond, _&&_, not, and-false}
-use mathlib.Core.List.{List}
-use borrow.Author.Tests.{ltb-true, leb-true, eqb-true}
+use mathlib.Core.Path.{_≡_}
+use mathlib.Core.Bool.{Bool, true, false, _&&_, not, and-false}
+use mathlib.Core.List.{List, [], _∷_}
+use borrow.Author.Tests.{ltb-true, leb-true, eqb-true, not-true}
 use lib.Dec.{ltb, leb, eqb}
 use lib.ListN.{length, getD}
-use Rattle.meaning.specs.Refusal.{firstNo}
+use Rattle.meaning.specs.Refusal.{Question, ask}
 use Rattle.meaning.specs.Sketch.{inRange}
 use Rattle.meaning.specs.Trie.{Tree}
 use Rattle.meaning.specs.Ledger.{add}
@@ -23,21 +23,8 @@ use Rattle.layout.proofs.Limits.{bounds}
 use Rattle.promises.specs.Tables.{Tables, given, rowsOf, byTables}
 use Rattle.promises.specs.Answers.{number, entered, shown56, longSettings, longFor, longNodes, longPages}
 use Rattle.store.specs.Sound.{livePage}
+use Rattle.index.proofs.Questions.{all-yes}
 use Rattle.add_page.specs.Lent.{Lent}
-
--- every question is passed; the ninth asks whether the page is live
-passed : (t5 t6 t7 t8 t9 t10 t11 t12 : Bool)
-    → _≡_ {A = ℕ} (cond t5 (cond t6 (cond t7 (cond t8 (cond (not t9) (cond t10 (cond t11 (cond t12 0 12) 11) 10) 9) 8) 7) 6) 5) 0
-    → (t5 ≡ true) × (t6 ≡ true) × (t7 ≡ true) × (t8 ≡ true) × (t9 ≡ false) × (t10 ≡ true) × (t11 ≡ true) × (t12 ≡ true)
-passed false t6 t7 t8 t9 t10 t11 t12 e = absurd (omega (arith, e))
-passed true false t7 t8 t9 t10 t11 t12 e = absurd (omega (arith, e))
-passed true true false t8 t9 t10 t11 t12 e = absurd (omega (arith, e))
-passed true true true false t9 t10 t11 t12 e = absurd (omega (arith, e))
-passed true true true true true t10 t11 t12 e = absurd (omega (arith, e))
-passed true true true true false false t11 t12 e = absurd (omega (arith, e))
-passed true true true true false true false t12 e = absurd (omega (arith, e))
-passed true true true true false true true false e = absurd (omega (arith, e))
-passed true true true true false true true true e = (refl, refl, refl, refl, refl, refl, refl, refl)
 
 pub record Accepted (T : Tables) (F : List Tree) (p c : ℕ) (x : List ℕ) : Type 0 where
   pub settings-long : settingsLength ≤ length (T .settings)
@@ -65,19 +52,31 @@ module _ (T : Tables) (F : List Tree) (p c : ℕ) (x : List ℕ) where
         sketches-long = leb-true (sketchesLength (given T)) (length (T .sketches)) (search (and-left, and-right));
       }
 
+  -- 5 to 12
+  abbrev questions : List Question
+  questions =
+      ask 5 (leb settingsLength (length (T .settings)))
+      ∷ ask 6 (showsOpening (T .settings) && long)
+      ∷ ask 7 (ltb c 64)
+      ∷ ask 8 (ltb p (given T .pages))
+      ∷ ask 9 (not (isLive (T .pages) p))
+      ∷ ask 10 (eqb (length x) (given T .symbols))
+      ∷ ask 11 (inRange (given T .bits) x)
+      ∷ ask 12 (leb (totalNodes (forestAfter (given T) (rowsOf T) (add p c x) F)) (given T .nodes))
+      ∷ []
+
   pub accepted : number T F (add p c x) ≡ 0 → Accepted T F p c x
-  unfolding number entered shown56 longSettings longFor longNodes longPages asked byTables firstNo livePage
+  unfolding number entered shown56 longSettings longFor longNodes longPages asked byTables livePage
   accepted e =
-      let a = passed (leb settingsLength (length (T .settings))) (showsOpening (T .settings) && long) (ltb c 64) (ltb p (given T .pages))
-      (isLive (T .pages) p) (eqb (length x) (given T .symbols)) (inRange (given T .bits) x)
-      (leb (totalNodes (forestAfter (given T) (rowsOf T) (add p c x) F)) (given T .nodes)) e in
+      let a = all-yes questions (omega arith) e in
+      let opened : showsOpening (T .settings) && long ≡ true = search in
       record {
-        settings-long = leb-true settingsLength (length (T .settings)) (a .0);
-        lent = lent-by (and-left (showsOpening (T .settings)) long (a .1)) (and-right (showsOpening (T .settings)) long (a .1));
-        class = ltb-true c 64 (a .2);
-        page = ltb-true p (given T .pages) (a .3);
-        dead = rw (a .4) (and-false (ltb p (given T .pages)));
-        count = eqb-true (length x) (given T .symbols) (a .5);
-        range = a .6;
-        room = leb-true (totalNodes (forestAfter (given T) (rowsOf T) (add p c x) F)) (given T .nodes) (a .7);
+        settings-long = leb-true settingsLength (length (T .settings)) search;
+        lent = lent-by (and-left (showsOpening (T .settings)) long opened) (and-right (showsOpening (T .settings)) long opened);
+        class = ltb-true c 64 search;
+        page = ltb-true p (given T .pages) search;
+        dead = rw (not-true (isLive (T .pages) p) search) (and-false (ltb p (given T .pages)));
+        count = eqb-true (length x) (given T .symbols) search;
+        range = search;
+        room = leb-true (totalNodes (forestAfter (given T) (rowsOf T) (add p c x) F)) (given T .nodes) search;
       }
