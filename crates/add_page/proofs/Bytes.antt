@@ -19,7 +19,7 @@ module _ (s : Settings) (j : ℕ) (h : j < s .blocks) where
       omega (arith, packed-most (s .bits) (blockLength (s .symbols) (s .blocks) j), block-ends (s .symbols) (s .blocks) j h)
 
   module _ (x : List ℕ) (long : length x ≡ s .symbols) where
-    block-length : length (block (s .symbols) (s .blocks) j x) ≡ blockLength (s .symbols) (s .blocks) j
+    pub block-length : length (block (s .symbols) (s .blocks) j x) ≡ blockLength (s .symbols) (s .blocks) j
     unfolding block
     block-length = simp (length-take, length-drop) (omega (arith, block-ends (s .symbols) (s .blocks) j h))
 

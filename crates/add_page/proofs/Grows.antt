@@ -85,6 +85,7 @@ pub record GrownFrom (s : Settings) (j total : ℕ) (want : List Tree) (G : Cell
   pub below : Below (s .nodes) freesTo
   pub grown : map tree to ≡ want
   pub count : totalNodes (map tree to) + length freesTo ≡ total
+  pub tables : Roomy s nodesTo pagesTo
 
 module _ (s : Settings) (S x : List ℕ) (count : length x ≡ s .symbols) (range : inRange (s .bits) x ≡ true) (p : ℕ) (lp : p < s .pages) (live : ℕ → Bool)
     (mine : (j : ℕ) → j < s .blocks → rowBytes s j S p ≡ bytesOfSketch s j x)
@@ -130,6 +131,7 @@ module _ (s : Settings) (S x : List ℕ) (count : length x ≡ s .symbols) (rang
         below = b;
         grown = refl;
         count = refl;
+        tables = roomy;
       }
   insert-from (t ∷ ts) j {N} {P} roomy {free} fs e b G l h r k m =
       let T : Cells = triesCells (s .nodes) (s .pages) (suc j) ts in
@@ -163,4 +165,5 @@ module _ (s : Settings) (S x : List ℕ) (count : length x ≡ s .symbols) (rang
         below = E .below;
         grown = λ i. A .grown i ∷ E .grown i;
         count = omega (arith, A .count, E .count);
+        tables = E .tables;
       }

@@ -12,3 +12,8 @@ pub mod Kept
 pub mod Grows
 pub mod Claims
 pub mod Spares
+pub mod KeepsAsked
+pub mod KeepsBytes
+pub mod KeepsWords
+pub mod KeepsGrown
+pub mod KeepsAdd
