@@ -1,4 +1,5 @@
 pub mod Admits
+pub mod KeepsAsked
 pub mod Passed
 pub mod Puts
 pub mod Bytes
@@ -12,8 +13,8 @@ pub mod Kept
 pub mod Grows
 pub mod Claims
 pub mod Spares
-pub mod KeepsAsked
 pub mod KeepsBytes
 pub mod KeepsWords
 pub mod KeepsGrown
 pub mod KeepsAdd
+pub mod Adds

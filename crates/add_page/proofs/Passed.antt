@@ -21,15 +21,15 @@ use Rattle.layout.specs.Settings.{settingsLength, showsOpening}
 use Rattle.layout.specs.Header.{headerOf, withThresholds, bare, pick}
 use Rattle.layout.specs.Lengths.{nodesLength, pagesLength, sketchesLength}
 use Rattle.layout.specs.Pages.{isLive, withRow}
-use Rattle.layout.proofs.Openings.{shown, shows}
 use Rattle.layout.proofs.Rows.{row-inside, length-with-row}
-use Rattle.layout.proofs.Tests.{and-left, and-right}
 use Rattle.layout.proofs.Words.{class-inside}
 use Rattle.promises.specs.Tables.{Tables, given, byTables, rowsOf}
 use Rattle.promises.specs.Answers.{number, entered, shown56, longSettings, longFor, longNodes, longPages}
-use Rattle.index.proofs.Questions.{all-yes, last-asked}
+use Rattle.store.specs.Sound.{livePage}
+use Rattle.index.proofs.Questions.{last-asked}
 use Rattle.add_page.specs.Admission.{admission}
 use Rattle.add_page.specs.Lent.{Fits, Lent}
+use Rattle.add_page.proofs.KeepsAsked.{Accepted, accepted}
 
 -- no question of 5 to 11 says no
 pub record Passed (T : Tables) (h : Header) (p c : ℕ) (x : List ℕ) : Type 0 where
@@ -38,8 +38,7 @@ pub record Passed (T : Tables) (h : Header) (p c : ℕ) (x : List ℕ) : Type 0 
   pub lent : Lent h (given T .thresholds) (T .nodes) (T .pages) (T .sketches)
   pub fits : Fits h x
   pub page : p < h .pages
-  pub class : c < 64
-  pub dead : isLive (T .pages) p ≡ false
+  pub dead : livePage T p ≡ false
 
 module _ (T : Tables) (p c : ℕ) (x : List ℕ) where
   -- 5 to 11, then 12
@@ -70,30 +69,15 @@ module _ (T : Tables) (p c : ℕ) (x : List ℕ) where
   passes h = Passed T h p c x
 
   pub passed : (F : List Tree) → number T F (add p c x) ≡ 0 → passes (headerOf (given T))
-  unfolding longNodes longPages nodesLength pagesLength sketchesLength
   passed F z =
-      let yes = all-yes (ahead (ask 12 (room12 F) ∷ [])) (omega arith) (sym (number-by F) ∙ z) in
-      let N : Bool = leb (nodesLength (given T)) (length (T .nodes)) in
-      let P : Bool = leb (pagesLength (given T)) (length (T .pages)) in
-      let S : Bool = leb (sketchesLength (given T)) (length (T .sketches)) in
-      let tables : N && (P && S) ≡ true = and-right (showsOpening (T .settings)) (N && (P && S)) (yes .1 .0) in
-      let behind : P && S ≡ true = and-right N (P && S) tables in
-      let long : settingsLength ≤ length (T .settings) = leb-true settingsLength (length (T .settings)) (yes .0) in
-      let told = shown (T .settings) (headerOf (given T)) (shows (T .settings) long (and-left (showsOpening (T .settings)) (N && (P && S)) (yes .1 .0))) in
+      let a = accepted T F p c x z in
       record {
         header = refl;
-        long = long;
-        lent = record {
-          limits = told .limits;
-          levels = told .bounds .count;
-          nodes-long = leb-true (nodesLength (given T)) (length (T .nodes)) (and-left N (P && S) tables);
-          pages-long = leb-true (pagesLength (given T)) (length (T .pages)) (and-left P S behind);
-          sketches-long = leb-true (sketchesLength (given T)) (length (T .sketches)) (and-right P S behind);
-        };
-        fits = record { count = eqb-true (length x) (given T .symbols) (yes .1 .1 .1 .1 .1 .0); range = yes .1 .1 .1 .1 .1 .1 .0 };
-        page = ltb-true p (given T .pages) (yes .1 .1 .1 .0);
-        class = ltb-true c 64 (yes .1 .1 .0);
-        dead = not-true (isLive (T .pages) p) (yes .1 .1 .1 .1 .0);
+        long = a .settings-long;
+        lent = a .lent;
+        fits = record { count = a .count; range = a .range };
+        page = a .page;
+        dead = a .dead;
       }
 
   -- what `admit` tells

@@ -4,8 +4,9 @@ ghost use mathlib.Core.List.{[]};
 ghost use Rattle.meaning.specs.Ledger.{add};
 ghost use Rattle.layout.specs.declared.Opening.the-variants.{Shown};
 ghost use Rattle.promises.specs.Tables.{tables};
+ghost use Rattle.store.specs.Calls.{AddPromise};
 ghost use Rattle.add_page.specs.Admission.{admission};
-ghost use Rattle.add_page.specs.Add.{added, putPage, placePage, addPage};
+ghost use Rattle.add_page.specs.Add.{added, putPage, placePage};
 use crate::insert::Inserted;
 use crate::insert::insert_all;
 use crate::questions::admit;
@@ -66,6 +67,7 @@ fn place_page(
     }
 }
 
+// The number of the first question that says no, or 0 where the page was added.
 pub fn add(
     settings: &mut [u32],
     nodes: &mut [u32],
@@ -75,7 +77,7 @@ pub fn add(
     class: u32,
     sketch: &[u8],
 ) -> u32
-    ensures { λ r. ⌜ added r (tables (now (settings .exit)) (now (nodes .exit)) (now (pages .exit)) (now (sketches .exit)) []) ≡ addPage (tables (now (settings .entry)) (now (nodes .entry)) (now (pages .entry)) (now (sketches .entry)) []) page «class» (now (sketch .entry)) ⌝ }
+    ensures { λ r. ⌜ AddPromise (tables (now (settings .entry)) (now (nodes .entry)) (now (pages .entry)) (now (sketches .entry)) []) page «class» (now (sketch .entry)) r (tables (now (settings .exit)) (now (nodes .exit)) (now (pages .exit)) (now (sketches .exit)) []) ⌝ }
 {
     let h = match admit(settings, nodes, pages, sketches, page, class, sketch) {
         Opening::Refused(number) => return number,

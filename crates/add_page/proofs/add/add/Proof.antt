@@ -1,9 +1,10 @@
--- `add` is `addPage`.
+-- `add` keeps its promise.
 use mathlib.Core.Path.{_≡_, sym, _∙_}
 use mathlib.Core.List.{[]}
 use borrow.Author.Needs.{needs}
 use Rattle.promises.specs.Tables.{Tables, tables}
 use Rattle.add_page.proofs.Puts.{add-refused, add-placed}
+use Rattle.add_page.proofs.Adds.{add-promise}
 use Rattle.add_page.proofs.add.add.Statement.{statement}
 use Rattle.add_page.proofs.add.add.Tie as tie
 
@@ -35,7 +36,8 @@ same-length-4 c = search needs
 returns : tie.Need-returns
 returns c =
     let n = c .before in
-    add-refused (lent (entry (n .before .before))) _ _ _ _ (n .before .before .admit .ensures) _ (n .number .given .1)
+    add-promise _ _ _ _ _ _
+    (add-refused (lent (entry (n .before .before))) _ _ _ _ (n .before .before .admit .ensures) _ (n .number .given .1))
 
 enum-known-h : tie.Need-enum-known-h
 enum-known-h c = search needs
@@ -60,7 +62,8 @@ same-length-8 c = search needs
 returns-2 : tie.Need-returns-2
 returns-2 c =
     let h = c .before .before .before .before .before .before .before .before .before .before .before .before .before .before in
-    c .before .before .before .before .before .before .before .before .place-page .ensures ∙ add-placed (lent (entry (h .before .before))) _ _ _ _ (h .before .before .admit .ensures) _ (h .h .given .1)
+    add-promise _ _ _ _ _ _
+    (c .before .before .before .before .before .before .before .before .place-page .ensures ∙ add-placed (lent (entry (h .before .before))) _ _ _ _ (h .before .before .admit .ensures) _ (h .h .given .1))
 
 pub add-spec : {M : Type 1} → statement M
 add-spec =
