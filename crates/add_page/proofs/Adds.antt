@@ -1,9 +1,9 @@
 -- `addPage` keeps the promise of an add.
-use Prim.Native.Nat.{ℕ, _+_, _*_, _≤_, _<_}
+use Prim.Native.Nat.{ℕ, _+_, _*_, _<_}
 use native.Mathlib.Omega.{arith}
 use mathlib.Core.Path.{_≡_, refl, sym, ap, _∙_, subst}
-use mathlib.Core.Bool.{Bool, true, false, cond, _&&_}
-use mathlib.Core.Logic.{_≢_, _⊎_, inl, inr}
+use mathlib.Core.Bool.{Bool, true, false, cond}
+use mathlib.Core.Logic.{_≢_, inl, inr}
 use mathlib.Core.List.{List, []}
 use lib.ListN.{getD, set, take}
 use lib.Seq.{take-set-lt}
@@ -32,11 +32,12 @@ use Rattle.add_page.specs.Admission.{admission}
 use Rattle.add_page.specs.Room.{roomOf}
 use Rattle.add_page.specs.Insert.{Filled, filled, insertAll}
 use Rattle.add_page.specs.Add.{Added, added, rowAdded, onFilled, putPage, onRoom, placePage, onOpening, addPage}
-use Rattle.add_page.proofs.Passed.{Passed, room12, passed, admit-shown, admit-refused, asked-12, asked-ahead, row-fits, lent-row}
+use Rattle.add_page.proofs.Passed.{Passed, passed, told-shown, told-refused, asked-12, asked-ahead, row-fits, lent-row}
 use Rattle.add_page.proofs.Tables.{in-tables}
 use Rattle.add_page.proofs.Enough.{Roomy, octets}
 use Rattle.add_page.proofs.Kept.{Within, within-none, within-both, within-set, KeptF, all-kept}
 use Rattle.add_page.proofs.Question12.{room-right}
+use Rattle.add_page.proofs.KeepsAsked.{room12}
 use Rattle.add_page.proofs.KeepsAdd.{filled-sound, never-stopped}
 
 -- tables left as they were
@@ -103,7 +104,7 @@ module _ (T : Tables) (p c : ℕ) (x : List ℕ) where
     late = λ z. absurd (h (sym e ∙ z));
   }
 
-  module _ (z : number T [] (add p c x) ≡ 0) (ok : Passed T (headerOf (given T)) p c x) where
+  module _ (z : number T [] (add p c x) ≡ 0) (ok : Passed T (headerOf (given T)) p x) where
     roomy : Roomy (given T) (T .nodes) (T .pages)
     unfolding nodesLength
     roomy = record {
@@ -146,7 +147,7 @@ module _ (T : Tables) (p c : ℕ) (x : List ℕ) where
       unfolding sketchesLength
       rows j l =
           rows-table (given T) j l (given T .pages) (rowAdded T p c x) (omega (arith, ok .lent .limits)) (ok .lent .limits .symbols-most)
-          (lent-row T (headerOf (given T)) p c x ok (rowAdded T p c x) refl .sketches-long)
+          (lent-row T (headerOf (given T)) p x ok (rowAdded T p c x) refl .sketches-long)
 
       kept : KeptF (given T .nodes) (2 * given T .pages) (pagesLength (given T)) (T .nodes) (T .pages) (filled N P i)
       kept =
@@ -161,7 +162,7 @@ module _ (T : Tables) (p c : ℕ) (x : List ℕ) where
         settings = w .same;
         nodes = kept .0 .same;
         pages = q .same;
-        sketches = length-with-row (given T .symbols) (T .sketches) p (row-fits T (headerOf (given T)) p c x ok) x (ok .fits .count);
+        sketches = length-with-row (given T .symbols) (T .sketches) p (row-fits T (headerOf (given T)) p x ok) x (ok .fits .count);
         working = refl;
         header = w .front;
         settings-rest = w .back;
@@ -220,8 +221,8 @@ module _ (T : Tables) (p c : ℕ) (x : List ℕ) where
   add-keeps = go (admission T (add p c x)) refl
     where
       go : (o : Opening) → admission T (add p c x) ≡ o → Keeps (onOpening T p c x o)
-      go (Shown h) e = place-keeps (admit-shown T p c x h e .0)
-      go (Refused n) e = let r = admit-refused T p c x n e in promise-early n (r .0) (r .1)
+      go (Shown h) e = place-keeps (told-shown T p c x h e .0)
+      go (Refused n) e = let r = told-refused T p c x n e in promise-early n (r .0) (r .1)
 
   pub add-promise : (n : ℕ) (T' : Tables) → added n T' ≡ addPage T p c x → AddPromise T p c x n T'
   add-promise n T' e = subst Keeps (sym e) add-keeps

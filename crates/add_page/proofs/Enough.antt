@@ -1,7 +1,7 @@
 -- On tables that hold a trie for each block, the nodes that an add needs are those of the insertions.
 use Prim.Native.Nat.{ℕ, suc, _+_, _≤_, _<_}
 use native.Mathlib.Omega.{arith}
-use mathlib.Core.Path.{_≡_, refl, sym, ap, _∙_}
+use mathlib.Core.Path.{_≡_, sym, ap, _∙_}
 use mathlib.Core.Bool.{Bool, true}
 use mathlib.Core.List.{List, [], _∷_, map}
 use lib.ListN.{length, getD}
@@ -17,7 +17,6 @@ use Rattle.trie.specs.Tables.{NodeTable, PageTable}
 use Rattle.trie.specs.Phys.{Phys, root, tree, first, cells, freeCells, Below, State}
 use Rattle.trie.specs.Phys.{Sound as SoundNodes}
 use Rattle.trie.proofs.Frame.{Less, less}
-use Rattle.trie_laws.specs.Sound.{Agree}
 use Rattle.trie_laws.specs.Block.{SoundBlock, EachFrom}
 use Rattle.trie_laws.specs.Needed.{needed, sumFrom}
 use Rattle.trie_laws.proofs.Pages.{stands-any}

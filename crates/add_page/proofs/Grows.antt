@@ -1,21 +1,20 @@
 -- On tables that hold a trie for each block, `insertFrom` inserts the page into each, if there are free nodes enough.
 use Prim.Native.Nat.{ℕ, suc, _+_, _*_, _≤_, _<_}
 use native.Mathlib.Omega.{arith}
-use mathlib.Core.Path.{_≡_, refl, sym, ap, _∙_, subst}
-use mathlib.Core.Bool.{Bool, true, _&&_}
+use mathlib.Core.Path.{_≡_, refl, ap, _∙_, subst}
+use mathlib.Core.Bool.{Bool, true}
 use mathlib.Core.List.{List, [], _∷_, map}
 use borrow.Author.Tests.{ltb-true}
-use lib.Dec.{ltb, leb, eqb}
-use lib.ListN.{length, getD}
-use Rattle.meaning.specs.Lists.{all, sum}
-use Rattle.meaning.specs.Sketch.{packable, inRange, blockLength}
-use Rattle.meaning.specs.Trie.{Tree, leaf, inner, Children, none, child, byteAt, insert, nodes}
+use lib.Dec.{ltb}
+use lib.ListN.{length}
+use Rattle.meaning.specs.Lists.{sum}
+use Rattle.meaning.specs.Sketch.{inRange, blockLength}
+use Rattle.meaning.specs.Trie.{Tree, leaf, inner, Children, none, child, insert, nodes}
 use Rattle.meaning.specs.Ledger.{Settings}
 use Rattle.meaning.specs.Forest.{blockBytes, bytesOfSketch, eachFrom, totalNodes}
 use Rattle.layout.specs.Lengths.{pagesLength}
 use Rattle.layout.specs.Pages.{nextAt}
 use Rattle.layout.proofs.Tests.{and-left, and-right}
-use Rattle.trie.specs.declared.Got.the-variants.{Node}
 use Rattle.trie.specs.Heap.{Cells, Heap, nil, page, _⊕_}
 use Rattle.trie.specs.Tables.{RowTable}
 use Rattle.trie.specs.Phys.{Phys, root, tree, first, cells, freeCells, Below, State}
@@ -24,9 +23,9 @@ use Rattle.trie.proofs.Abstract.{Shallow, ShallowIn}
 use Rattle.trie.proofs.Spot.{root-below}
 use Rattle.trie.proofs.Grow.{Grown}
 use Rattle.trie.proofs.Insert.{insert-right}
-use Rattle.trie_laws.specs.Sound.{soundTrie, soundFrom, filled, pagesIn}
+use Rattle.trie_laws.specs.Sound.{soundTrie, soundFrom}
 use Rattle.trie_laws.specs.Block.{SoundBlock, EachFrom}
-use Rattle.trie_laws.specs.Needed.{needed, sumFrom}
+use Rattle.trie_laws.specs.Needed.{sumFrom}
 use Rattle.trie_laws.proofs.Nodes.{insert-nodes}
 use Rattle.trie_room.specs.RowBytes.{rowBytes, rowsOf}
 use Rattle.trie_room.proofs.RowBytes.{level-byte}

@@ -13,7 +13,7 @@ use Rattle.trie.specs.declared.Block.{Block}
 use Rattle.trie.specs.declared.Rows.{Rows}
 use Rattle.trie.specs.declared.Got.{Got}
 use Rattle.trie.specs.declared.Got.the-variants.{Node, Full, Bad}
-use Rattle.trie.specs.Model.{After, after, insertPage}
+use Rattle.trie.specs.Model.{after, insertPage}
 use Rattle.trie_room.specs.RowBytes.{rowsOf}
 use Rattle.add_page.specs.declared.insert.Inserted.the-variants.{Free, Stopped}
 use Rattle.add_page.specs.Blocks.{blockOf}

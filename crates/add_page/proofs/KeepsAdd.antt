@@ -151,7 +151,7 @@ module _ (T : Tables) (F : List Tree) (sound : Sound T F) (p c : ℕ) (x : List 
 
 pub insert-sound : (T : Tables) (F : List Tree) (p c : ℕ) (x : List ℕ) → Sound T F → number T F (add p c x) ≡ 0 → InsertedSound T F p c x
 insert-sound T F p c x sound e =
-    let a = accepted T F p c x e in
+    let a = accepted T p c x F e in
     let G = placed T F sound p c x a in
     record { nodes = G .nodesTo; pages = G .pagesTo; link = G .link; is = G .is; sound = sound-after T F sound p c x a G }
 

@@ -2,7 +2,7 @@
 use Prim.Native.Nat.{ℕ, zero, suc, _+_, _*_, _-_, _/_, _≤_, _<_}
 use native.Mathlib.Omega.{arith}
 use native.Mathlib.Nat.{suc-mul, mul-le-mul-right}
-use mathlib.Core.Path.{_≡_, refl, _∙_, subst}
+use mathlib.Core.Path.{_≡_, refl, _∙_}
 use mathlib.Core.Bool.{Bool, true, false, cond}
 use mathlib.Core.List.{List}
 use borrow.Author.Tests.{eqb-false, ltb-false}
@@ -15,7 +15,6 @@ use Rattle.meaning.specs.Forest.{bytesOfSketch}
 use Rattle.layout.specs.Lengths.{pagesLength}
 use Rattle.layout.specs.Pages.{nextAt}
 use Rattle.layout.specs.Nodes.{stateAt, headAt}
-use Rattle.trie.specs.declared.Got.{Got}
 use Rattle.trie.specs.declared.Got.the-variants.{Node, Full, Bad}
 use Rattle.trie.specs.declared.Level.{Level}
 use Rattle.trie.specs.declared.Place.{Place}
@@ -30,7 +29,6 @@ use Rattle.trie.specs.Model.{Inside, Made, made, Pushed, pushed, After, after, 
 use Rattle.trie.specs.Tables.{RowTable}
 use Rattle.trie.proofs.Bytes.{level-table, byte-small}
 use Rattle.trie_room.specs.RowBytes.{rowsOf}
-use Rattle.add_page.specs.declared.insert.Inserted.{Inserted}
 use Rattle.add_page.specs.Insert.{Filled, filled, onInsert, insertBlock, insertFrom, insertAll}
 
 -- a table after a change inside lo .. hi

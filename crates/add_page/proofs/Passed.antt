@@ -2,37 +2,36 @@
 use Prim.Native.Nat.{ℕ, _+_, _*_, _≤_, _<_}
 use native.Mathlib.Omega.{arith}
 use mathlib.Core.Path.{_≡_, refl, sym, ap, _∙_}
-use mathlib.Core.Bool.{Bool, true, false, cond, _&&_, not}
+use mathlib.Core.Bool.{Bool, true, false, cond}
 use mathlib.Core.Logic.{_≢_}
 use mathlib.Core.List.{List, [], _∷_}
-use borrow.Author.Tests.{ltb-true, leb-true, le-leb, eqb-true, eqb-false, eq-eqb, ne-eqb, not-true}
-use lib.Dec.{ltb, leb, eqb}
+use borrow.Author.Tests.{le-leb, eqb-true, eqb-false, ne-eqb}
+use lib.Dec.{eqb}
 use lib.ListN.{length}
 use Rattle.meaning.specs.Lists.{sum}
-use Rattle.meaning.specs.Refusal.{Question, ask, firstNo}
-use Rattle.meaning.specs.Sketch.{inRange}
+use Rattle.meaning.specs.Refusal.{ask, firstNo}
 use Rattle.meaning.specs.Trie.{Tree}
 use Rattle.meaning.specs.Ledger.{add}
 use Rattle.meaning.specs.Forest.{eachFrom, forestAfter, totalNodes}
 use Rattle.meaning.specs.Questions.{asked}
 use Rattle.layout.specs.declared.Header.{Header}
 use Rattle.layout.specs.declared.Opening.the-variants.{Shown, Refused}
-use Rattle.layout.specs.Settings.{settingsLength, showsOpening}
+use Rattle.layout.specs.Settings.{settingsLength}
 use Rattle.layout.specs.Header.{headerOf, withThresholds, bare, pick}
-use Rattle.layout.specs.Lengths.{nodesLength, pagesLength, sketchesLength}
-use Rattle.layout.specs.Pages.{isLive, withRow}
+use Rattle.layout.specs.Lengths.{sketchesLength}
+use Rattle.layout.specs.Pages.{withRow}
 use Rattle.layout.proofs.Rows.{row-inside, length-with-row}
 use Rattle.layout.proofs.Words.{class-inside}
-use Rattle.promises.specs.Tables.{Tables, given, byTables, rowsOf}
-use Rattle.promises.specs.Answers.{number, entered, shown56, longSettings, longFor, longNodes, longPages}
+use Rattle.promises.specs.Tables.{Tables, given}
+use Rattle.promises.specs.Answers.{number}
 use Rattle.store.specs.Sound.{livePage}
 use Rattle.index.proofs.Questions.{last-asked}
 use Rattle.add_page.specs.Admission.{admission}
 use Rattle.add_page.specs.Lent.{Fits, Lent}
-use Rattle.add_page.proofs.KeepsAsked.{Accepted, accepted}
+use Rattle.add_page.proofs.KeepsAsked.{accepted, ahead, room12, number-by}
 
 -- no question of 5 to 11 says no
-pub record Passed (T : Tables) (h : Header) (p c : ℕ) (x : List ℕ) : Type 0 where
+pub record Passed (T : Tables) (h : Header) (p : ℕ) (x : List ℕ) : Type 0 where
   pub header : headerOf (given T) ≡ h
   pub long : settingsLength ≤ length (T .settings)
   pub lent : Lent h (given T .thresholds) (T .nodes) (T .pages) (T .sketches)
@@ -41,36 +40,17 @@ pub record Passed (T : Tables) (h : Header) (p c : ℕ) (x : List ℕ) : Type 0 
   pub dead : livePage T p ≡ false
 
 module _ (T : Tables) (p c : ℕ) (x : List ℕ) where
-  -- 5 to 11, then 12
-  abbrev ahead : List Question → List Question
-  ahead qs =
-      ask 5 (leb settingsLength (length (T .settings)))
-      ∷ ask 6 (showsOpening (T .settings) && (longNodes (given T) T && longPages (given T) T))
-      ∷ ask 7 (ltb c 64)
-      ∷ ask 8 (ltb p (given T .pages))
-      ∷ ask 9 (not (isLive (T .pages) p))
-      ∷ ask 10 (eqb (length x) (given T .symbols))
-      ∷ ask 11 (inRange (given T .bits) x)
-      ∷ qs
-
-  abbrev pub room12 : List Tree → Bool
-  room12 F = leb (totalNodes (forestAfter (given T) (rowsOf T) (add p c x) F)) (given T .nodes)
-
-  number-by : (F : List Tree) → number T F (add p c x) ≡ firstNo (ahead (ask 12 (room12 F) ∷ []))
-  unfolding number entered shown56 longSettings longFor asked byTables
-  number-by F = refl
-
   -- with no tries, 12 is passed
-  room-none : room12 [] ≡ true
+  room-none : room12 T p c x [] ≡ true
   unfolding forestAfter eachFrom totalNodes sum
   room-none = le-leb 0 (given T .nodes) (omega arith)
 
   abbrev passes : Header → Type 0
-  passes h = Passed T h p c x
+  passes h = Passed T h p x
 
   pub passed : (F : List Tree) → number T F (add p c x) ≡ 0 → passes (headerOf (given T))
   passed F z =
-      let a = accepted T F p c x z in
+      let a = accepted T p c x F z in
       record {
         header = refl;
         long = a .settings-long;
@@ -81,9 +61,9 @@ module _ (T : Tables) (p c : ℕ) (x : List ℕ) where
       }
 
   -- what `admit` tells
-  pub admit-shown : (h : Header) → admission T (add p c x) ≡ Shown h → (number T [] (add p c x) ≡ 0) × passes h
+  pub told-shown : (h : Header) → admission T (add p c x) ≡ Shown h → (number T [] (add p c x) ≡ 0) × passes h
   unfolding admission
-  admit-shown h e = go (eqb (number T [] (add p c x)) 0) refl e
+  told-shown h e = go (eqb (number T [] (add p c x)) 0) refl e
     where
       go : (t : Bool) → eqb (number T [] (add p c x)) 0 ≡ t → pick t (Shown (headerOf (given T))) (Refused (number T [] (add p c x))) ≡ Shown h →
           (number T [] (add p c x) ≡ 0) × passes h
@@ -93,9 +73,9 @@ module _ (T : Tables) (p c : ℕ) (x : List ℕ) where
           (z, rw same at (passed [] z))
       go false q e = let z : _≡_ {A = ℕ} 0 1 = cc in absurd (omega arith)
 
-  pub admit-refused : (n : ℕ) → admission T (add p c x) ≡ Refused n → (number T [] (add p c x) ≡ n) × (n ≢ 0)
+  pub told-refused : (n : ℕ) → admission T (add p c x) ≡ Refused n → (number T [] (add p c x) ≡ n) × (n ≢ 0)
   unfolding admission
-  admit-refused n e = go (eqb (number T [] (add p c x)) 0) refl e
+  told-refused n e = go (eqb (number T [] (add p c x)) 0) refl e
     where
       go : (t : Bool) → eqb (number T [] (add p c x)) 0 ≡ t → pick t (Shown (headerOf (given T))) (Refused (number T [] (add p c x))) ≡ Refused n →
           (number T [] (add p c x) ≡ n) × (n ≢ 0)
@@ -106,14 +86,14 @@ module _ (T : Tables) (p c : ℕ) (x : List ℕ) where
 
   -- 12 is asked last
   module _ (F : List Tree) where
-    pub asked-last : number T F (add p c x) ≡ cond (eqb (number T [] (add p c x)) 0) (cond (room12 F) 0 12) (number T [] (add p c x))
+    pub asked-last : number T F (add p c x) ≡ cond (eqb (number T [] (add p c x)) 0) (cond (room12 T p c x F) 0 12) (number T [] (add p c x))
     asked-last =
-        let none : number T [] (add p c x) ≡ firstNo (ahead (ask 12 true ∷ [])) = number-by [] ∙ ap (λ (t : Bool). firstNo (ahead (ask 12 t ∷ []))) room-none in
-        number-by F
-        ∙ last-asked (ahead []) (omega arith) 12 (room12 F)
-        ∙ ap (λ (n : ℕ). cond (eqb n 0) (cond (room12 F) 0 12) n) (sym none)
+        let none : number T [] (add p c x) ≡ firstNo (ahead T p c x (ask 12 true ∷ [])) = number-by T p c x [] ∙ ap (λ (t : Bool). firstNo (ahead T p c x (ask 12 t ∷ []))) room-none in
+        number-by T p c x F
+        ∙ last-asked (ahead T p c x []) (omega arith) 12 (room12 T p c x F)
+        ∙ ap (λ (n : ℕ). cond (eqb n 0) (cond (room12 T p c x F) 0 12) n) (sym none)
 
-    pub asked-12 : number T [] (add p c x) ≡ 0 → number T F (add p c x) ≡ cond (room12 F) 0 12
+    pub asked-12 : number T [] (add p c x) ≡ 0 → number T F (add p c x) ≡ cond (room12 T p c x F) 0 12
     asked-12 z = asked-last ∙ rw z refl
 
     pub asked-ahead : number T [] (add p c x) ≢ 0 → number T F (add p c x) ≡ number T [] (add p c x)
@@ -124,20 +104,20 @@ pub same-settings : (T : Tables) (h : Header) (τ : List ℕ) → headerOf (give
 same-settings T h τ e f = rw (← e, f) refl
 
 -- the tables with the page's row
-pub row-fits : (T : Tables) (h : Header) (p c : ℕ) (x : List ℕ) → Passed T h p c x → p * h .m + h .m ≤ length (T .sketches)
+pub row-fits : (T : Tables) (h : Header) (p : ℕ) (x : List ℕ) → Passed T h p x → p * h .m + h .m ≤ length (T .sketches)
 unfolding sketchesLength
-row-fits T h p c x ok = row-inside (h .m) (h .pages) (length (T .sketches)) (ok .page) (ok .lent .sketches-long)
+row-fits T h p x ok = row-inside (h .m) (h .pages) (length (T .sketches)) (ok .page) (ok .lent .sketches-long)
 
-pub lent-row : (T : Tables) (h : Header) (p c : ℕ) (x : List ℕ) → Passed T h p c x → (S : List ℕ) → S ≡ withRow (h .m) (T .sketches) p x →
+pub lent-row : (T : Tables) (h : Header) (p : ℕ) (x : List ℕ) → Passed T h p x → (S : List ℕ) → S ≡ withRow (h .m) (T .sketches) p x →
     Lent h (given T .thresholds) (T .nodes) (T .pages) S
-lent-row T h p c x ok S e = record {
+lent-row T h p x ok S e = record {
   limits = ok .lent .limits;
   levels = ok .lent .levels;
   nodes-long = ok .lent .nodes-long;
   pages-long = ok .lent .pages-long;
-  sketches-long = omega (arith, ok .lent .sketches-long, ap length e, length-with-row (h .m) (T .sketches) p (row-fits T h p c x ok) x (ok .fits .count));
+  sketches-long = omega (arith, ok .lent .sketches-long, ap length e, length-with-row (h .m) (T .sketches) p (row-fits T h p x ok) x (ok .fits .count));
 }
 
 -- the class word lies in the page table, also after the tries have changed
-pub class-fits : (T : Tables) (h : Header) (p c : ℕ) (x : List ℕ) → Passed T h p c x → (P : List ℕ) → length P ≡ length (T .pages) → h .pages + p < length P
-class-fits T h p c x ok P e = omega (arith, class-inside (bare h) (ok .page), ok .lent .pages-long)
+pub class-fits : (T : Tables) (h : Header) (p : ℕ) (x : List ℕ) → Passed T h p x → (P : List ℕ) → length P ≡ length (T .pages) → h .pages + p < length P
+class-fits T h p x ok P e = omega (arith, class-inside (bare h) (ok .page), ok .lent .pages-long)

@@ -1,6 +1,6 @@
 -- The steps of an add past 11, as the code takes them.
 use Prim.Native.Nat.{ℕ}
-use mathlib.Core.Path.{_≡_, refl, sym, ap, _∙_}
+use mathlib.Core.Path.{_≡_, sym, ap, _∙_}
 use mathlib.Core.List.{List}
 use lib.ListN.{getD, set}
 use Rattle.meaning.specs.Ledger.{add}
@@ -17,8 +17,8 @@ use Rattle.add_page.specs.declared.insert.Inserted.{Inserted}
 use Rattle.add_page.specs.declared.insert.Inserted.the-variants.{Free, Stopped}
 use Rattle.add_page.specs.Admission.{admission}
 use Rattle.add_page.specs.Room.{roomOf}
-use Rattle.add_page.specs.Insert.{Filled, filled, insertAll}
-use Rattle.add_page.specs.Add.{Added, added, rowAdded, onFilled, putPage, onRoom, placePage, onOpening, addPage}
+use Rattle.add_page.specs.Insert.{filled, insertAll}
+use Rattle.add_page.specs.Add.{added, rowAdded, onFilled, putPage, onRoom, placePage, onOpening, addPage}
 use Rattle.add_page.proofs.Passed.{same-settings}
 
 module _ (T : Tables) (h : Header) (header : headerOf (given T) ≡ h) (p c : ℕ) (x τ : List ℕ) (levels : τ ≡ given T .thresholds)

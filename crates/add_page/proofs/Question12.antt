@@ -1,29 +1,28 @@
 -- On a sound store `roomOf` answers question 12.
-use Prim.Native.Nat.{ℕ, _+_, _≤_, _<_}
+use Prim.Native.Nat.{ℕ, _+_}
 use native.Mathlib.Omega.{arith}
 use mathlib.Core.Path.{_≡_, refl, sym, ap, _∙_}
 use mathlib.Core.Bool.{Bool, true, false, cond}
-use mathlib.Core.List.{List, map}
+use mathlib.Core.List.{List}
 use borrow.Author.Tests.{le-leb, lt-leb, leb-true, leb-false}
 use lib.Dec.{leb}
 use lib.ListN.{length, getD}
 use Rattle.meaning.specs.Sketch.{inRange}
 use Rattle.meaning.specs.Trie.{Tree}
 use Rattle.meaning.specs.Ledger.{add}
-use Rattle.meaning.specs.Forest.{blockBytes, forestAfter, totalNodes}
+use Rattle.meaning.specs.Forest.{forestAfter, totalNodes}
 use Rattle.layout.specs.Settings.{freeAt}
 use Rattle.trie.specs.declared.Span.the-variants.{Enough, Short}
-use Rattle.trie.specs.Heap.{Cells, Heap, nil, _⊕_}
-use Rattle.trie.specs.Phys.{tree, freeCells}
+use Rattle.trie.specs.Heap.{Cells, nil, _⊕_}
 use Rattle.trie.proofs.Frame.{Less, less}
-use Rattle.trie.proofs.Spans.{spanOf, span-right, frees-linked}
+use Rattle.trie.proofs.Spans.{span-right, frees-linked}
 use Rattle.trie_laws.specs.Block.{SoundBlock, EachFrom}
-use Rattle.trie_laws.specs.Needed.{needed, sumFrom}
+use Rattle.trie_laws.specs.Needed.{sumFrom}
 use Rattle.trie_laws.proofs.Forest.{total-add}
 use Rattle.trie_laws.proofs.Block.{agree-forest}
 use Rattle.trie_room.specs.declared.needed.Needed.the-variants.{Nodes}
 use Rattle.promises.specs.Tables.{Tables, given, rowsOf}
-use Rattle.store.specs.Sound.{Holding, Sound, livePage, pageBytes}
+use Rattle.store.specs.Sound.{Sound, livePage, pageBytes}
 use Rattle.add_page.specs.Room.{neededFrom, blockNeeds, allNeeded, roomOf}
 use Rattle.add_page.proofs.Enough.{Roomy, Needs, needed-from}
 use Rattle.add_page.proofs.NewBytes.{newBytes, new-mine, new-live, new-rows}

@@ -4,11 +4,11 @@ use native.Mathlib.Decide.{ℕ-discrete}
 use native.Mathlib.Omega.{arith}
 use mathlib.Core.Path.{_≡_, refl, sym, _∙_}
 use mathlib.Core.Bool.{Bool, false}
-use mathlib.Core.Logic.{_≢_, by-cases, _⊎_, inl, inr, ⊎-elim}
+use mathlib.Core.Logic.{by-cases, _⊎_, inl, inr, ⊎-elim}
 use mathlib.Core.List.{List, [], _∷_, map}
 use lib.ListN.{getD}
 use Rattle.layout.specs.Pages.{nextAt}
-use Rattle.trie.specs.Heap.{Cells, Heap, Holds, hit, nodeClaims, pageClaims, nil, _⊕_}
+use Rattle.trie.specs.Heap.{Heap, Holds, nodeClaims, pageClaims, nil, _⊕_}
 use Rattle.trie.specs.Phys.{Phys, tree, freeCells}
 use Rattle.trie.proofs.Frame.{hit-other, hit-same}
 use Rattle.trie_laws.specs.Sound.{Stands}

@@ -1,5 +1,5 @@
 -- `add` keeps its promise.
-use mathlib.Core.Path.{_≡_, sym, _∙_}
+use mathlib.Core.Path.{sym, _∙_}
 use mathlib.Core.List.{[]}
 use borrow.Author.Needs.{needs}
 use Rattle.promises.specs.Tables.{Tables, tables}

@@ -1,10 +1,9 @@
 -- `place_page` is `placePage`.
-use native.Mathlib.Omega.{arith}
-use mathlib.Core.Path.{_≡_, sym, ap, _∙_}
+use mathlib.Core.Path.{_∙_}
 use mathlib.Core.List.{[]}
 use borrow.Author.Needs.{needs}
 use Rattle.promises.specs.Tables.{Tables, tables}
-use Rattle.add_page.proofs.Passed.{Passed, admit-shown}
+use Rattle.add_page.proofs.Passed.{Passed, told-shown}
 use Rattle.add_page.proofs.Puts.{place-short, place-wild, place-enough}
 use Rattle.add_page.proofs.add.place_page.Statement.{statement}
 use Rattle.add_page.proofs.add.place_page.Tie as tie
@@ -16,8 +15,8 @@ entry k = k .before .before .before .before .before .before
 abbrev lent : tie.Start → Tables
 lent s = tables (s .args .settings .now) (s .args .nodes .now) (s .args .pages .now) (s .args .sketches .now) []
 
-passed : (s : tie.Start) → Passed (lent s) (s .args .h) (s .args .p) (s .args .class) (s .args .sketch .now)
-passed s = admit-shown (lent s) (s .args .p) (s .args .class) (s .args .sketch .now) (s .args .h) (s .pre) .1
+passed : (s : tie.Start) → Passed (lent s) (s .args .h) (s .args .p) (s .args .sketch .now)
+passed s = told-shown (lent s) (s .args .p) (s .args .class) (s .args .sketch .now) (s .args .h) (s .pre) .1
 
 free-link-requires : tie.Need-free-link-requires
 free-link-requires c κs = passed (entry c) .long

@@ -1,10 +1,8 @@
 -- `put_page` is `putPage`.
-use native.Mathlib.Omega.{arith}
-use mathlib.Core.Path.{_≡_, sym, ap, _∙_}
 use mathlib.Core.List.{[]}
 use borrow.Author.Needs.{needs}
 use Rattle.promises.specs.Tables.{Tables, tables}
-use Rattle.add_page.proofs.Passed.{Passed, admit-shown, row-fits, lent-row, class-fits}
+use Rattle.add_page.proofs.Passed.{Passed, told-shown, row-fits, lent-row, class-fits}
 use Rattle.add_page.proofs.Puts.{put-free, put-stopped}
 use Rattle.add_page.proofs.add.put_page.Statement.{statement}
 use Rattle.add_page.proofs.add.put_page.Tie as tie
@@ -16,11 +14,11 @@ entry k = k .before .before .before .before .before .before
 abbrev lent : tie.Start → Tables
 lent s = tables (s .args .settings .now) (s .args .nodes .now) (s .args .pages .now) (s .args .sketches .now) []
 
-passed : (s : tie.Start) → Passed (lent s) (s .args .h) (s .args .p) (s .args .class) (s .args .sketch .now)
-passed s = admit-shown (lent s) (s .args .p) (s .args .class) (s .args .sketch .now) (s .args .h) (s .pre) .1
+passed : (s : tie.Start) → Passed (lent s) (s .args .h) (s .args .p) (s .args .sketch .now)
+passed s = told-shown (lent s) (s .args .p) (s .args .class) (s .args .sketch .now) (s .args .h) (s .pre) .1
 
 write-row-requires : tie.Need-write-row-requires
-write-row-requires c κs = (row-fits _ _ _ _ _ (passed (entry c)), passed (entry c) .fits .count)
+write-row-requires c κs = (row-fits _ _ _ _ (passed (entry c)), passed (entry c) .fits .count)
 
 free-link-requires : tie.Need-free-link-requires
 free-link-requires c κs = passed (entry (c .before .before .before .before)) .long
@@ -32,7 +30,7 @@ insert-all-requires : tie.Need-insert-all-requires
 insert-all-requires c κs =
     let k = c .before .before .before .before .before .before .before .before .before .before in
     let ok = passed (entry k) in (
-      rw (c .before .before .before .thresholds .ensures) (lent-row _ _ _ _ _ ok _ (c .before .before .before .before .before .before .before .before .before .write-row .ensures)),
+      rw (c .before .before .before .thresholds .ensures) (lent-row _ _ _ _ ok _ (c .before .before .before .before .before .before .before .before .before .write-row .ensures)),
       (ok .fits, ok .page),
     )
 
@@ -45,7 +43,7 @@ set-free-link-requires c κs = passed (entry (c .before .before .before .before 
 write-page-requires : tie.Need-write-page-requires
 write-page-requires c κs =
     let ok = passed (entry (c .before .before .before .before .before .before .before .before .before .before .before .before .before .before .before .before .before .before .before .before .before .before .before)) in
-    (ok .page, class-fits _ _ _ _ _ ok (c .before .before .before .before .before .before .before .before .before .before .before .before .insert-all .last .1 .0) (search needs))
+    (ok .page, class-fits _ _ _ _ ok (c .before .before .before .before .before .before .before .before .before .before .before .before .insert-all .last .1 .0) (search needs))
 
 enum-told : tie.Need-enum-told
 enum-told c = search needs
