@@ -1,6 +1,27 @@
 //! The C calls as include/vetchdawn.h declares them, each behind a safe function.
 use crate::tables::{Settings, Tables};
 
+/// Tables lent to a call, wherever they lie.
+pub struct Lent<'a> {
+    pub settings: &'a mut [u32],
+    pub nodes: &'a mut [u32],
+    pub pages: &'a mut [u32],
+    pub sketches: &'a mut [u8],
+    pub working: &'a mut [u32],
+}
+
+impl Tables {
+    pub fn lend(&mut self) -> Lent<'_> {
+        Lent {
+            settings: &mut self.settings,
+            nodes: &mut self.nodes,
+            pages: &mut self.pages,
+            sketches: &mut self.sketches,
+            working: &mut self.working,
+        }
+    }
+}
+
 mod c {
     extern "C" {
         #[allow(clippy::too_many_arguments)]
@@ -16,6 +37,27 @@ mod c {
         pub fn vetch_show(
             settings: *const u32, settings_len: usize, pages: *const u32, pages_len: usize, sketches: *const u8, sketches_len: usize,
             reader: u32, page: u32, start: *mut u32, length: *mut u32,
+        ) -> u32;
+        #[allow(clippy::too_many_arguments)]
+        pub fn vetch_add(
+            settings: *mut u32, settings_len: usize, nodes: *mut u32, nodes_len: usize, pages: *mut u32, pages_len: usize,
+            sketches: *mut u8, sketches_len: usize, page: u32, class: u32, sketch: *const u8, sketch_len: usize,
+        ) -> u32;
+        #[allow(clippy::too_many_arguments)]
+        pub fn vetch_drop(
+            settings: *mut u32, settings_len: usize, nodes: *mut u32, nodes_len: usize, pages: *mut u32, pages_len: usize,
+            sketches: *const u8, sketches_len: usize, page: u32,
+        ) -> u32;
+        #[allow(clippy::too_many_arguments)]
+        pub fn vetch_search(
+            settings: *const u32, settings_len: usize, nodes: *const u32, nodes_len: usize, pages: *const u32, pages_len: usize,
+            sketches: *const u8, sketches_len: usize, working: *mut u32, working_len: usize,
+            reader: u32, radius: u32, sketch: *const u8, sketch_len: usize, output: *mut u16, output_len: usize, count: *mut u32,
+        ) -> u32;
+        #[allow(clippy::too_many_arguments)]
+        pub fn vetch_check(
+            settings: *const u32, settings_len: usize, nodes: *const u32, nodes_len: usize, pages: *const u32, pages_len: usize,
+            sketches: *const u8, sketches_len: usize, working: *mut u32, working_len: usize, sound: *mut u32,
         ) -> u32;
         pub fn vetch_measure(b: u32, m: u32, x: *const u8, x_len: usize, y: *const u8, y_len: usize, distance: *mut u32) -> u32;
         pub fn vetch_pack(b: u32, m: u32, x: *const u8, x_len: usize, out: *mut u8, out_len: usize, length: *mut u32) -> u32;
@@ -88,4 +130,48 @@ pub fn show(t: &Tables, reader: u32, page: u32) -> Result<(usize, usize), u32> {
     }
     assert_eq!((start, length), (0, 0), "a refusal gives 0 and 0");
     Err(number)
+}
+
+pub fn add(t: &mut Lent, page: u32, class: u32, sketch: &[u8]) -> u32 {
+    unsafe {
+        c::vetch_add(
+            t.settings.as_mut_ptr(), t.settings.len(), t.nodes.as_mut_ptr(), t.nodes.len(), t.pages.as_mut_ptr(), t.pages.len(),
+            t.sketches.as_mut_ptr(), t.sketches.len(), page, class, sketch.as_ptr(), sketch.len(),
+        )
+    }
+}
+
+pub fn drop(t: &mut Lent, page: u32) -> u32 {
+    unsafe {
+        c::vetch_drop(
+            t.settings.as_mut_ptr(), t.settings.len(), t.nodes.as_mut_ptr(), t.nodes.len(), t.pages.as_mut_ptr(), t.pages.len(),
+            t.sketches.as_ptr(), t.sketches.len(), page,
+        )
+    }
+}
+
+/// The number, and the count or the length needed.
+pub fn search(t: &mut Lent, reader: u32, radius: u32, query: &[u8], output: &mut [u16]) -> Given {
+    let mut value = u32::MAX;
+    let number = unsafe {
+        c::vetch_search(
+            t.settings.as_ptr(), t.settings.len(), t.nodes.as_ptr(), t.nodes.len(), t.pages.as_ptr(), t.pages.len(),
+            t.sketches.as_ptr(), t.sketches.len(), t.working.as_mut_ptr(), t.working.len(),
+            reader, radius, query.as_ptr(), query.len(), output.as_mut_ptr(), output.len(), &mut value,
+        )
+    };
+    Given { number, value }
+}
+
+/// The number, and whether the store is sound.
+pub fn check(t: &mut Lent) -> (u32, bool) {
+    let mut sound = u32::MAX;
+    let number = unsafe {
+        c::vetch_check(
+            t.settings.as_ptr(), t.settings.len(), t.nodes.as_ptr(), t.nodes.len(), t.pages.as_ptr(), t.pages.len(),
+            t.sketches.as_ptr(), t.sketches.len(), t.working.as_mut_ptr(), t.working.len(), &mut sound,
+        )
+    };
+    assert!(sound <= 1, "neither yes nor no");
+    (number, sound == 1)
 }
