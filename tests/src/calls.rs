@@ -59,6 +59,12 @@ mod c {
             settings: *const u32, settings_len: usize, nodes: *const u32, nodes_len: usize, pages: *const u32, pages_len: usize,
             sketches: *const u8, sketches_len: usize, working: *mut u32, working_len: usize, sound: *mut u32,
         ) -> u32;
+        pub fn vetch_form(m: u8, first: u8, bytes: *const u8, bytes_len: usize) -> u32;
+        #[allow(clippy::too_many_arguments)]
+        pub fn vetch_lengths(
+            b: u32, m: u32, q: u32, page_capacity: u32, node_capacity: u32,
+            settings: *mut u32, nodes: *mut u32, pages: *mut u32, sketches: *mut u32, working: *mut u32,
+        ) -> u32;
         pub fn vetch_measure(b: u32, m: u32, x: *const u8, x_len: usize, y: *const u8, y_len: usize, distance: *mut u32) -> u32;
         pub fn vetch_pack(b: u32, m: u32, x: *const u8, x_len: usize, out: *mut u8, out_len: usize, length: *mut u32) -> u32;
         pub fn vetch_unpack(b: u32, m: u32, bytes: *const u8, bytes_len: usize, out: *mut u8, out_len: usize, length: *mut u32) -> u32;
@@ -91,6 +97,10 @@ pub fn unpack(b: u32, m: u32, bytes: &[u8], out: &mut [u8]) -> Given {
 }
 
 pub fn open(t: &mut Tables, s: &Settings) -> u32 {
+    lent_open(&mut t.lend(), s)
+}
+
+pub fn lent_open(t: &mut Lent, s: &Settings) -> u32 {
     unsafe {
         c::vetch_open(
             t.settings.as_mut_ptr(), t.settings.len(), t.nodes.as_mut_ptr(), t.nodes.len(), t.pages.as_mut_ptr(), t.pages.len(),
@@ -101,23 +111,40 @@ pub fn open(t: &mut Tables, s: &Settings) -> u32 {
 }
 
 pub fn join(t: &mut Tables, reader: u32, group: u32) -> u32 {
-    unsafe { c::vetch_join(t.settings.as_mut_ptr(), t.settings.len(), reader, group) }
+    lent_right(&mut t.lend(), 0, reader, group)
 }
 
 pub fn leave(t: &mut Tables, reader: u32, group: u32) -> u32 {
-    unsafe { c::vetch_leave(t.settings.as_mut_ptr(), t.settings.len(), reader, group) }
+    lent_right(&mut t.lend(), 1, reader, group)
 }
 
 pub fn grant(t: &mut Tables, group: u32, class: u32) -> u32 {
-    unsafe { c::vetch_grant(t.settings.as_mut_ptr(), t.settings.len(), group, class) }
+    lent_right(&mut t.lend(), 2, group, class)
 }
 
 pub fn revoke(t: &mut Tables, group: u32, class: u32) -> u32 {
-    unsafe { c::vetch_revoke(t.settings.as_mut_ptr(), t.settings.len(), group, class) }
+    lent_right(&mut t.lend(), 3, group, class)
+}
+
+/// Join, leave, grant or revoke, by its number here.
+pub fn lent_right(t: &mut Lent, call: u64, x: u32, y: u32) -> u32 {
+    let (words, len) = (t.settings.as_mut_ptr(), t.settings.len());
+    unsafe {
+        match call {
+            0 => c::vetch_join(words, len, x, y),
+            1 => c::vetch_leave(words, len, x, y),
+            2 => c::vetch_grant(words, len, x, y),
+            _ => c::vetch_revoke(words, len, x, y),
+        }
+    }
+}
+
+pub fn show(t: &mut Tables, reader: u32, page: u32) -> Result<(usize, usize), u32> {
+    lent_show(&mut t.lend(), reader, page)
 }
 
 /// The row's start and length in the sketch table; with a refusal both are given as 0.
-pub fn show(t: &Tables, reader: u32, page: u32) -> Result<(usize, usize), u32> {
+pub fn lent_show(t: &mut Lent, reader: u32, page: u32) -> Result<(usize, usize), u32> {
     let (mut start, mut length) = (u32::MAX, u32::MAX);
     let number = unsafe {
         c::vetch_show(
@@ -174,4 +201,17 @@ pub fn check(t: &mut Lent) -> (u32, bool) {
     };
     assert!(sound <= 1, "neither yes nor no");
     (number, sound == 1)
+}
+
+/// Questions 1 to 3 of a journal command.
+pub fn form(m: u8, first: u8, bytes: &[u8]) -> u32 {
+    unsafe { c::vetch_form(m, first, bytes.as_ptr(), bytes.len()) }
+}
+
+/// The number, and the lengths of settings, nodes, pages, sketches and working table.
+pub fn lengths(b: u32, m: u32, q: u32, page_capacity: u32, node_capacity: u32) -> (u32, [u32; 5]) {
+    let mut given = [u32::MAX; 5];
+    let [settings, nodes, pages, sketches, working] = &mut given;
+    let number = unsafe { c::vetch_lengths(b, m, q, page_capacity, node_capacity, settings, nodes, pages, sketches, working) };
+    (number, given)
 }

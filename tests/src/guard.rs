@@ -13,7 +13,7 @@ const PAGE: usize = 4096;
 const READ_WRITE: i32 = 3;
 const PRIVATE_ANONYMOUS: i32 = 0x22;
 
-/// A slice with a guard page before and behind it. It ends at the one behind; `start` puts it right after the one before.
+/// A slice between two guard pages, right before the one behind it, or right behind the one before.
 pub struct Guarded<T: Copy> {
     map: *mut u8,
     size: usize,
@@ -79,6 +79,17 @@ impl GuardedTables {
             pages: Guarded::new(&t.pages),
             sketches: Guarded::new(&t.sketches),
             working: Guarded::new(&t.working),
+        }
+    }
+
+    /// Each right behind the guard page before it.
+    pub fn at_start(t: &Tables) -> Self {
+        GuardedTables {
+            settings: Guarded::at_start(&t.settings),
+            nodes: Guarded::at_start(&t.nodes),
+            pages: Guarded::at_start(&t.pages),
+            sketches: Guarded::at_start(&t.sketches),
+            working: Guarded::at_start(&t.working),
         }
     }
 

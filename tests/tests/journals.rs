@@ -2,7 +2,9 @@
 use std::io::Write;
 use std::path::PathBuf;
 use std::process::{Command, Stdio};
-use vetchdawn_tests::journal::printed;
+use vetchdawn_tests::calls;
+use vetchdawn_tests::guard::Guarded;
+use vetchdawn_tests::journal::{form, printed};
 use vetchdawn_tests::random::Random;
 use vetchdawn_tests::stores::Sketches;
 
@@ -146,4 +148,22 @@ fn any_bytes() {
         }
         assert_eq!(run(&bytes), printed(&bytes));
     }
+}
+
+#[test]
+fn form_of_a_command() {
+    let mut random = Random::new(44);
+    let mut numbers = [0u32; 4];
+    for _ in 0..200_000 {
+        let n = random.below(70) as usize;
+        let mut bytes = random.bytes(n, 256);
+        if n > 0 && random.below(4) != 0 {
+            bytes[0] = b"IADJLGRS"[random.below(8) as usize];
+        }
+        let (m, first) = (random.below(if n < 20 { 20 } else { 256 }) as u8, random.below(3) as u8);
+        let number = calls::form(m, first, Guarded::new(&bytes).get());
+        assert_eq!(number, form(m, first != 0, &bytes), "{m} {first} {bytes:?}");
+        numbers[number as usize] += 1;
+    }
+    assert!(numbers.iter().all(|&n| n > 5_000), "{numbers:?}");
 }
