@@ -1,23 +1,48 @@
 # make run: build the program and run it on an example.  make test: the gate.
 CARGO = cargo --offline
 TESTS = --release --manifest-path tests/Cargo.toml --target-dir target/rust
+PREFIX = /usr/local
+JOURNAL = crates/vetchdawn/stdin
 
-.PHONY: run test archives check-rust bench
+.PHONY: run test program archives check-rust fuzz bench plot install
 
-run: archives
-	@$(CARGO) run --quiet $(TESTS) --bin example
+run: program
+	@target/bin/vetchdawn < $(JOURNAL)
 
 test:
 	@.ci/run
 
-# what the proved crates offer to C, as archives
-ARCHIVES = sketch capi
+program:
+	@mkdir -p target
+	@rt check vetchdawn > target/program.log 2>&1 || { cat target/program.log; exit 1; }
+
+# what the proved crates offer to C, each as an archive, and all of it in one
+ARCHIVES = sketch journal capi
+LIBRARY = target/staticlib/libvetchdawn.a
 archives:
 	@mkdir -p target
 	@for name in $(ARCHIVES); do rt staticlib $$name > target/staticlib.log 2>&1 || { cat target/staticlib.log; exit 1; }; done
+	@rm -f $(LIBRARY)
+	@{ echo create $(LIBRARY); for name in $(ARCHIVES); do echo addlib target/staticlib/lib$$name.a; done; echo save; } | ar -M
 
-check-rust: archives
+check-rust: program archives
 	@$(CARGO) test $(TESTS)
 
+# five minutes of calls on any tables; the gate has half a minute of it
+fuzz: archives
+	@FUZZ_SECONDS=300 $(CARGO) test $(TESTS) --test fuzz -- --nocapture
+
 bench: archives
-	@$(CARGO) run --quiet $(TESTS) --bin bench_sketches
+	@$(CARGO) build --quiet $(TESTS) --bins
+	@for name in sketches tries search; do target/rust/release/bench_$$name | tee docs/bench/$$name.txt; done
+	@$(MAKE) --no-print-directory plot
+
+plot:
+	@$(CARGO) run --quiet $(TESTS) --bin plot < docs/bench/search.txt > docs/bench/search.svg
+
+install: program archives
+	@install -d $(DESTDIR)$(PREFIX)/bin $(DESTDIR)$(PREFIX)/include $(DESTDIR)$(PREFIX)/lib/pkgconfig
+	@install -m 755 target/bin/vetchdawn $(DESTDIR)$(PREFIX)/bin/
+	@install -m 644 include/vetchdawn.h $(DESTDIR)$(PREFIX)/include/
+	@install -m 644 $(LIBRARY) $(DESTDIR)$(PREFIX)/lib/
+	@sed 's|@PREFIX@|$(PREFIX)|' vetchdawn.pc.in > $(DESTDIR)$(PREFIX)/lib/pkgconfig/vetchdawn.pc

@@ -1,9 +1,7 @@
-// The archives that `rt staticlib` writes.
+// The archive of all C calls, which `make archives` puts together.
 fn main() {
     let root = std::env::var("CARGO_MANIFEST_DIR").unwrap();
     println!("cargo:rustc-link-search=native={root}/../target/staticlib");
-    for name in ["sketch", "capi"] {
-        println!("cargo:rustc-link-lib=static={name}");
-        println!("cargo:rerun-if-changed={root}/../target/staticlib/lib{name}.a");
-    }
+    println!("cargo:rustc-link-lib=static=vetchdawn");
+    println!("cargo:rerun-if-changed={root}/../target/staticlib/libvetchdawn.a");
 }

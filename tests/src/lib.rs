@@ -1,6 +1,11 @@
 //! Independent implementations in plain Rust, and the C calls of the proved archives beside them.
+pub mod baselines;
 pub mod calls;
+pub mod guard;
+pub mod journal;
 pub mod plain;
 pub mod random;
+pub mod sound;
+pub mod stores;
 pub mod tables;
 pub mod trees;

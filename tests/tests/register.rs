@@ -164,7 +164,7 @@ fn showing() {
         for _ in 0..40 {
             let (reader, page) = (near(&mut random, 0, 255), near(&mut random, 0, s.pages - 1));
             let want = t.show(reader, page);
-            let got = calls::show(&t, reader, page);
+            let got = calls::show(&mut t, reader, page);
             assert_eq!(got, want, "reader {reader} page {page}");
             numbers[want.err().unwrap_or(0) as usize] += 1;
         }

@@ -1,0 +1,83 @@
+//! Add and drop against a plain pointer-based trie: both built for release, interleaved in one run, medians as ratios.
+use std::time::Instant;
+use vetchdawn_tests::baselines::Pointers;
+use vetchdawn_tests::calls;
+use vetchdawn_tests::random::Random;
+use vetchdawn_tests::stores::Sketches;
+use vetchdawn_tests::tables::{lengths, Settings, Tables, SETTINGS};
+
+const PAGES: usize = 65_535;
+const ROUNDS: usize = 7;
+
+fn opened(s: &Settings) -> Tables {
+    let [nodes, pages, sketches, working] = lengths(s.m, s.q, s.pages, s.nodes);
+    let mut t = Tables {
+        settings: vec![0; SETTINGS],
+        nodes: vec![0; nodes],
+        pages: vec![0; pages],
+        sketches: vec![0; sketches],
+        working: vec![0; working],
+    };
+    assert_eq!(calls::open(&mut t, s), 0);
+    t
+}
+
+fn median(mut times: Vec<f64>) -> f64 {
+    times.sort_by(f64::total_cmp);
+    times[times.len() / 2]
+}
+
+fn shuffled(random: &mut Random) -> Vec<u32> {
+    let mut pages: Vec<u32> = (0..PAGES as u32).collect();
+    for i in (1..pages.len()).rev() {
+        pages.swap(i, random.below(i as u64 + 1) as usize);
+    }
+    pages
+}
+
+fn run(name: &str, s: &Settings, sketches: &[Vec<u8>]) {
+    let mut random = Random::new(5);
+    let (adds, drops) = (shuffled(&mut random), shuffled(&mut random));
+    let mut times = [const { Vec::new() }; 4];
+    for _ in 0..ROUNDS {
+        let mut t = opened(s);
+        let mut plain = Pointers::new(s.b, s.m as usize, s.q as usize, PAGES, s.thresholds[0]);
+        let mut lent = t.lend();
+        let each = |start: Instant| start.elapsed().as_nanos() as f64 / PAGES as f64;
+        let start = Instant::now();
+        for &p in &adds {
+            assert_eq!(calls::add(&mut lent, p, p % 64, &sketches[p as usize]), 0);
+        }
+        times[0].push(each(start));
+        let start = Instant::now();
+        for &p in &adds {
+            assert!(plain.add(p, (p % 64) as u8, &sketches[p as usize]));
+        }
+        times[1].push(each(start));
+        let start = Instant::now();
+        for &p in &drops {
+            assert_eq!(calls::drop(&mut lent, p), 0);
+        }
+        times[2].push(each(start));
+        let start = Instant::now();
+        for &p in &drops {
+            assert!(plain.drop(p));
+        }
+        times[3].push(each(start));
+    }
+    let [a, b, c, d] = times.map(median);
+    println!("add   {name:10} {a:8.0} ns   {b:8.0} ns   {:.2}", a / b);
+    println!("drop  {name:10} {c:8.0} ns   {d:8.0} ns   {:.2}", c / d);
+}
+
+fn main() {
+    println!("65,535 pages, b 4, m 32, q 4, threshold 32");
+    println!("call  sketches   this library   pointer trie   ratio");
+    let s = Settings { b: 4, m: 32, q: 4, pages: PAGES as u32, nodes: 262_144, thresholds: vec![32; 64] };
+    let mut random = Random::new(4);
+    let any: Vec<Vec<u8>> = (0..PAGES).map(|_| random.bytes(32, 16)).collect();
+    run("random", &s, &any);
+    let centres = Sketches::new(&mut random, 4, 32, 600);
+    let alike: Vec<Vec<u8>> = (0..PAGES).map(|_| centres.near(&mut random, 6)).collect();
+    run("clustered", &s, &alike);
+}

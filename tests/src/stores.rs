@@ -1,0 +1,126 @@
+//! Random stores: settings, sketches that are alike, histories, and damage.
+use crate::calls;
+use crate::random::Random;
+use crate::tables::{lengths, Settings, Tables, FREE, SETTINGS};
+use crate::trees::Index;
+
+/// Settings for small tables: every b and q, thresholds that split early, late or never.
+pub fn small_settings(random: &mut Random) -> Settings {
+    let m = match random.below(3) {
+        0 => 1 + random.below(64) as u32,
+        _ => 1 + random.below(12) as u32,
+    };
+    let q = 1 + random.below(u64::from(m.min(8))) as u32;
+    let pages = 1 + random.below(40) as u32;
+    let nodes = match random.below(3) {
+        0 => q + random.below(12) as u32,
+        1 => q + random.below(60) as u32,
+        _ => q + q * 6 * pages,
+    };
+    let thresholds = match random.below(6) {
+        0 => vec![0; 64],
+        1 => vec![1; 64],
+        2 => vec![8; 64],
+        3 => vec![65_535; 64],
+        _ => (0..64).map(|_| random.below(5) as u16).collect(),
+    };
+    Settings { b: 1 + random.below(8) as u32, m, q, pages, nodes, thresholds }
+}
+
+/// Tables full of anything, long enough for the settings, with a rest behind.
+pub fn any_tables(random: &mut Random, s: &Settings) -> Tables {
+    let [nodes, pages, sketches, working] = lengths(s.m, s.q, s.pages, s.nodes);
+    let mut words = |n: usize| (0..n).map(|_| random.next() as u32).collect::<Vec<_>>();
+    Tables {
+        settings: words(SETTINGS + 2),
+        nodes: words(nodes + 3),
+        pages: words(pages + 3),
+        sketches: words(sketches + 3).into_iter().map(|w| w as u8).collect(),
+        working: words(working + 3),
+    }
+}
+
+/// Sketches near a few centres, so that leaves fill up and equal sketches occur.
+pub struct Sketches {
+    b: u32,
+    centres: Vec<Vec<u8>>,
+}
+
+impl Sketches {
+    pub fn new(random: &mut Random, b: u32, m: u32, centres: usize) -> Self {
+        Sketches { b, centres: (0..centres).map(|_| random.bytes(m as usize, 1 << b)).collect() }
+    }
+
+    /// A centre with up to `changes` symbols changed.
+    pub fn near(&self, random: &mut Random, changes: u64) -> Vec<u8> {
+        let mut x = self.centres[random.below(self.centres.len() as u64) as usize].clone();
+        for _ in 0..random.below(changes + 1) {
+            let at = random.below(x.len() as u64) as usize;
+            x[at] = random.below(1 << self.b) as u8;
+        }
+        x
+    }
+}
+
+/// A store opened on both sides.
+pub fn opened(random: &mut Random, s: &Settings) -> (Tables, Index) {
+    let mut t = any_tables(random, s);
+    assert_eq!(calls::open(&mut t, s), 0);
+    (t, Index::open(s.clone()))
+}
+
+/// A store with some pages, some of them dropped again, and some rights; the same on both sides.
+pub fn filled(random: &mut Random, s: &Settings, calls_made: u64) -> (Tables, Index, Sketches) {
+    let (mut t, mut plain) = opened(random, s);
+    let centres = 1 + random.below(4) as usize;
+    let sketches = Sketches::new(random, s.b, s.m, centres);
+    for _ in 0..calls_made {
+        let page = random.below(u64::from(s.pages)) as u32;
+        if random.below(4) == 0 {
+            assert_eq!(calls::drop(&mut t.lend(), page), plain.drop(page));
+        } else {
+            let (class, x) = (random.below(64) as u32, sketches.near(random, 4));
+            assert_eq!(calls::add(&mut t.lend(), page, class, &x), plain.add(page, class, &x));
+        }
+    }
+    for _ in 0..random.below(40) {
+        let (reader, group, class) = (random.below(3) as u32, random.below(6) as u32, random.below(64) as u32);
+        assert_eq!(calls::join(&mut t, reader, group), plain.join(reader, group));
+        assert_eq!(calls::grant(&mut t, group, class), plain.grant(group, class));
+    }
+    (t, plain, sketches)
+}
+
+/// Damages some words of the tables behind an opening: links that lead anywhere, cycles, other states, classes and symbols.
+pub fn damage(random: &mut Random, t: &mut Tables, s: &Settings) {
+    let (n, p) = (s.nodes as usize, s.pages as usize);
+    for _ in 0..1 + random.below(6) {
+        let link = match random.below(4) {
+            0 => random.next() as u32,
+            1 => random.below(s.nodes as u64 + 2) as u32,
+            _ => random.below(s.pages as u64 + 2) as u32,
+        };
+        match random.below(8) {
+            0 => t.settings[FREE] = link,
+            1 => t.nodes[random.below(n as u64) as usize] = link | (random.below(256) as u32) << 19,
+            2 => t.nodes[n + random.below(n as u64) as usize] = link,
+            3 | 4 => t.nodes[2 * n + random.below(8 * n as u64) as usize] = link,
+            5 => t.pages[random.below(2 * p as u64) as usize] = link,
+            6 => t.pages[2 * p + random.below(u64::from(s.q) * p as u64) as usize] = link,
+            _ => {
+                let at = random.below(t.sketches.len() as u64) as usize;
+                t.sketches[at] = random.next() as u8;
+            }
+        }
+    }
+}
+
+/// Every word behind the header at random, mostly small.
+pub fn scramble(random: &mut Random, t: &mut Tables, s: &Settings) {
+    let top = u64::from(s.nodes.max(s.pages)) + 3;
+    let mut word = || if random.below(10) == 0 { random.next() as u32 } else { random.below(top) as u32 };
+    t.settings[FREE] = word();
+    t.nodes.iter_mut().for_each(|w| *w = word());
+    t.pages.iter_mut().for_each(|w| *w = word());
+    t.working.iter_mut().for_each(|w| *w = word());
+}

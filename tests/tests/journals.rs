@@ -1,0 +1,169 @@
+//! Generated journals through the built program, compared line for line with a plain scan.
+use std::io::Write;
+use std::path::PathBuf;
+use std::process::{Command, Stdio};
+use vetchdawn_tests::calls;
+use vetchdawn_tests::guard::Guarded;
+use vetchdawn_tests::journal::{form, printed};
+use vetchdawn_tests::random::Random;
+use vetchdawn_tests::stores::Sketches;
+
+fn program() -> PathBuf {
+    PathBuf::from(env!("CARGO_MANIFEST_DIR")).join("../target/bin/vetchdawn")
+}
+
+fn run(journal: &[u8]) -> String {
+    let mut child = Command::new(program()).stdin(Stdio::piped()).stdout(Stdio::piped()).spawn().expect("the program is built");
+    let mut input = child.stdin.take().unwrap();
+    let bytes = journal.to_vec();
+    // what is past 65,536 bytes may be left unread
+    let writer = std::thread::spawn(move || drop(input.write_all(&bytes)));
+    let output = child.wait_with_output().unwrap();
+    writer.join().unwrap();
+    assert!(output.status.success(), "{:?}", output.status);
+    String::from_utf8(output.stdout).unwrap()
+}
+
+fn two(n: u32) -> [u8; 2] {
+    [n as u8, (n >> 8) as u8]
+}
+
+/// An opening, mostly within the limits.
+fn opening(random: &mut Random) -> (Vec<u8>, u32, u32) {
+    let bad = random.below(30) == 0;
+    let b = if bad { random.below(12) as u32 } else { 1 + random.below(8) as u32 };
+    let longest = if random.below(4) == 0 { 64 } else { 10 };
+    let m = if bad { random.below(256) as u32 } else { 1 + random.below(longest) as u32 };
+    let q = if bad { random.below(10) as u32 } else { 1 + random.below(u64::from(m.clamp(1, 8))) as u32 };
+    let threshold = [0, 1, 2, 8, 32, 65_535][random.below(6) as usize];
+    let mut bytes = vec![b'I', b as u8, m as u8, q as u8];
+    bytes.extend(two(threshold));
+    (bytes, b, m)
+}
+
+/// One more command.
+fn command(random: &mut Random, journal: &mut Vec<u8>, sketches: &Sketches, pages: u64) {
+    let page = if random.below(40) == 0 { random.next() as u32 } else { random.below(pages) as u32 };
+    let small = |random: &mut Random, n: u64| if random.below(40) == 0 { random.next() as u8 } else { random.below(n) as u8 };
+    match random.below(20) {
+        0..=8 => {
+            journal.push(b'A');
+            journal.extend(two(page));
+            journal.push(small(random, 8));
+            journal.extend(sketch(random, sketches));
+        }
+        9..=11 => {
+            journal.push(b'D');
+            journal.extend(two(page));
+        }
+        12 => journal.extend([b'J', small(random, 4), small(random, 4)]),
+        13 => journal.extend([b'L', small(random, 4), small(random, 4)]),
+        14 => journal.extend([b'G', small(random, 4), small(random, 8)]),
+        15 => journal.extend([b'R', small(random, 4), small(random, 8)]),
+        _ => {
+            journal.extend([b'S', small(random, 4), small(random, 8)]);
+            journal.extend(sketch(random, sketches));
+        }
+    }
+}
+
+fn sketch(random: &mut Random, sketches: &Sketches) -> Vec<u8> {
+    let mut x = sketches.near(random, 3);
+    if random.below(60) == 0 {
+        x[0] = random.next() as u8;
+    }
+    x
+}
+
+fn journal(random: &mut Random) -> Vec<u8> {
+    let (mut bytes, b, m) = opening(random);
+    let (b, m) = (b.clamp(1, 8), m.clamp(1, 64));
+    let centres = 1 + random.below(12) as usize;
+    let sketches = Sketches::new(random, b, m, centres);
+    for (reader, group) in [(0, 1), (1, 2), (2, 1)] {
+        bytes.extend([b'J', reader, group]);
+    }
+    for class in 0..6 {
+        bytes.extend([b'G', 1 + class % 2, class]);
+    }
+    let pages = [4, 40, 520][random.below(3) as usize];
+    let length = if random.below(40) == 0 { 70_000 } else { 20 + random.below(4_000) as usize };
+    while bytes.len() < length {
+        command(random, &mut bytes, &sketches, pages);
+        match random.below(3_000) {
+            0 => bytes.push(b'I'),
+            1 => bytes.push(random.next() as u8),
+            _ => {}
+        }
+    }
+    if random.below(4) == 0 {
+        let at = random.below(bytes.len() as u64) as usize;
+        bytes.truncate(at);
+    }
+    bytes
+}
+
+#[test]
+fn generated_journals() {
+    let mut random = Random::new(41);
+    let mut numbers = [0usize; 16];
+    let mut listed = 0;
+    for round in 0..2_000 {
+        let bytes = journal(&mut random);
+        let want = printed(&bytes);
+        assert_eq!(run(&bytes), want, "journal {round}");
+        for line in want.lines() {
+            let fields: Vec<&str> = line.split(' ').collect();
+            match fields[0] {
+                "E" => numbers[fields[2].parse::<usize>().unwrap()] += 1,
+                "S" => listed += fields.len() - 3,
+                _ => {}
+            }
+        }
+    }
+    assert!([1, 2, 3, 4, 7, 8, 9, 11, 12].iter().all(|&n| numbers[n] > 10), "{numbers:?}");
+    assert!(listed > 50_000, "{listed} listed");
+}
+
+#[test]
+fn cut_at_every_offset() {
+    let mut random = Random::new(42);
+    for _ in 0..3 {
+        let mut bytes = journal(&mut random);
+        bytes.truncate(120);
+        for n in 0..=bytes.len() {
+            assert_eq!(run(&bytes[..n]), printed(&bytes[..n]));
+        }
+    }
+}
+
+#[test]
+fn any_bytes() {
+    let mut random = Random::new(43);
+    for _ in 0..200 {
+        let n = random.below(80) as usize;
+        let mut bytes = random.bytes(n, 256);
+        if random.below(2) == 0 {
+            bytes.splice(0..0, [b'I', 2, 4, 2, 1, 0]);
+        }
+        assert_eq!(run(&bytes), printed(&bytes));
+    }
+}
+
+#[test]
+fn form_of_a_command() {
+    let mut random = Random::new(44);
+    let mut numbers = [0u32; 4];
+    for _ in 0..200_000 {
+        let n = random.below(70) as usize;
+        let mut bytes = random.bytes(n, 256);
+        if n > 0 && random.below(4) != 0 {
+            bytes[0] = b"IADJLGRS"[random.below(8) as usize];
+        }
+        let (m, first) = (random.below(if n < 20 { 20 } else { 256 }) as u8, random.below(3) as u8);
+        let number = calls::form(m, first, Guarded::new(&bytes).get());
+        assert_eq!(number, form(m, first != 0, &bytes), "{m} {first} {bytes:?}");
+        numbers[number as usize] += 1;
+    }
+    assert!(numbers.iter().all(|&n| n > 5_000), "{numbers:?}");
+}

@@ -1,0 +1,46 @@
+//! The header and the archive as a C program uses them: examples/server.c, without a warning and without an error under valgrind.
+use std::path::{Path, PathBuf};
+use std::process::Command;
+
+const PRINTED: &str = "\
+page 7 again: refused by question 9
+Anna, within 1: 0 1 2 3 4 5 6 7 8 9 10 11
+Boris, within 1: 1 2 4 5 7 8 10 11
+Anna, the file sealed, within 1: 1 2 4 5 7 8 10 11
+Boris, no longer in the reading room, within 1: none
+Anna, the first six dropped, within 2: 7 8 10 11 13 14 16 17
+the store is sound
+";
+
+fn root() -> PathBuf {
+    Path::new(env!("CARGO_MANIFEST_DIR")).join("..")
+}
+
+fn done(command: &mut Command) -> String {
+    let output = command.output().expect("the command runs");
+    assert!(output.status.success(), "{command:?}: {}", String::from_utf8_lossy(&output.stderr));
+    String::from_utf8(output.stdout).unwrap()
+}
+
+#[test]
+fn server_in_c() {
+    let built = Path::new(env!("CARGO_TARGET_TMPDIR")).join("server");
+    done(
+        Command::new("cc")
+            .args(["-std=c99", "-pedantic", "-O2", "-Wall", "-Wextra", "-Werror", "-I"])
+            .arg(root().join("include"))
+            .arg(root().join("examples/server.c"))
+            .arg(root().join("target/staticlib/libvetchdawn.a"))
+            .arg("-o")
+            .arg(&built),
+    );
+    assert_eq!(done(&mut Command::new(&built)), PRINTED);
+    let mut valgrind = Command::new("valgrind");
+    valgrind.args(["--quiet", "--error-exitcode=1", "--leak-check=full"]).arg(&built);
+    assert_eq!(done(&mut valgrind), PRINTED);
+}
+
+#[test]
+fn header_in_cpp() {
+    done(Command::new("c++").args(["-x", "c++", "-std=c++11", "-pedantic", "-Wall", "-Wextra", "-Werror", "-fsyntax-only"]).arg(root().join("include/vetchdawn.h")));
+}
