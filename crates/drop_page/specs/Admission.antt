@@ -1,0 +1,13 @@
+-- What a drop is told by the questions ahead of the tries: the opening, or the number of the first "no".
+use Prim.Native.Nat.{ℕ}
+use mathlib.Core.List.{[]}
+use lib.Dec.{eqb}
+use Rattle.meaning.specs.Ledger.{drop}
+use Rattle.layout.specs.declared.Opening.{Opening}
+use Rattle.layout.specs.declared.Opening.the-variants.{Shown, Refused}
+use Rattle.layout.specs.Header.{headerOf, pick}
+use Rattle.promises.specs.Tables.{Tables, given}
+use Rattle.promises.specs.Answers.{number}
+
+unfoldable pub admission : Tables → ℕ → Opening
+admission T p = pick (eqb (number T [] (drop p)) 0) (Shown (headerOf (given T))) (Refused (number T [] (drop p)))

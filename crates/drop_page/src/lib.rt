@@ -1,0 +1,3 @@
+// Drop: a page leaves its leaf in each block's trie, and is live no more.
+mod blocks;
+mod questions;
