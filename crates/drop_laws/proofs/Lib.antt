@@ -1,3 +1,4 @@
 pub mod Bytes
 pub mod Removes
 pub mod Inside
+pub mod Leaves
