@@ -17,7 +17,7 @@ use Rattle.store.specs.Sound.{triesCells, Rooted}
 use Rattle.add_page.proofs.Claims.{no-heads, blocks-apart, tries-none}
 use Rattle.add_page.proofs.Grows.{spareCells}
 
-free-none : (cap a : ℕ) (fs : List ℕ) → pageClaims (freeCells cap fs) a ≡ 0
+pub free-none : (cap a : ℕ) (fs : List ℕ) → pageClaims (freeCells cap fs) a ≡ 0
 free-none cap a [] = refl
 free-none cap a (f ∷ fs) = omega (arith, no-heads cap f a, free-none cap a fs)
 

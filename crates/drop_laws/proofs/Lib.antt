@@ -2,3 +2,6 @@ pub mod Bytes
 pub mod Removes
 pub mod Inside
 pub mod Leaves
+pub mod Admitted
+pub mod Rest
+pub mod Sounds
