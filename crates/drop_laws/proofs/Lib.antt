@@ -5,3 +5,4 @@ pub mod Leaves
 pub mod Admitted
 pub mod Rest
 pub mod Sounds
+pub mod Promise
