@@ -1,2 +1,3 @@
 pub mod Admits
 pub mod Tables
+pub mod Exits
