@@ -2,7 +2,7 @@
 use Prim.Native.Nat.{ℕ, _+_, _*_, _≤_, _<_}
 use native.Mathlib.Omega.{arith}
 use mathlib.Core.Path.{_≡_, refl, sym, _∙_}
-use mathlib.Core.Bool.{true, _&&_}
+use mathlib.Core.Bool.{true}
 use mathlib.Core.List.{List, []}
 use borrow.Author.Tests.{ltb-true, leb-true}
 use lib.Dec.{leb}
@@ -15,7 +15,7 @@ use Rattle.layout.specs.Settings.{settingsLength, showsOpening}
 use Rattle.layout.specs.Header.{headerOf, tablesFirst}
 use Rattle.layout.specs.Limits.{HeaderLimits}
 use Rattle.layout.specs.Lengths.{nodesLength, pagesLength, sketchesLength}
-use Rattle.layout.specs.Pages.{isLive, nextAt}
+use Rattle.layout.specs.Pages.{isLive}
 use Rattle.layout.proofs.Openings.{shown, shows}
 use Rattle.layout.proofs.Rows.{rows-apart, row-inside}
 use Rattle.layout.proofs.Tests.{and-left, and-right}

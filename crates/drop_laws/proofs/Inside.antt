@@ -11,7 +11,6 @@ use lib.ListN.{drop as skip}
 use lib.Seq.{take-set-le, drop-set-lt}
 use Rattle.meaning.specs.Ledger.{Settings}
 use Rattle.layout.specs.Nodes.{stateAt, headAt, withLink, freeState, innerState, leafState}
-use Rattle.layout.specs.Lengths.{nodesLength, pagesLength}
 use Rattle.layout.specs.Pages.{nextAt}
 use Rattle.layout.proofs.Rows.{rows-apart}
 use Rattle.layout.proofs.Words.{link-behind}

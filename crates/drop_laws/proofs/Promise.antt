@@ -15,7 +15,7 @@ use Rattle.trie_remove.specs.Remove.{gone}
 use Rattle.promises.specs.Tables.{Tables, given, rowsOf}
 use Rattle.promises.specs.Answers.{number}
 use Rattle.store.specs.Sound.{Sound}
-use Rattle.store.specs.Calls.{DropPromise, DroppedFrom}
+use Rattle.store.specs.Calls.{DropPromise}
 use Rattle.drop_laws.specs.Removal.{removeAll}
 use Rattle.drop_laws.specs.After.{withTries, dropped}
 use Rattle.drop_laws.proofs.Bytes.{row-octets}

@@ -1,10 +1,9 @@
 -- On any tables: what a drop leaves outside the tries.
-use Prim.Native.Nat.{ℕ, _+_, _*_, _≤_, _<_}
+use Prim.Native.Nat.{ℕ, _+_, _*_, _<_}
 use native.Mathlib.Omega.{arith}
-use mathlib.Core.Path.{_≡_, refl, sym, ap, _∙_}
+use mathlib.Core.Path.{refl, sym, ap, _∙_}
 use mathlib.Core.List.{List}
-use lib.ListN.{length, set, take, length-set}
-use lib.ListN.{drop as skip}
+use lib.ListN.{set, length-set}
 use lib.Seq.{take-set-le, drop-set-lt, take-set-lt}
 use Rattle.layout.specs.Settings.{freeAt}
 use Rattle.layout.specs.Lengths.{nodesLength, pagesLength}

@@ -10,16 +10,16 @@ use borrow.Author.Tests.{eqb-true, eqb-false, ltb-true, lt-ltb}
 use lib.Dec.{ltb, eqb}
 use lib.ListN.{length, getD, set, length-map}
 use lib.Seq.{getD-set-same}
-use Rattle.meaning.specs.Trie.{Tree, remove}
+use Rattle.meaning.specs.Trie.{Tree}
 use Rattle.meaning.specs.Ledger.{Settings, drop}
 use Rattle.meaning.specs.Forest.{bytesOfSketch, bytesIn, eachFrom, forestAfter, totalNodes}
 use Rattle.layout.specs.Settings.{freeAt, settingsOf}
-use Rattle.layout.specs.Pages.{nextAt, isLive, classOf, rowOf, withoutPage}
-use Rattle.layout.proofs.Tests.{and-left, and-right}
+use Rattle.layout.specs.Pages.{nextAt, isLive, rowOf, withoutPage}
+use Rattle.layout.proofs.Tests.{and-left}
 use Rattle.layout.proofs.Words.{live-struck, live-struck-other, class-struck, live-kept, class-kept, link-behind}
 use Rattle.layout.proofs.Written.{settings-set}
-use Rattle.trie.specs.Heap.{Cells, Heap, hit, nodeClaims, pageClaims, nil, page, _⊕_}
-use Rattle.trie.specs.Phys.{Phys, tree, cells, freeCells}
+use Rattle.trie.specs.Heap.{Cells, Heap, hit, pageClaims, nil, page, _⊕_}
+use Rattle.trie.specs.Phys.{Phys, tree, freeCells}
 use Rattle.trie.proofs.Frame.{less, hit-other, hit-same, page-write}
 use Rattle.trie_laws.specs.Block.{SoundBlock, EachFrom}
 use Rattle.trie_laws.specs.Sound.{withoutPage as without}
@@ -30,7 +30,7 @@ use Rattle.trie_room.proofs.RowBytes.{row-same}
 use Rattle.trie_remove.specs.declared.Removed.the-variants.{Done}
 use Rattle.trie_remove.specs.Remove.{gone}
 use Rattle.promises.specs.Tables.{Tables, given, pageClass, pageRow, rowsOf}
-use Rattle.store.specs.Sound.{triesCells, Rooted, Holding, livePage, pageBytes, SoundPage, Sound}
+use Rattle.store.specs.Sound.{triesCells, Rooted, livePage, pageBytes, SoundPage, Sound}
 use Rattle.add_page.proofs.Claims.{trie-none}
 use Rattle.add_page.proofs.Spares.{free-none}
 use Rattle.add_page.proofs.NewBytes.{live-bytes}

@@ -1,13 +1,13 @@
 -- What `drop_page` knows past its questions, and its ways out.
 use Prim.Native.Nat.{ℕ, _<_, _≤_}
 use native.Mathlib.Omega.{arith}
-use mathlib.Core.Path.{_≡_, refl, sym, ap, _∙_}
+use mathlib.Core.Path.{_≡_, sym, _∙_}
 use mathlib.Core.List.{List, []}
 use lib.ListN.{length, getD, set}
-use Rattle.meaning.specs.Ledger.{Settings, drop}
+use Rattle.meaning.specs.Ledger.{drop}
 use Rattle.layout.specs.declared.Header.{Header}
 use Rattle.layout.specs.declared.Opening.the-variants.{Shown, Refused}
-use Rattle.layout.specs.Header.{headerOf, bare}
+use Rattle.layout.specs.Header.{bare}
 use Rattle.layout.specs.Lengths.{nodesLength, pagesLength, sketchesLength}
 use Rattle.layout.specs.Pages.{withoutPage}
 use Rattle.layout.specs.Settings.{settingsLength, freeAt}

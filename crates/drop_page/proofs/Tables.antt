@@ -1,7 +1,7 @@
 -- The tables of block j, as the functions on one trie and on rows ask for them.
-use Prim.Native.Nat.{ℕ, _+_, _*_, _≤_, _<_}
+use Prim.Native.Nat.{ℕ, _+_, _≤_, _<_}
 use native.Mathlib.Omega.{arith}
-use mathlib.Core.Path.{_≡_, refl, sym, ap, _∙_}
+use mathlib.Core.Path.{_≡_, refl, sym, _∙_}
 use mathlib.Core.List.{List}
 use lib.ListN.{length, getD, take}
 use Rattle.meaning.specs.Forest.{blockBytes}
@@ -17,8 +17,7 @@ use Rattle.trie.specs.Tables.{NodeTable, PageTable, RowTable}
 use Rattle.trie.specs.Model.{pageByte, levelAt}
 use Rattle.trie_room.specs.RowBytes.{rowBytes, rowsOf}
 use Rattle.trie_room.proofs.RowBytes.{rows-table, level-byte}
-use Rattle.trie_remove.specs.declared.Removed.{Removed}
-use Rattle.trie_remove.specs.Remove.{gone, removePage}
+use Rattle.trie_remove.specs.Remove.{removePage}
 use Rattle.add_page.proofs.Bytes.{bytes-most}
 use Rattle.drop_laws.specs.Removal.{removeBlock}
 use Rattle.drop_laws.proofs.Bytes.{row-length, written-all}

@@ -1,5 +1,4 @@
 // The call that drops a page.
-ghost use mathlib.Core.Path.{_≡_};
 ghost use mathlib.Core.List.{[]};
 ghost use Rattle.promises.specs.Tables.{tables};
 ghost use Rattle.store.specs.Calls.{DropPromise};

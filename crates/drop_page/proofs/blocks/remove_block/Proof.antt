@@ -1,7 +1,7 @@
 -- `remove_block` is `removeBlock`.
 use native.Mathlib.Omega.{arith}
 use Prim.Native.Nat.{_≤_}
-use mathlib.Core.Path.{_≡_, sym, _∙_}
+use mathlib.Core.Path.{sym, _∙_}
 use borrow.Author.Needs.{needs}
 use lib.Seq.{length-take-le}
 use Rattle.drop_page.proofs.Tables.{bytes-few, nodes-in, pages-in, remove-one}
