@@ -6,3 +6,4 @@ pub mod Admitted
 pub mod Rest
 pub mod Sounds
 pub mod Promise
+pub mod Example
