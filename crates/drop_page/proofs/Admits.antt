@@ -21,7 +21,7 @@ use Rattle.layout.proofs.Tests.{and-left}
 use Rattle.layout.proofs.Words.{live-inside}
 use Rattle.promises.specs.Tables.{Tables, tables, given, byTables}
 use Rattle.promises.specs.Answers.{number, entered, shown56, longSettings, longFor, longNodes, longPages}
-use Rattle.drop_page.specs.Admission.{admission}
+use Rattle.add_page.specs.Admission.{admission}
 
 -- 6, of the tables behind the settings table
 abbrev pub longNodesBy : List ℕ → Header → Bool
@@ -42,7 +42,7 @@ module _ (ws nodes pages sketches : List ℕ) (p : ℕ) where
   abbrev T : Tables
   T = tables ws nodes pages sketches []
 
-  refused-by : (n : ℕ) → number T [] (drop p) ≡ n → n ≢ 0 → Refused n ≡ admission T p
+  refused-by : (n : ℕ) → number T [] (drop p) ≡ n → n ≢ 0 → Refused n ≡ admission T (drop p)
   unfolding admission
   refused-by n e h = rw (e, ne-eqb n 0 h)
 
@@ -51,7 +51,7 @@ module _ (ws nodes pages sketches : List ℕ) (p : ℕ) where
   unfolding number entered shown56 longSettings
   asked-first = refl
 
-  pub admit-refused : (n : ℕ) → openingOf ws ≡ Refused n → Refused n ≡ admission T p
+  pub admit-refused : (n : ℕ) → openingOf ws ≡ Refused n → Refused n ≡ admission T (drop p)
   admit-refused n e =
       refused-by n (asked-first ∙ refused-number ws _ _ n e) (λ z. omega (arith, refused-range ws n e))
 
@@ -70,26 +70,26 @@ module _ (ws nodes pages sketches : List ℕ) (p : ℕ) where
         ∙ shown-number ws (longFor (given T) T (drop p)) (asked (byTables T []) (drop p)) h e
         ∙ ap from6 (shown ws h e .header)
 
-    pub admit-nodes : longNodesBy nodes h ≡ false → Refused 6 ≡ admission T p
+    pub admit-nodes : longNodesBy nodes h ≡ false → Refused 6 ≡ admission T (drop p)
     unfolding from6
     admit-nodes short = refused-by 6 (by-header ∙ rw short) (omega arith)
 
     module _ (ln : longNodesBy nodes h ≡ true) where
-      pub admit-pages : longPagesBy pages sketches h ≡ false → Refused 6 ≡ admission T p
+      pub admit-pages : longPagesBy pages sketches h ≡ false → Refused 6 ≡ admission T (drop p)
       unfolding from6
       admit-pages short = refused-by 6 (by-header ∙ rw (ln, short)) (omega arith)
 
       module _ (lp : longPagesBy pages sketches h ≡ true) where
-        pub admit-8 : h .pages ≤ p → Refused 8 ≡ admission T p
+        pub admit-8 : h .pages ≤ p → Refused 8 ≡ admission T (drop p)
         unfolding from6
         admit-8 hp = refused-by 8 (by-header ∙ rw (ln, lp, le-ltb p (h .pages) hp)) (omega arith)
 
         module _ (hp : p < h .pages) where
-          pub admit-9 : isLive pages p ≡ false → Refused 9 ≡ admission T p
+          pub admit-9 : isLive pages p ≡ false → Refused 9 ≡ admission T (drop p)
           unfolding from6
           admit-9 dead = refused-by 9 (by-header ∙ rw (ln, lp, lt-ltb p (h .pages) hp, dead)) (omega arith)
 
-          pub admit-all : isLive pages p ≡ true → Shown h ≡ admission T p
+          pub admit-all : isLive pages p ≡ true → Shown h ≡ admission T (drop p)
           unfolding admission from6
           admit-all live =
               let z : number T [] (drop p) ≡ 0 = by-header ∙ rw (ln, lp, lt-ltb p (h .pages) hp, live) in
@@ -100,7 +100,7 @@ apart : (h : Header) (n : ℕ) → Refused n ≡ Shown h → ⊥
 apart h n e = let z : _≡_ {A = ℕ} 0 1 = cc in omega arith
 
 module _ (T : Tables) (p : ℕ) where
-  pub told-refused : (n : ℕ) → Refused n ≡ admission T p → (number T [] (drop p) ≡ n) × (n ≢ 0)
+  pub told-refused : (n : ℕ) → Refused n ≡ admission T (drop p) → (number T [] (drop p) ≡ n) × (n ≢ 0)
   unfolding admission
   told-refused n e = go (eqb (number T [] (drop p)) 0) refl e
     where
@@ -109,7 +109,7 @@ module _ (T : Tables) (p : ℕ) where
       go true m q = absurd (apart (headerOf (given T)) n q)
       go false m q = let same : number T [] (drop p) ≡ n = cc in (same, λ z. eqb-false (number T [] (drop p)) 0 m (same ∙ z))
 
-  pub told-shown : (h : Header) → Shown h ≡ admission T p → (number T [] (drop p) ≡ 0) × (h ≡ headerOf (given T))
+  pub told-shown : (h : Header) → Shown h ≡ admission T (drop p) → (number T [] (drop p) ≡ 0) × (h ≡ headerOf (given T))
   unfolding admission
   told-shown h e = go (eqb (number T [] (drop p)) 0) refl e
     where

@@ -18,11 +18,11 @@ use Rattle.store.specs.Calls.{DropPromise}
 use Rattle.trie_remove.specs.declared.Removed.{Removed}
 use Rattle.trie_remove.specs.declared.Removed.the-variants.{Done, Broken}
 use Rattle.trie_remove.specs.Remove.{gone}
+use Rattle.add_page.specs.Admission.{admission}
 use Rattle.drop_laws.specs.Removal.{removeAll}
 use Rattle.drop_laws.proofs.Removes.{remove-bare}
 use Rattle.drop_laws.proofs.Admitted.{Admitted, admitted}
 use Rattle.drop_laws.proofs.Promise.{drop-refused, drop-done, drop-broken}
-use Rattle.drop_page.specs.Admission.{admission}
 use Rattle.drop_page.specs.Lent.{Lent}
 use Rattle.drop_page.proofs.Admits.{told-refused, told-shown}
 
@@ -30,10 +30,10 @@ module _ (ws N P S : List ℕ) (p : ℕ) where
   abbrev T : Tables
   T = tables ws N P S []
 
-  pub refuses : (n : ℕ) → Refused n ≡ admission T p → DropPromise T p n T
+  pub refuses : (n : ℕ) → Refused n ≡ admission T (drop p) → DropPromise T p n T
   refuses n e = let t = told-refused T p n e in drop-refused T p n (t .0) (t .1)
 
-  module _ (h : Header) (e : Shown h ≡ admission T p) where
+  module _ (h : Header) (e : Shown h ≡ admission T (drop p)) where
     passed : number T [] (drop p) ≡ 0
     passed = told-shown T p h e .0
 

@@ -24,6 +24,7 @@ fn row_bytes(h: Header, sketches: &[u8], p: usize, j: usize) -> [u8; 64]
     ensures { λ r. ⌜ take (blockBytes (bare h) j) r ≡ rowBytes (bare h) j (now (sketches .entry)) p ⌝ }
 {
     let rows = rows_of(h, j);
+    // of the block a row asks the count of pages alone
     let block = Block {
         nodes: h.nodes,
         pages: h.pages,

@@ -3,10 +3,11 @@ use native.Mathlib.Omega.{arith}
 use mathlib.Core.Path.{_≡_, sym, _∙_}
 use mathlib.Core.List.{[]}
 use borrow.Author.Needs.{needs}
+use Rattle.meaning.specs.Ledger.{drop}
 use Rattle.layout.specs.declared.Header.{Header}
 use Rattle.layout.specs.declared.Opening.the-variants.{Shown}
 use Rattle.promises.specs.Tables.{tables}
-use Rattle.drop_page.specs.Admission.{admission}
+use Rattle.add_page.specs.Admission.{admission}
 use Rattle.drop_page.proofs.Exits.{refuses, settings-long, lent, page-in, live-in, drops, breaks}
 use Rattle.drop_page.proofs.drop.drop_page.Statement.{statement}
 use Rattle.drop_page.proofs.drop.drop_page.Tie as tie
@@ -42,7 +43,7 @@ abbrev header : tie.After-known-told2 → Header
 header k = k .before .h .given .0 .0
 
 shows : (k : tie.After-known-told2) → let a = entry k .args in
-    Shown (header k) ≡ admission (tables (a .settings .now) (a .nodes .now) (a .pages .now) (a .sketches .now) []) (a .page)
+    Shown (header k) ≡ admission (tables (a .settings .now) (a .nodes .now) (a .pages .now) (a .sketches .now) []) (drop (a .page))
 shows k = sym (k .before .h .given .1) ∙ k .before .before .before .admit .ensures
 
 free-link-requires : tie.Need-free-link-requires
