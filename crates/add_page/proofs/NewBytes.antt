@@ -34,7 +34,7 @@ module _ (s : Settings) (j : ℕ) (l : ℕ → Bool) (h : ℕ → Row) (own : (i
       go false e false m ih = ih (eqb-false k q e)
 
 module _ (T : Tables) where
-  live-bytes : (j q : ℕ) → livePage T q ≡ true → bytesIn (given T) (rowsOf T) j q ≡ pageBytes T j q
+  pub live-bytes : (j q : ℕ) → livePage T q ≡ true → bytesIn (given T) (rowsOf T) j q ≡ pageBytes T j q
   unfolding rowsOf livePage pageBytes
   live-bytes j q live =
       rows-bytes (given T) j (isLive (T .pages)) (λ i. record { page = i; class = pageClass T i; sketch = pageRow T i }) (λ i. refl) q 0 (given T .pages)

@@ -23,13 +23,13 @@ use Rattle.trie_remove.specs.Remove.{freeChild, setFirst, removeAt, remo
 use Rattle.trie_remove.proofs.Removal.{RemoveDone, remove-right}
 
 -- ---- cells at different addresses claim no word twice
-abbrev nodesOf : Cells → List ℕ
+abbrev pub nodesOf : Cells → List ℕ
 nodesOf nil = []
 nodesOf (node a v) = a ∷ []
 nodesOf (page a v) = []
 nodesOf (xs ⊕ ys) = nodesOf xs ++ nodesOf ys
 
-abbrev pagesOf : Cells → List ℕ
+abbrev pub pagesOf : Cells → List ℕ
 pagesOf nil = []
 pagesOf (node a v) = []
 pagesOf (page a v) = a ∷ []
@@ -43,14 +43,14 @@ hit-count a b = rw (eqb-comm b a) (go (eqb a b))
     go true = refl
     go false = refl
 
-node-claims : (xs : Cells) (a : ℕ) → nodeClaims xs a ≡ count (eqb a) (nodesOf xs)
+pub node-claims : (xs : Cells) (a : ℕ) → nodeClaims xs a ≡ count (eqb a) (nodesOf xs)
 unfolding count
 node-claims nil a = refl
 node-claims (node b v) a = hit-count a b
 node-claims (page b v) a = refl
 node-claims (xs ⊕ ys) a = omega (arith, count-append (eqb a) (nodesOf xs) (nodesOf ys), node-claims xs a, node-claims ys a)
 
-page-claims : (xs : Cells) (a : ℕ) → pageClaims xs a ≡ count (eqb a) (pagesOf xs)
+pub page-claims : (xs : Cells) (a : ℕ) → pageClaims xs a ≡ count (eqb a) (pagesOf xs)
 unfolding count
 page-claims nil a = refl
 page-claims (node b v) a = refl
@@ -58,7 +58,7 @@ page-claims (page b v) a = hit-count a b
 page-claims (xs ⊕ ys) a = omega (arith, count-append (eqb a) (pagesOf xs) (pagesOf ys), page-claims xs a, page-claims ys a)
 
 -- no number twice
-abbrev once : List ℕ → Bool
+abbrev pub once : List ℕ → Bool
 once [] = true
 once (x ∷ xs) = not (any (eqb x) xs) && once xs
 
@@ -66,7 +66,7 @@ not-true : (q : Bool) → not q ≡ true → q ≡ false
 not-true true h = absurd (false≢true h)
 not-true false h = refl
 
-once-count : (a : ℕ) (xs : List ℕ) → once xs ≡ true → count (eqb a) xs ≤ 1
+pub once-count : (a : ℕ) (xs : List ℕ) → once xs ≡ true → count (eqb a) xs ≤ 1
 unfolding count
 once-count a [] h = omega arith
 once-count a (x ∷ xs) h = elim (truth (eqb a x)) [

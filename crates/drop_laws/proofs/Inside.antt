@@ -1,0 +1,205 @@
+-- On any tables a removal writes words of the tries only: the tables keep their lengths, and the words outside stay.
+use Prim.Native.Nat.{ℕ, zero, suc, _+_, _*_, _-_, _/_, _≤_, _<_}
+use native.Mathlib.Omega.{arith}
+use mathlib.Core.Path.{_≡_, refl, _∙_}
+use mathlib.Core.Bool.{Bool, true, false, cond}
+use mathlib.Core.List.{List}
+use borrow.Author.Tests.{eqb-false, ltb-false}
+use lib.Dec.{ltb, eqb}
+use lib.ListN.{length, getD, set, take, length-set}
+use lib.ListN.{drop as skip}
+use lib.Seq.{take-set-le, drop-set-lt}
+use Rattle.meaning.specs.Ledger.{Settings}
+use Rattle.layout.specs.Nodes.{stateAt, headAt, withLink, freeState, innerState, leafState}
+use Rattle.layout.specs.Pages.{nextAt}
+use Rattle.layout.proofs.Rows.{rows-apart}
+use Rattle.layout.proofs.Words.{link-behind}
+use Rattle.trie.specs.declared.Place.{Place}
+use Rattle.trie.specs.declared.Place.the-variants.{Found, Missing, Broken as NoPlace}
+use Rattle.trie.specs.Model.{Inside, linkAt, childAt, byteIn, placeFrom, findPlace}
+use Rattle.trie_path.specs.declared.Reach.{Reach}
+use Rattle.trie_path.specs.declared.Reach.the-variants.{Leaf, Gap, Broken as Lost}
+use Rattle.trie_path.specs.Descend.{onward, atNode, descend, descendTo}
+use Rattle.trie_room.specs.RowBytes.{rowBytes}
+use Rattle.trie_remove.specs.declared.Taken.the-variants.{First, Inside as Amid, Missing as Absent, Broken as Torn}
+use Rattle.trie_remove.specs.declared.Removed.the-variants.{Done, Broken}
+use Rattle.trie_remove.specs.Take.{Took, took, takeFrom, takePage}
+use Rattle.trie_remove.specs.Remove.{Freed, freed, Gone, gone, goneTo, freeChild, setFirst, removeTaken, removeAt, removeReached, removePage}
+use Rattle.drop_laws.specs.Removal.{onRemoved, removeBlock, removeFrom, removeAll}
+
+-- ---- a table of which no words but those from lo to hi were written
+pub record Within (lo hi : ℕ) (T T' : List ℕ) : Type 0 where
+  pub long : length T' ≡ length T
+  pub front : take lo T' ≡ take lo T
+  pub rest : skip hi T' ≡ skip hi T
+
+module _ {lo hi : ℕ} where
+  pub within-same : (T : List ℕ) → Within lo hi T T
+  within-same T = record { long = refl; front = refl; rest = refl }
+
+  pub within-then : {T T' T'' : List ℕ} → Within lo hi T T' → Within lo hi T' T'' → Within lo hi T T''
+  within-then a b = record { long = b .long ∙ a .long; front = b .front ∙ a .front; rest = b .rest ∙ a .rest }
+
+  pub within-set : (T : List ℕ) (i v : ℕ) → lo ≤ i → i < hi → Within lo hi T (set T i v)
+  within-set T i v l h = record { long = length-set T i v; front = take-set-le lo T i v l; rest = drop-set-lt hi T i v h }
+
+-- ---- a page out of a chain whose links lie there
+module _ (lo hi pcap base p : ℕ) (low : lo ≤ base) (high : base + pcap ≤ hi) where
+  abbrev TookIn : List ℕ → Took → Type 0
+  TookIn P (took P' r) = Within lo hi P P'
+
+  behind-within : (f : ℕ) (P : List ℕ) (l : ℕ) → TookIn P (takeFrom P pcap base p l f)
+  unfolding takeFrom
+  behind-within zero P l = within-same P
+  behind-within (suc f) P l = go (eqb l 0) refl (ltb pcap l) refl (eqb (getD P (base + (l - 1)) 0) (p + 1)) (behind-within f P (getD P (base + (l - 1)) 0))
+    where
+      go : (z : Bool) → eqb l 0 ≡ z → (w : Bool) → ltb pcap l ≡ w → (h : Bool) → TookIn P (takeFrom P pcap base p (getD P (base + (l - 1)) 0) f) →
+          TookIn P (cond z (took P Absent) (cond w (took P Torn) (cond h (took (set P (base + (l - 1)) (getD P (base + p) 0)) Amid)
+          (takeFrom P pcap base p (getD P (base + (l - 1)) 0) f))))
+      go true e w m h ih = within-same P
+      go false e true m h ih = within-same P
+      go false e false m true ih =
+          let some : l ≡ 0 → ⊥ = eqb-false l 0 e in
+          let few : l ≤ pcap = ltb-false pcap l m in
+          within-set P (base + (l - 1)) (getD P (base + p) 0) (omega arith) (omega arith)
+      go false e false m false ih = ih
+
+  take-within : (P : List ℕ) (l : ℕ) → TookIn P (takePage P pcap base l p)
+  unfolding takePage
+  take-within P l = go (eqb l (p + 1)) (ltb pcap (getD P (base + p) 0))
+    where
+      go : (z w : Bool) → TookIn P (cond z (cond w (took P Torn) (took P (First (getD P (base + p) 0)))) (takeFrom P pcap base p l pcap))
+      go true true = within-same P
+      go true false = within-same P
+      go false w = behind-within pcap P l
+
+-- ---- a leaf with another first page
+module _ (cap : ℕ) where
+  abbrev FreedIn : List ℕ → Freed → Type 0
+  FreedIn N (freed N' free) = Within 0 (10 * cap) N N'
+
+  free-within : (N : List ℕ) (s c free : ℕ) → s < 10 * cap → c < cap → Within 0 (10 * cap) N (freeChild N cap s c free)
+  unfolding freeChild
+  free-within N s c free ls lc =
+      let M : List ℕ = set N s (withLink (getD N s 0) (linkAt N c)) in
+      within-then (within-set N s (withLink (getD N s 0) (linkAt N c)) (omega arith) ls)
+      (within-then (within-set M (stateAt cap c) freeState (omega arith) (omega arith))
+      (within-set (set M (stateAt cap c) freeState) c free (omega arith) (omega arith)))
+
+  first-within : (N : List ℕ) (n s k l free : ℕ) → n < cap → s < 10 * cap → FreedIn N (setFirst N cap n s k l free)
+  unfolding setFirst
+  first-within N n s k l free ln ls = go (ltb 0 l) (eqb k 0)
+    where
+      M : List ℕ
+      M = set N (stateAt cap n) (leafState l)
+
+      put : Within 0 (10 * cap) N M
+      put = within-set N (stateAt cap n) (leafState l) (omega arith) (omega arith)
+
+      go : (t u : Bool) → FreedIn N (cond t (freed M free) (cond u (freed M free) (freed (freeChild M cap s n free) (n + 1))))
+      go true u = put
+      go false true = put
+      go false false = within-then put (free-within M s n free ls ln)
+
+-- ---- where bytes lead
+module _ (N : List ℕ) (cap : ℕ) where
+  place-inside : (b f s : ℕ) → s < 10 * cap → Inside cap (placeFrom N cap b s f)
+  unfolding placeFrom
+  place-inside b zero s l = record { slot = omega arith; child = omega arith }
+  place-inside b (suc f) s l =
+      go (eqb (linkAt N s) 0) refl (ltb cap (linkAt N s)) refl (ltb (byteIn N (childAt N s)) b) (eqb (byteIn N (childAt N s)) b) (place-inside b f (childAt N s))
+    where
+      go : (z : Bool) → eqb (linkAt N s) 0 ≡ z → (w : Bool) → ltb cap (linkAt N s) ≡ w → (x y : Bool) →
+          (childAt N s < 10 * cap → Inside cap (placeFrom N cap b (childAt N s) f)) →
+          Inside cap (cond z (Missing s) (cond w NoPlace (cond x (placeFrom N cap b (childAt N s) f) (cond y (Found s (childAt N s)) (Missing s)))))
+      go true e w m x y ih = record { slot = l; child = omega arith }
+      go false e true m x y ih = record { slot = omega arith; child = omega arith }
+      go false e false m true y ih = ih (omega (arith, eqb-false (linkAt N s) 0 e, ltb-false cap (linkAt N s) m))
+      go false e false m false true ih = record { slot = l; child = omega (arith, eqb-false (linkAt N s) 0 e, ltb-false cap (linkAt N s) m) }
+      go false e false m false false ih = record { slot = l; child = omega arith }
+
+  abbrev ReachIn : Reach → Type 0
+  ReachIn (Leaf n s k) = (n < cap) × (s < 10 * cap)
+  ReachIn (Gap n s k) = Unit {0}
+  ReachIn Lost = Unit {0}
+
+  node-in : (n s k : ℕ) (below : Reach) → n < cap → s < 10 * cap → ReachIn below → ReachIn (atNode N cap n s k below)
+  node-in n s k below ln ls h = go (ltb innerState (getD N (stateAt cap n) 0)) (eqb (getD N (stateAt cap n) 0) freeState)
+    where
+      go : (t u : Bool) → ReachIn (cond t (Leaf n s k) (cond u Lost below))
+      go true u = (ln, ls)
+      go false true = tt
+      go false false = h
+
+  module _ (Y : List ℕ) (octets : (k : ℕ) → getD Y k 0 < 256) where
+    descend-in : (f n s k : ℕ) → n < cap → s < 10 * cap → ReachIn (descend N cap Y n s k f)
+    unfolding descend findPlace
+    descend-in zero n s k ln ls = node-in n s k Lost ln ls tt
+    descend-in (suc f) n s k ln ls =
+        node-in n s k (onward (λ c s'. descend N cap Y c s' (k + 1) f) n k (findPlace N cap n (getD Y k 0))) ln ls
+        (go (findPlace N cap n (getD Y k 0)) (place-inside (getD Y k 0) 33 (headAt cap n (getD Y k 0 / 32)) (omega (arith, octets k)))
+        (λ c s' lc ls'. descend-in f c s' (k + 1) lc ls'))
+      where
+        go : (r : Place) → Inside cap r → ((c s' : ℕ) → c < cap → s' < 10 * cap → ReachIn (descend N cap Y c s' (k + 1) f)) →
+            ReachIn (onward (λ c s'. descend N cap Y c s' (k + 1) f) n k r)
+        go (Found s' c) i ih = ih c s' (i .child) (i .slot)
+        go (Missing s') i ih = tt
+        go NoPlace i ih = tt
+
+-- ---- both tables
+abbrev pub GoneIn : ℕ → ℕ → ℕ → List ℕ → List ℕ → Gone → Type 0
+GoneIn cap lo hi N P (gone N' P' r) = Within 0 (10 * cap) N N' × Within lo hi P P'
+
+module _ (cap lo hi pcap base p : ℕ) (low : lo ≤ base) (high : base + pcap ≤ hi) where
+  at-within : (N P : List ℕ) (n s k free : ℕ) → n < cap → s < 10 * cap → GoneIn cap lo hi N P (removeAt N P cap pcap base n s k p free)
+  unfolding removeAt
+  at-within N P n s k free ln ls =
+      go (takePage P pcap base (getD N (stateAt cap n) 0 - 2) p) (take-within lo hi pcap base p low high P (getD N (stateAt cap n) 0 - 2))
+    where
+      left : (P' : List ℕ) (x : Freed) → FreedIn cap N x → Within lo hi P P' → GoneIn cap lo hi N P (goneTo P' x)
+      left P' (freed N' free') h g = (h, g)
+
+      go : (t : Took) → TookIn lo hi pcap base p low high P t → GoneIn cap lo hi N P (removeTaken N cap n s k free t)
+      go (took P' (First l)) h = left P' (setFirst N cap n s k l free) (first-within cap N n s k l free ln ls) h
+      go (took P' Amid) h = (within-same N, h)
+      go (took P' Absent) h = (within-same N, h)
+      go (took P' Torn) h = (within-same N, h)
+
+  page-within : (N P Y : List ℕ) (root free : ℕ) → root < cap → ((k : ℕ) → getD Y k 0 < 256) → GoneIn cap lo hi N P (removePage N P cap pcap base root Y p free)
+  unfolding removePage descendTo
+  page-within N P Y root free lr o = go (descendTo N cap root Y) (descend-in N cap Y o (length Y) root 0 0 lr (omega arith))
+    where
+      go : (r : Reach) → ReachIn N cap r → GoneIn cap lo hi N P (removeReached N P cap pcap base p free r)
+      go (Leaf n s k) h = at-within N P n s k free (h .0) (h .1)
+      go (Gap n s k) h = (within-same N, within-same P)
+      go Lost h = (within-same N, within-same P)
+
+-- ---- all blocks
+module _ (s : Settings) (S : List ℕ) (p : ℕ) (enough : s .blocks ≤ s .nodes) (octets : (j k : ℕ) → getD (rowBytes s j S p) k 0 < 256) where
+  abbrev pub InTries : List ℕ → List ℕ → Gone → Type 0
+  InTries = GoneIn (s .nodes) (2 * s .pages) ((2 + s .blocks) * s .pages)
+
+  block-within : (j : ℕ) → j < s .blocks → (N P : List ℕ) (free : ℕ) → InTries N P (removeBlock s S p j N P free)
+  unfolding removeBlock
+  block-within j l N P free =
+      let behind : 2 + j < 2 + s .blocks = omega arith in
+      page-within (s .nodes) (2 * s .pages) ((2 + s .blocks) * s .pages) (s .pages) (nextAt (s .pages) j) p
+      (omega (arith, link-behind (s .pages) j 0)) (rows-apart (s .pages) behind) N P (rowBytes s j S p) j free (omega arith) (octets j)
+
+  from-within : (k j : ℕ) → j + k ≤ s .blocks → (N P : List ℕ) (free : ℕ) → InTries N P (removeFrom s S p k j N P free)
+  unfolding removeFrom
+  from-within zero j l N P free = (within-same N, within-same P)
+  from-within (suc k) j l N P free =
+      go (removeBlock s S p j N P free) (block-within j (omega arith) N P free) (from-within k (suc j) (omega arith))
+    where
+      next : (N' P' : List ℕ) (r : Gone) → Within 0 (10 * s .nodes) N N' → Within (2 * s .pages) ((2 + s .blocks) * s .pages) P P' → InTries N' P' r → InTries N P r
+      next N' P' (gone N'' P'' r) a b h = (within-then a (h .0), within-then b (h .1))
+
+      go : (r : Gone) → InTries N P r → ((N' P' : List ℕ) (free' : ℕ) → InTries N' P' (removeFrom s S p k (suc j) N' P' free')) →
+          InTries N P (onRemoved (λ N' P' free'. removeFrom s S p k (suc j) N' P' free') r)
+      go (gone N' P' (Done free')) h ih = next N' P' (removeFrom s S p k (suc j) N' P' free') (h .0) (h .1) (ih N' P' free')
+      go (gone N' P' Broken) h ih = h
+
+  pub all-within : (N P : List ℕ) (free : ℕ) → InTries N P (removeAll s S p N P free)
+  unfolding removeAll
+  all-within = from-within (s .blocks) 0 (omega arith)

@@ -1,0 +1,93 @@
+-- What a drop promises, by its way out.
+use Prim.Native.Nat.{ℕ, _+_, _*_}
+use native.Mathlib.Omega.{arith}
+use mathlib.Core.Path.{_≡_, refl, sym, ap, _∙_, subst}
+use mathlib.Core.Logic.{_≢_, inl, inr}
+use mathlib.Core.List.{List, []}
+use lib.ListN.{getD}
+use Rattle.meaning.specs.Trie.{Tree}
+use Rattle.meaning.specs.Ledger.{drop}
+use Rattle.meaning.specs.Forest.{forestAfter}
+use Rattle.layout.specs.Settings.{freeAt}
+use Rattle.trie_remove.specs.declared.Removed.{Removed}
+use Rattle.trie_remove.specs.declared.Removed.the-variants.{Done, Broken}
+use Rattle.trie_remove.specs.Remove.{gone}
+use Rattle.promises.specs.Tables.{Tables, given, rowsOf}
+use Rattle.promises.specs.Answers.{number}
+use Rattle.store.specs.Sound.{Sound}
+use Rattle.store.specs.Calls.{DropPromise}
+use Rattle.drop_laws.specs.Removal.{removeAll}
+use Rattle.drop_laws.specs.After.{withTries, dropped}
+use Rattle.drop_laws.proofs.Bytes.{row-octets}
+use Rattle.drop_laws.proofs.Inside.{GoneIn, all-within}
+use Rattle.drop_laws.proofs.Admitted.{Admitted, admitted, number-same, row-in}
+use Rattle.drop_laws.proofs.Rest.{same-rest, tries-rest, dropped-rest, dropped-page}
+use Rattle.drop_laws.proofs.Sounds.{DropSound, drop-sound}
+
+-- a question said no
+pub drop-refused : (T : Tables) (p n : ℕ) → number T [] (drop p) ≡ n → n ≢ 0 → DropPromise T p n T
+drop-refused T p n e h =
+    record {
+      early = λ q. sym e;
+      sound = λ F S. record { answers = sym (number-same T F p ∙ e); page = λ z. absurd (h z); tries = λ z. absurd (h z) };
+      refused = λ q r. refl;
+      rest = same-rest T;
+      late = λ z. absurd (h (sym e ∙ z));
+    }
+
+-- the tables that a drop leaves are those that the law tells of
+told : (T : Tables) (p : ℕ) (F : List Tree) (D : DropSound T p F) (N P : List ℕ) (free : ℕ) →
+    gone N P (Done free) ≡ gone (D .nodesTo) (D .pagesTo) (Done (D .freeTo)) → Sound (dropped T p N P free) F
+told T p F D N P free e =
+    let en : N ≡ D .nodesTo = cc in
+    let ep : P ≡ D .pagesTo = cc in
+    let ef : free ≡ D .freeTo = cc in
+    rw (en, ep, ef) (D .sound)
+
+module _ (T : Tables) (p : ℕ) (z : number T [] (drop p) ≡ 0) (N P : List ℕ) (r : Removed)
+    (is : removeAll (given T) (T .sketches) p (T .nodes) (T .pages) (getD (T .settings) freeAt 0) ≡ gone N P r) where
+  known : Admitted T p
+  known = admitted T p z
+
+  within : GoneIn (given T .nodes) (2 * given T .pages) ((2 + given T .blocks) * given T .pages) (T .nodes) (T .pages) (gone N P r)
+  within =
+      subst (GoneIn (given T .nodes) (2 * given T .pages) ((2 + given T .blocks) * given T .pages) (T .nodes) (T .pages)) is
+      (all-within (given T) (T .sketches) p (known .limits .nodes-least) (row-octets (given T) (T .sketches) p (row-in T p known)) (T .nodes) (T .pages) (getD (T .settings) freeAt 0))
+
+  -- the page left every trie
+  pub drop-done : (free : ℕ) → r ≡ Done free → DropPromise T p 0 (dropped T p N P free)
+  drop-done free e =
+      record {
+        early = λ h. absurd (h z);
+        sound = λ F S. record {
+          answers = sym (number-same T F p ∙ z);
+          page = λ q. dropped-page T N P (within .0) (within .1) p free (known .page);
+          tries = λ q. tries F S;
+        };
+        refused = λ h. absurd (h refl);
+        rest = dropped-rest T N P (within .0) (within .1) p free (known .page);
+        late = λ q. inl refl;
+      }
+    where
+      tries : (F : List Tree) → Sound T F → Sound (dropped T p N P free) (forestAfter (given T) (rowsOf T) (drop p) F)
+      tries F S =
+          let D = drop-sound T F S p known in
+          told T p (forestAfter (given T) (rowsOf T) (drop p) F) D N P free (ap (gone N P) (sym e) ∙ sym is ∙ D .is)
+
+  -- a link led outside: the store was not sound
+  pub drop-broken : r ≡ Broken → DropPromise T p 14 (withTries T N P)
+  drop-broken e =
+      record {
+        early = λ h. absurd (h z);
+        sound = λ F S. absurd (never F S);
+        refused = λ h q. absurd (q refl);
+        rest = tries-rest T N P (within .0) (within .1);
+        late = λ q. inr refl;
+      }
+    where
+      never : (F : List Tree) → Sound T F → ⊥
+      never F S =
+          let D = drop-sound T F S p known in
+          let both : gone N P Broken ≡ gone (D .nodesTo) (D .pagesTo) (Done (D .freeTo)) = ap (gone N P) (sym e) ∙ sym is ∙ D .is in
+          let x : _≡_ {A = ℕ} 0 1 = cc in
+          omega arith

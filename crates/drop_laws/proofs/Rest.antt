@@ -1,0 +1,71 @@
+-- On any tables: what a drop leaves outside the tries.
+use Prim.Native.Nat.{ℕ, _+_, _*_, _<_}
+use native.Mathlib.Omega.{arith}
+use mathlib.Core.Path.{refl, sym, ap, _∙_}
+use mathlib.Core.List.{List}
+use lib.ListN.{set, length-set}
+use lib.Seq.{take-set-le, drop-set-lt, take-set-lt}
+use Rattle.layout.specs.Settings.{freeAt}
+use Rattle.layout.specs.Lengths.{nodesLength, pagesLength}
+use Rattle.layout.specs.Pages.{withoutPage}
+use Rattle.layout.proofs.Words.{live-inside}
+use Rattle.promises.specs.Tables.{Tables, given}
+use Rattle.store.specs.Calls.{SameRest, PageDropped}
+use Rattle.drop_laws.specs.After.{withTries, dropped}
+use Rattle.drop_laws.proofs.Inside.{Within}
+
+pub same-rest : (T : Tables) → SameRest T T
+same-rest T = record {
+  settings = refl;
+  nodes = refl;
+  pages = refl;
+  sketches = refl;
+  working = refl;
+  header = refl;
+  settings-rest = refl;
+  nodes-rest = refl;
+  pages-rest = refl;
+}
+
+module _ (T : Tables) (N P : List ℕ) (nodes : Within 0 (10 * given T .nodes) (T .nodes) N)
+    (pages : Within (2 * given T .pages) ((2 + given T .blocks) * given T .pages) (T .pages) P) where
+  pub tries-rest : SameRest T (withTries T N P)
+  unfolding nodesLength pagesLength
+  tries-rest = record {
+    settings = refl;
+    nodes = nodes .long;
+    pages = pages .long;
+    sketches = refl;
+    working = refl;
+    header = refl;
+    settings-rest = refl;
+    nodes-rest = nodes .rest;
+    pages-rest = pages .rest;
+  }
+
+  module _ (p free : ℕ) (page : p < given T .pages) where
+    pub dropped-rest : SameRest T (dropped T p N P free)
+    unfolding nodesLength pagesLength withoutPage
+    dropped-rest = record {
+      settings = length-set (T .settings) freeAt free;
+      nodes = nodes .long;
+      pages = length-set P p 0 ∙ pages .long;
+      sketches = refl;
+      working = refl;
+      header = take-set-le freeAt (T .settings) freeAt free (omega arith);
+      settings-rest = drop-set-lt (freeAt + 1) (T .settings) freeAt free (omega arith);
+      nodes-rest = nodes .rest;
+      pages-rest = drop-set-lt (pagesLength (given T)) P p 0 (live-inside (given T) page) ∙ pages .rest;
+    }
+
+    pub dropped-page : PageDropped T (dropped T p N P free) p
+    unfolding withoutPage
+    dropped-page =
+        let inside : p < 2 * given T .pages = omega arith in
+        record {
+          pages =
+              take-set-lt (2 * given T .pages) P p 0 inside
+              ∙ ap (λ (l : List ℕ). set l p 0) (pages .front)
+              ∙ sym (take-set-lt (2 * given T .pages) (T .pages) p 0 inside);
+          sketches = refl;
+        }

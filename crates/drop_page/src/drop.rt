@@ -1,0 +1,35 @@
+// The call that drops a page.
+ghost use mathlib.Core.List.{[]};
+ghost use Rattle.promises.specs.Tables.{tables};
+ghost use Rattle.store.specs.Calls.{DropPromise};
+use crate::blocks;
+use crate::questions;
+use layout::Opening;
+use trie_remove::Removed;
+
+// Takes the page out of each block's trie and strikes it out. Gives the number of the first "no", or 0.
+pub fn drop_page(
+    settings: &mut [u32],
+    nodes: &mut [u32],
+    pages: &mut [u32],
+    sketches: &[u8],
+    page: u32,
+) -> u32
+    ensures { λ r. ⌜ DropPromise (tables (now (settings .entry)) (now (nodes .entry)) (now (pages .entry)) (now (sketches .entry)) []) page r (tables (now (settings .exit)) (now (nodes .exit)) (now (pages .exit)) (now (sketches .entry)) []) ⌝ }
+{
+    let h = match questions::admit(settings, nodes, pages, sketches, page) {
+        Opening::Refused(number) => return number,
+        Opening::Shown(h) => h,
+    };
+    let free = layout::settings::free_link(settings);
+    let p = page as usize;
+    let removed = blocks::remove_all(nodes, pages, sketches, h, p, free);
+    match removed {
+        Removed::Done(link) => {
+            layout::settings::set_free_link(settings, link);
+            layout::pages::strike_page(pages, p);
+            0
+        }
+        Removed::Broken => 14,
+    }
+}
