@@ -1,15 +1,15 @@
 -- The walks of the blocks: what a walk asks of the tables, and the loop over the blocks.
-use Prim.Native.Nat.{ℕ, suc, _+_, _-_, _*_, _/_, _≤_, _<_}
+use Prim.Native.Nat.{ℕ, suc, _+_, _-_, _/_, _≤_, _<_}
 use native.Mathlib.Omega.{arith}
 use native.Mathlib.Nat.{suc-mul, mul-le-mul-right}
 use native.Mathlib.Numerals.{add-one}
-use mathlib.Core.Path.{_≡_, refl, sym, ap, _∙_}
+use mathlib.Core.Path.{_≡_, refl, sym, _∙_}
 use mathlib.Core.Bool.{Bool, true, false}
 use mathlib.Core.List.{List}
-use lib.ListN.{length, take, drop, length-take}
+use lib.ListN.{length, take, drop}
 use lib.Seq.{take-at}
 use Rattle.meaning.specs.Lists.{onto}
-use Rattle.meaning.specs.Sketch.{inRange, pack, packedLength, block, blockLength}
+use Rattle.meaning.specs.Sketch.{pack, packedLength, block, blockLength}
 use Rattle.meaning.specs.Forest.{bytesOfSketch}
 use Rattle.layout.specs.declared.Header.{Header}
 use Rattle.layout.specs.Header.{bare}
@@ -19,7 +19,7 @@ use Rattle.layout.specs.Working.{mapWords, summaryWords}
 use Rattle.layout.proofs.Sizes.{map-most, pages-mapped}
 use Rattle.sketch_laws.proofs.Packing.{per-byte-pos, byte-there, packed-most}
 use Rattle.sketch_laws.proofs.Blocks.{block-end, block-pos, block-packed}
-use Rattle.walk.specs.Walk.{Given, given, Fitting, Walked, walked, walkFrom}
+use Rattle.walk.specs.Walk.{given, Fitting, Walked, walked, walkFrom}
 use Rattle.search_laws.specs.Marks.{walkOf, markBlock, markFrom, markBlocks}
 use Rattle.search.specs.Ready.{Fits, Lent}
 

@@ -1,7 +1,7 @@
 -- 5 and 6 of a search, by the tests on the way, and what an opening that they show tells.
 use Prim.Native.Nat.{ℕ, _≤_}
 use native.Mathlib.Omega.{arith}
-use mathlib.Core.Path.{_≡_, refl, sym, ap, _∙_}
+use mathlib.Core.Path.{_≡_, refl, ap, _∙_}
 use mathlib.Core.Bool.{Bool, true, false, cond, _&&_}
 use mathlib.Core.Logic.{_≢_}
 use mathlib.Core.List.{List, []}
@@ -11,11 +11,9 @@ use lib.ListN.{length}
 use Rattle.meaning.specs.Refusal.{firstNo}
 use Rattle.meaning.specs.Ledger.{Settings}
 use Rattle.layout.specs.declared.Header.{Header}
-use Rattle.layout.specs.declared.Opening.{Opening}
 use Rattle.layout.specs.declared.Opening.the-variants.{Shown, Refused}
 use Rattle.layout.specs.Header.{openingOf, headerOf, pick, bare}
 use Rattle.layout.specs.Settings.{settingsLength}
-use Rattle.layout.specs.Limits.{HeaderLimits}
 use Rattle.layout.specs.Lengths.{nodesLength, pagesLength, sketchesLength, workingLength}
 use Rattle.layout.specs.Working.{mapWords, summaryWords}
 use Rattle.layout.proofs.Openings.{shown, shows, shown-number, refused-number, refused-range}

@@ -1,10 +1,10 @@
 -- A search keeps its promise, by the way out.
-use Prim.Native.Nat.{ℕ, _+_, _≤_, _<_}
+use Prim.Native.Nat.{ℕ, _+_, _≤_}
 use native.Mathlib.Omega.{arith}
 use mathlib.Core.Path.{_≡_, refl, sym, ap, _∙_}
 use mathlib.Core.Bool.{Bool, true, false, cond, _&&_}
 use mathlib.Core.Logic.{_≢_, _⊎_, inl, inr}
-use mathlib.Core.List.{List, [], _∷_, _++_}
+use mathlib.Core.List.{List, [], _∷_}
 use borrow.Author.Tests.{le-leb, ne-eqb}
 use lib.Dec.{leb, eqb}
 use lib.ListN.{length, replicate}
@@ -34,8 +34,8 @@ use Rattle.store.specs.Calls.{workingLeft, listedOf, Lists, earlyNumber, Search
 use Rattle.search_laws.specs.Marks.{markBlocks}
 use Rattle.search_laws.specs.Answer.{Answered}
 use Rattle.search_laws.proofs.Marks.{zeroed-onto, zeroed-again}
-use Rattle.search_laws.proofs.Lists.{words, cleared, walks, foundIn, list-met, walks-whole, list-all}
-use Rattle.search.specs.Ready.{Fits, Lent}
+use Rattle.search_laws.proofs.Lists.{words, walks, foundIn, list-met, walks-whole, list-all}
+use Rattle.search.specs.Ready.{Fits}
 use Rattle.search.specs.Questions.{tablesAsked, entry, queryAsked}
 use Rattle.search.proofs.Enters.{entry-refused, Entered, entry-shown}
 use Rattle.search.proofs.Queries.{query-passed}

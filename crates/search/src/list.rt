@@ -1,4 +1,4 @@
-// The answer of a search: its number, and how many pages it found.
+// The last part of a search: the hits are listed, or only counted where the output is too short for them.
 ghost use mathlib.Core.Path.{_≡_};
 ghost use Prim.Native.Nat.{_+_};
 ghost use Rattle.words.specs.Bits.{zeroed};
@@ -9,7 +9,7 @@ use crate::search::Found;
 use layout::Header;
 use rights::Classes;
 
-// Lists the marked pages that are hits, or gives 13 with their count where the output is too short; clears the maps.
+// Lists the marked pages that are hits, or gives 13 with their count. Clears the maps.
 pub fn list_hits(
     map: &mut [u32],
     words: usize,

@@ -71,6 +71,7 @@ fn find(
     )
 }
 
+// Asks 5, 6, 7, 10 and 11, then searches. Past 6, refused or not, the needed part of the working table is 0 afterwards.
 pub fn search(
     settings: &[u32],
     nodes: &[u32],

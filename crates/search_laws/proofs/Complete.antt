@@ -1,29 +1,27 @@
 -- On a sound store every page that a search is to list is met by the walk of some block.
-use Prim.Native.Nat.{ℕ, _+_, _*_, _/_, _≤_, _<_}
+use Prim.Native.Nat.{ℕ, _≤_, _<_}
 use native.Mathlib.Omega.{arith}
 use native.Mathlib.Nat.{zero-add}
 use mathlib.Core.Path.{_≡_, refl, sym, ap, _∙_}
-use mathlib.Core.Bool.{Bool, true, _&&_}
-use mathlib.Core.List.{List, map}
+use mathlib.Core.Bool.{true}
+use mathlib.Core.List.{List}
 use lib.Dec.{ltb, leb, eqb}
 use lib.ListN.{length, getD, length-map}
-use borrow.Author.Tests.{lt-ltb, ltb-true, leb-true}
+use borrow.Author.Tests.{lt-ltb, leb-true}
 use Rattle.meaning.specs.Lists.{any}
-use Rattle.meaning.specs.Sketch.{distance, inRange, pack, packedLength, block, blockLength}
-use Rattle.meaning.specs.Trie.{Tree, fresh, met}
+use Rattle.meaning.specs.Sketch.{distance, inRange, blockLength}
+use Rattle.meaning.specs.Trie.{Tree, fresh}
 use Rattle.meaning.specs.Forest.{blockBytes, bytesOfSketch, metFrom}
 use Rattle.layout.specs.Header.{headerOf}
 use Rattle.layout.specs.Limits.{HeaderLimits}
 use Rattle.layout.specs.Lengths.{sketchesLength}
-use Rattle.layout.specs.Pages.{isLive, rowOf}
+use Rattle.layout.specs.Pages.{isLive}
 use Rattle.layout.proofs.Rows.{row-inside, length-row}
 use Rattle.layout.proofs.Tests.{and-left, and-right, and-both}
 use Rattle.rights.specs.Register.{opens}
 use Rattle.sketch_laws.proofs.Walk.{met-somewhere}
-use Rattle.sketch_laws.specs.Paths.{OnPath, Shallow}
 use Rattle.sketch_laws.specs.Paths.{pagesIn as pagesUpon}
 use Rattle.trie.specs.Phys.{tree}
-use Rattle.trie_laws.specs.Sound.{pagesIn}
 use Rattle.trie_laws.specs.Block.{SoundBlock}
 use Rattle.trie_laws.proofs.Block.{each-get}
 use Rattle.trie_laws.proofs.Pages.{stands-any}

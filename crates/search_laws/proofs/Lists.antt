@@ -1,8 +1,8 @@
 -- What a search lists: on any tables pages that it met and that it is to list, on a sound store all that it is to list.
-use Prim.Native.Nat.{ℕ, _+_, _*_, _/_, _≤_, _<_}
+use Prim.Native.Nat.{ℕ, _+_, _≤_, _<_}
 use native.Mathlib.Omega.{arith}
-use mathlib.Core.Path.{_≡_, refl, sym, ap, _∙_}
-use mathlib.Core.Bool.{Bool, true, false, _||_}
+use mathlib.Core.Path.{_≡_, ap, _∙_}
+use mathlib.Core.Bool.{true}
 use mathlib.Core.List.{List, map}
 use lib.Dec.{ltb, eqb}
 use lib.ListN.{length}
@@ -10,7 +10,7 @@ use borrow.Author.Tests.{ltb-true}
 use Rattle.meaning.specs.Lists.{all, any}
 use Rattle.meaning.specs.Sketch.{inRange}
 use Rattle.meaning.specs.Trie.{Tree}
-use Rattle.meaning.specs.Forest.{metFrom, totalNodes}
+use Rattle.meaning.specs.Forest.{metFrom}
 use Rattle.words.specs.Bits.{flag, zeroed}
 use Rattle.words.proofs.Flags.{length-zeroed}
 use Rattle.layout.specs.Header.{headerOf, bare}
@@ -21,12 +21,10 @@ use Rattle.layout.specs.Pages.{isLive}
 use Rattle.layout.proofs.Sizes.{pages-mapped}
 use Rattle.layout.proofs.Tests.{and-left}
 use Rattle.trie_laws.proofs.Lists.{or-second}
-use Rattle.trie.specs.Phys.{tree}
 use Rattle.promises.specs.Tables.{Tables, given, scan}
 use Rattle.hits.specs.Hit.{isHit}
-use Rattle.hits.specs.Marks.{summaryOf, Room, Summarised, listOf, keptMap}
+use Rattle.hits.specs.Marks.{summaryOf, Room, listOf, keptMap}
 use Rattle.hits.proofs.Listed.{testOf, wanted, list-wanted, list-scan}
-use Rattle.hits.proofs.Summary.{summarised-clear}
 use Rattle.store.specs.Sound.{Sound, livePage, pageBytes}
 use Rattle.store.specs.Calls.{listedOf}
 use Rattle.walk.specs.Mark.{markAll}

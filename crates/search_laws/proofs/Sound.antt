@@ -1,5 +1,5 @@
 -- On tables that hold a sound trie for each block the walks mark exactly what the tries meet.
-use Prim.Native.Nat.{ℕ, zero, suc, _+_, _*_, _/_, _^_, _≤_, _<_}
+use Prim.Native.Nat.{ℕ, suc, _+_, _*_, _/_, _^_, _≤_, _<_}
 use native.Mathlib.Omega.{arith}
 use native.Mathlib.Nat.{lt-of-lt-of-le, mul-le-mul-left, min-le-left}
 use mathlib.Core.Path.{_≡_, refl, sym, ap, _∙_}
@@ -22,7 +22,6 @@ use Rattle.sketch_laws.proofs.Blocks.{block-length, block-range, block-packed}
 use Rattle.trie.specs.Heap.{Holds}
 use Rattle.trie.specs.Phys.{Phys, root, tree, cells}
 use Rattle.trie.specs.Phys.{Sound as SoundNodes}
-use Rattle.trie_laws.specs.Sound.{pagesIn}
 use Rattle.trie_laws.specs.Block.{SoundBlock, EachFrom}
 use Rattle.trie_laws.proofs.Lists.{and-intro, all-append, count-upto}
 use Rattle.trie_laws.proofs.Pages.{stands-length}
