@@ -90,14 +90,15 @@ pub record Lists (found : List ℕ) (before : List ℕ) (n count : ℕ) (after :
   pub counted : count ≡ length found
   pub output : after ≡ outputLeft n found before
 
+-- 5, 6, 7, 10 and 11 are asked of any tables: 13 is left out by an output that is long enough
+abbrev pub earlyNumber : Tables → ℕ → ℕ → List ℕ → ℕ
+earlyNumber T reader radius x = number T [] (search reader radius x (scan T reader radius x))
+
 pub record SearchPromise (T : Tables) (reader radius : ℕ) (x before : List ℕ) (n count : ℕ) (after working : List ℕ) : Type 0 where
-  -- 5, 6, 7, 10 and 11 are asked of any tables: 13 is left out by an output that is long enough
-  pub early : number T [] (search reader radius x (scan T reader radius x)) ≢ 0 → n ≡ number T [] (search reader radius x (scan T reader radius x))
-  pub sound : (F : List Tree) → Sound T F → number T [] (search reader radius x (scan T reader radius x)) ≡ 0
-      → Lists (scan T reader radius x) before n count after
+  pub early : earlyNumber T reader radius x ≢ 0 → n ≡ earlyNumber T reader radius x
+  pub sound : (F : List Tree) → Sound T F → earlyNumber T reader radius x ≡ 0 → Lists (scan T reader radius x) before n count after
   -- on unsound tables which pages it meets is left open, and it may be refused by 14
-  pub open-list : number T [] (search reader radius x (scan T reader radius x)) ≡ 0
-      → (n ≡ 14) ⊎ ((met : ℕ → Bool) × Lists (listedOf met T reader radius x) before n count after)
+  pub open-list : earlyNumber T reader radius x ≡ 0 → (n ≡ 14) ⊎ ((met : ℕ → Bool) × Lists (listedOf met T reader radius x) before n count after)
   pub refused : n ≢ 0 → n ≢ 13 → (count ≡ 0) × (after ≡ before)
   pub working-left : working ≡ workingLeft T (search reader radius x before)
 

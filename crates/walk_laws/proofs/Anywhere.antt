@@ -29,7 +29,7 @@ pub record Marking (words cap : ℕ) (map after : List ℕ) : Type 0 where
   pub same : after ≡ markAll map words pages
 
 module _ (words cap : ℕ) where
-  none-marked : (map : List ℕ) → Marking words cap map map
+  pub none-marked : (map : List ℕ) → Marking words cap map map
   unfolding markAll all
   none-marked map = record { pages = []; small = refl; same = refl }
 
@@ -41,7 +41,7 @@ module _ (words cap : ℕ) where
     same = m .same;
   }
 
-  then-marked : (map mid after : List ℕ) → Marking words cap map mid → Marking words cap mid after → Marking words cap map after
+  pub then-marked : (map mid after : List ℕ) → Marking words cap map mid → Marking words cap mid after → Marking words cap map after
   then-marked map mid after m n = record {
     pages = m .pages ++ n .pages;
     small = all-append (λ p. ltb p cap) (m .pages) (n .pages)

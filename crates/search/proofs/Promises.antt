@@ -1,0 +1,166 @@
+-- A search keeps its promise, by the way out.
+use Prim.Native.Nat.{ℕ, _+_, _≤_}
+use native.Mathlib.Omega.{arith}
+use mathlib.Core.Path.{_≡_, refl, sym, ap, _∙_}
+use mathlib.Core.Bool.{Bool, true, false, cond, _&&_}
+use mathlib.Core.Logic.{_≢_, _⊎_, inl, inr}
+use mathlib.Core.List.{List, [], _∷_}
+use borrow.Author.Tests.{le-leb, ne-eqb}
+use lib.Dec.{leb, eqb}
+use lib.ListN.{length, replicate}
+use Rattle.meaning.specs.Lists.{onto}
+use Rattle.meaning.specs.Refusal.{Question, ask, firstNo}
+use Rattle.meaning.specs.Sketch.{inRange}
+use Rattle.meaning.specs.Trie.{Tree}
+use Rattle.meaning.specs.Ledger.{search}
+use Rattle.meaning.specs.Questions.{asked}
+use Rattle.words.specs.Bits.{flag, zeroed}
+use Rattle.layout.specs.declared.Header.{Header}
+use Rattle.layout.specs.declared.Opening.the-variants.{Shown, Refused}
+use Rattle.layout.specs.Settings.{settingsLength, showsOpening}
+use Rattle.layout.specs.Header.{headerOf, bare}
+use Rattle.layout.specs.Lengths.{sketchesLength, workingLength}
+use Rattle.layout.specs.Limits.{HeaderLimits}
+use Rattle.layout.specs.Working.{mapWords, summaryWords}
+use Rattle.layout.proofs.Sizes.{same-lengths}
+use Rattle.rights.specs.Open.{openClasses}
+use Rattle.promises.specs.Tables.{Tables, given, byTables, scan}
+use Rattle.promises.specs.Answers.{number, entered, shown56, longSettings, longNodes, longPages, longWorking, longFor}
+use Rattle.hits.specs.Hit.{test, isHit}
+use Rattle.hits.specs.Marks.{summaryOf, Room}
+use Rattle.hits.proofs.Listed.{testOf}
+use Rattle.store.specs.Sound.{Sound}
+use Rattle.store.specs.Calls.{workingLeft, listedOf, Lists, earlyNumber, SearchPromise}
+use Rattle.search_laws.specs.Marks.{markBlocks}
+use Rattle.search_laws.specs.Answer.{Answered}
+use Rattle.search_laws.proofs.Marks.{zeroed-onto, zeroed-again}
+use Rattle.search_laws.proofs.Lists.{words, walks, foundIn, list-met, walks-whole, list-all}
+use Rattle.search.specs.Ready.{Fits}
+use Rattle.search.specs.Questions.{tablesAsked, entry, queryAsked}
+use Rattle.search.proofs.Enters.{entry-refused, Entered, entry-shown}
+use Rattle.search.proofs.Queries.{query-passed}
+use Rattle.search.proofs.Walked.{lent-room}
+
+-- ---- past 11, by the walks
+module _ (T : Tables) (reader radius : ℕ) (x before : List ℕ) (n count : ℕ) (after : List ℕ)
+    (a : Answered (walks T reader radius x) (isHit (testOf T reader radius x)) (words T reader radius x) before n count after) where
+  answer-refused : n ≢ 0 → n ≢ 13 → (count ≡ 0) × (after ≡ before)
+  answer-refused k l = go (walks T reader radius x .whole) refl
+    where
+      neither : (t : Bool) → n ≡ cond t 0 13 → ⊥
+      neither true z = k z
+      neither false z = l z
+
+      go : (t : Bool) → walks T reader radius x .whole ≡ t → (count ≡ 0) × (after ≡ before)
+      go true z = absurd (neither (leb (length (foundIn T reader radius x (walks T reader radius x .map))) (length before)) (a .listed z .refusal))
+      go false z = let s = a .stopped z in (s .1, s .2)
+
+  module _ (room : Room (T .working) (words T reader radius x)) where
+    answer-open : (n ≡ 14) ⊎ ((met : ℕ → Bool) × Lists (listedOf met T reader radius x) before n count after)
+    answer-open = go (walks T reader radius x .whole) refl
+      where
+        go : (t : Bool) → walks T reader radius x .whole ≡ t
+            → (n ≡ 14) ⊎ ((met : ℕ → Bool) × Lists (listedOf met T reader radius x) before n count after)
+        go true z = inr (flag (walks T reader radius x .map) 0, rw (list-met T reader radius x room) at (a .listed z))
+        go false z = inl (a .stopped z .0)
+
+    answer-sound : HeaderLimits (headerOf (given T)) → sketchesLength (given T) ≤ length (T .sketches) → length x ≡ given T .symbols
+        → inRange (given T .bits) x ≡ true → (F : List Tree) → Sound T F → Lists (scan T reader radius x) before n count after
+    answer-sound limits rows c r F s =
+        rw (list-all T reader radius x room limits rows c r F s) at
+        (a .listed (ap (λ v. v .whole) (walks-whole T reader radius x room limits rows c r F s)))
+
+-- ---- the questions
+-- two questions ahead of others
+two-first : (s t : Bool) (qs : List Question)
+    → firstNo (ask 5 s ∷ ask 6 t ∷ qs) ≡ cond (eqb (firstNo (ask 5 s ∷ ask 6 t ∷ [])) 0) (firstNo qs) (firstNo (ask 5 s ∷ ask 6 t ∷ []))
+unfolding firstNo
+two-first true true qs = refl
+two-first true false qs = refl
+two-first false t qs = refl
+
+module _ (T : Tables) (reader radius : ℕ) (x before : List ℕ) where
+  abbrev early : ℕ
+  early = earlyNumber T reader radius x
+
+  -- an output as long as the list leaves 13 out
+  query-first : firstNo (asked (byTables T []) (search reader radius x (scan T reader radius x))) ≡ firstNo (queryAsked (headerOf (given T)) reader radius x)
+  unfolding asked byTables queryAsked firstNo
+  query-first = rw (le-leb (length (scan T reader radius x)) (length (scan T reader radius x)) (omega arith)) refl
+
+  early-split : early ≡ cond (eqb (firstNo (tablesAsked T)) 0) (firstNo (queryAsked (headerOf (given T)) reader radius x)) (firstNo (tablesAsked T))
+  unfolding number entered shown56 longSettings longFor tablesAsked
+  early-split =
+      two-first (leb settingsLength (length (T .settings))) (showsOpening (T .settings) && (longNodes (given T) T && longPages (given T) T && longWorking (given T) T))
+      (asked (byTables T []) (search reader radius x (scan T reader radius x)))
+      ∙ ap (λ n. cond (eqb (firstNo (tablesAsked T)) 0) n (firstNo (tablesAsked T))) query-first
+
+  left-split : (after : List ℕ) → workingLeft T (search reader radius x after)
+      ≡ cond (eqb (firstNo (tablesAsked T)) 0) (onto (replicate (workingLength (given T)) 0) (T .working)) (T .working)
+  unfolding workingLeft entered shown56 longSettings longFor tablesAsked
+  left-split after = refl
+
+  -- 5 or 6
+  pub promise-tables : (n : ℕ) → entry T ≡ Refused n → SearchPromise T reader radius x before n 0 before (T .working)
+  promise-tables n e =
+      let r = entry-refused T n e in
+      let same : early ≡ n = early-split ∙ rw (r .0, ne-eqb n 0 (r .1)) refl in
+      record {
+        early = λ h. sym same;
+        sound = λ F s z. absurd (r .1 (sym same ∙ z));
+        open-list = λ z. absurd (r .1 (sym same ∙ z));
+        refused = λ h g. (refl, refl);
+        working-left = sym (left-split before ∙ rw (r .0, ne-eqb n 0 (r .1)) refl);
+      }
+
+  -- past 5 and 6 the needed part of the working table is cleared
+  module _ (h : Header) (e : entry T ≡ Shown h) where
+    abbrev in-order : Entered T h
+    in-order = entry-shown T h e
+
+    early-query : early ≡ firstNo (queryAsked h reader radius x)
+    early-query = early-split ∙ rw (in-order .none, in-order .header) refl
+
+    left-cleared : zeroed (T .working) 0 (mapWords (bare h) + summaryOf (mapWords (bare h))) ≡ workingLeft T (search reader radius x before)
+    unfolding workingLength summaryWords
+    left-cleared =
+        zeroed-onto (mapWords (bare h) + summaryOf (mapWords (bare h))) (T .working)
+        ∙ ap (λ k. onto (replicate k 0) (T .working)) (same-lengths (given T) h (in-order .header) .working)
+        ∙ sym (left-split before ∙ rw (in-order .none) refl)
+
+    module _ (w : ℕ) (f : w ≡ mapWords (bare h)) (marks : List ℕ) (g : marks ≡ zeroed (T .working) 0 (w + summaryOf w)) where
+      -- 7, 10 or 11
+      pub promise-query : (n : ℕ) → n ≡ firstNo (queryAsked h reader radius x) → n ≢ 0 → SearchPromise T reader radius x before n 0 before marks
+      promise-query n q some =
+          let same : early ≡ n = early-query ∙ sym q in
+          record {
+            early = λ k. sym same;
+            sound = λ F s z. absurd (some (sym same ∙ z));
+            open-list = λ z. absurd (some (sym same ∙ z));
+            refused = λ k l. (refl, refl);
+            working-left = g ∙ ap (λ v. zeroed (T .working) 0 (v + summaryOf v)) f ∙ left-cleared;
+          }
+
+      -- past 11
+      pub promise-found : firstNo (queryAsked h reader radius x) ≡ 0 → (n count : ℕ) (after working : List ℕ)
+          → Answered (markBlocks h (T .nodes) (T .pages) x radius marks) (isHit (test (T .pages) (T .sketches) h (openClasses (T .settings) reader) x radius)) w before n count after
+          → working ≡ zeroed marks 0 (w + summaryOf w) → SearchPromise T reader radius x before n count after working
+      promise-found q n count after working a z =
+          let i = rw (← in-order .header) at in-order in
+          let fits : Fits (headerOf (given T)) x = rw (← in-order .header) at (query-passed h reader radius x q .1) in
+          let b : Answered (walks T reader radius x) (isHit (testOf T reader radius x)) (words T reader radius x) before n count after =
+          rw (g, f, ← in-order .header) at a in
+          let rows : sketchesLength (given T) ≤ length (T .sketches) = rw (same-lengths (given T) h (in-order .header) .sketches) at (in-order .rows) in
+          let room = lent-room (headerOf (given T)) (T .nodes) (T .pages) (T .working) (i .lent) (words T reader radius x) refl in
+          record {
+            early = λ k. absurd (k (early-query ∙ q));
+            sound = λ F s y. answer-sound T reader radius x before n count after b room (i .lent .limits) rows (fits .count) (fits .range) F s;
+            open-list = λ y. answer-open T reader radius x before n count after b room;
+            refused = answer-refused T reader radius x before n count after b;
+            working-left =
+                z
+                ∙ ap (λ m. zeroed m 0 (w + summaryOf w)) g
+                ∙ zeroed-again (w + summaryOf w) (T .working)
+                ∙ ap (λ v. zeroed (T .working) 0 (v + summaryOf v)) f
+                ∙ left-cleared;
+          }

@@ -1,0 +1,82 @@
+-- After the walks of the blocks: the maps that they leave, and what the search answers by them.
+use Prim.Native.Nat.{ℕ, _+_, _*_, _≤_}
+use native.Mathlib.Omega.{arith}
+use mathlib.Core.Path.{_≡_, refl, sym, ap, _∙_}
+use mathlib.Core.Bool.{Bool, true, false, false≢true}
+use mathlib.Core.List.{List}
+use lib.ListN.{length}
+use Rattle.words.specs.Bits.{zeroed}
+use Rattle.words.proofs.Flags.{length-zeroed}
+use Rattle.layout.specs.declared.Header.{Header}
+use Rattle.layout.specs.Header.{bare}
+use Rattle.layout.specs.Lengths.{sketchesLength, workingLength}
+use Rattle.layout.specs.Working.{mapWords, summaryWords}
+use Rattle.layout.proofs.Sizes.{map-most, pages-mapped}
+use Rattle.rights.specs.declared.Classes.{Classes}
+use Rattle.hits.specs.Hit.{test, Fitting, isHit}
+use Rattle.hits.specs.Marks.{summaryOf, Room, Summarised, listOf, keptMap}
+use Rattle.hits.proofs.Summary.{summarised-clear}
+use Rattle.store.specs.Calls.{Lists}
+use Rattle.walk.specs.Walk.{walked}
+use Rattle.walk_laws.proofs.Anywhere.{Marking}
+use Rattle.search_laws.specs.Marks.{markBlocks}
+use Rattle.search_laws.specs.Answer.{Answered}
+use Rattle.search_laws.proofs.Marks.{blocks-marking, marking-room, marking-summarised, marking-clears}
+use Rattle.search.specs.Ready.{Fits, Lent}
+use Rattle.search.proofs.Blocks.{lent-kept}
+
+pub lent-room : (h : Header) (N P M : List ℕ) → Lent h N P M → (words : ℕ) → words ≡ mapWords (bare h) → Room M words
+unfolding workingLength summaryWords
+lent-room h N P M lent words f =
+    rw f (record { most = map-most (bare h) (lent .limits); long = lent .working-long })
+
+-- the maps are cleared before the walks
+module _ (h : Header) (N P M : List ℕ) (lent : Lent h N P M) (words : ℕ) (f : words ≡ mapWords (bare h))
+    (cleared : List ℕ) (g : cleared ≡ zeroed M 0 (words + summaryOf words)) where
+  pub cleared-lent : Lent h N P cleared
+  cleared-lent =
+      lent-kept h N P M cleared lent
+      (rw g (length-zeroed M 0 (words + summaryOf words) (omega (arith, lent-room h N P M lent words f .long))))
+
+  pub cleared-summary : Summarised cleared words
+  cleared-summary = rw g (summarised-clear M words (lent-room h N P M lent words f))
+
+pub test-fits : (h : Header) (N P S M x : List ℕ) (k : Classes) (radius : ℕ) → Lent h N P M → Fits h x → sketchesLength (bare h) ≤ length S
+    → Fitting (test P S h k x radius)
+test-fits h N P S M x k radius lent fits rows =
+    record { limits = lent .limits; pages = lent .pages-long; sketches = rows; query = fits .count }
+
+module _ (h : Header) (N P M x : List ℕ) (radius words : ℕ) (lent : Lent h N P M) (f : words ≡ mapWords (bare h))
+    (after : List ℕ) (t : Bool) (e : walked after t ≡ markBlocks h N P x radius M) where
+  marking : Marking words (h .pages) M after
+  marking =
+      let same : after ≡ markBlocks h N P x radius M .map = ap (λ w. w .map) e in
+      rw (f, same) (blocks-marking h N P x radius M)
+
+  bits : h .pages ≤ 32 * words
+  bits = rw f (pages-mapped (bare h))
+
+  pub walked-room : Room after words
+  walked-room = marking-room words (h .pages) bits marking (lent-room h N P M lent words f)
+
+  pub walked-summary : Summarised M words → Summarised after words
+  walked-summary = marking-summarised words (h .pages) bits marking (lent-room h N P M lent words f)
+
+  pub walked-clears : zeroed after 0 (words + summaryOf words) ≡ zeroed M 0 (words + summaryOf words)
+  walked-clears = marking-clears words (h .pages) bits marking
+
+  module _ (hit : ℕ → Bool) (before : List ℕ) where
+    pub answers-stopped : t ≡ false → Answered (markBlocks h N P x radius M) hit words before 14 0 before
+    answers-stopped g =
+        rw (← e) (record { stopped = λ z. (refl, refl, refl); listed = λ z. absurd (false≢true (sym g ∙ z)) })
+
+    answers-listed : t ≡ true → (n count : ℕ) (out : List ℕ) → Lists (listOf (keptMap hit after words) words) before n count out
+        → Answered (markBlocks h N P x radius M) hit words before n count out
+    answers-listed g n count out l =
+        rw (← e) (record { stopped = λ z. absurd (false≢true (sym z ∙ g)); listed = λ z. l })
+
+  -- with the classes as they were found
+  pub answers-open : (S : List ℕ) (k granted : Classes) → k ≡ granted → t ≡ true → (before : List ℕ) (n count : ℕ) (out : List ℕ)
+      → Lists (listOf (keptMap (isHit (test P S h k x radius)) after words) words) before n count out
+      → Answered (markBlocks h N P x radius M) (isHit (test P S h granted x radius)) words before n count out
+  answers-open S k granted same g before n count out l = rw (← same) (answers-listed (isHit (test P S h k x radius)) before g n count out l)

@@ -1,0 +1,97 @@
+-- `mark_block` is `markBlock`.
+use Prim.Native.Nat.{_≤_}
+use native.Mathlib.Omega.{arith}
+use mathlib.Core.Path.{_≡_, sym, ap, _∙_}
+use borrow.Author.Needs.{needs}
+use lib.ListN.{length, take}
+use lib.Seq.{length-take-le}
+use Rattle.meaning.specs.Sketch.{packedLength, blockLength}
+use Rattle.meaning.specs.Forest.{bytesOfSketch}
+use Rattle.layout.specs.Header.{bare}
+use Rattle.search.proofs.Blocks.{block-most, bytes-most, bytes-first, fitting-call, walk-call}
+use Rattle.search.proofs.marks.mark_block.Statement.{statement}
+use Rattle.search.proofs.marks.mark_block.Tie as tie
+
+cast-b : tie.Need-cast-b
+cast-b c = search needs
+
+slice-aggregate-pack-block : tie.Need-slice-aggregate-pack-block
+slice-aggregate-pack-block c = search needs
+
+pack-block-requires : tie.Need-pack-block-requires
+pack-block-requires c κs =
+    let pre = c .before .before .before .before .before .before .pre in
+    (omega arith, (omega arith, (omega arith, (omega arith, (pre .1 .1 .0 .range, omega (arith, bytes-most _ _ _ _ (pre .1 .0) _ (pre .1 .1 .1 .1)))))))
+
+block-length-requires : tie.Need-block-length-requires
+block-length-requires c κs = search needs
+
+packed-length-requires : tie.Need-packed-length-requires
+packed-length-requires c κs =
+    let pre = c .before .before .before .before .before .before .before .before .before .pre in
+    (omega arith, rw (c .block-length .ensures) (block-most _ _ _ _ (pre .1 .0) _ (pre .1 .1 .1 .1)))
+
+next-at-requires : tie.Need-next-at-requires
+next-at-requires c κs = search needs
+
+-- the bytes of the block are the beginning of the array
+abbrev start : tie.After-packed-length → tie.Start
+start c = c .before .before .before .before .before .before .before .before .before .before
+
+bytes-count : (c : tie.After-packed-length) → c .packed-length .result
+    ≡ packedLength (start c .args .h .b) (blockLength (start c .args .h .m) (start c .args .h .q) (start c .args .j))
+bytes-count c = c .packed-length .ensures ∙ ap (packedLength (start c .args .h .b)) (c .before .block-length .ensures)
+
+fits-array : (c : tie.After-packed-length) → c .packed-length .result ≤ length (c .before .before .before .pack-block .last .1 .1 .1 .1 .1 .0)
+fits-array c =
+    let pre = start c .pre in
+    let kept = c .before .before .before .pack-block .kept in
+    omega (arith, bytes-count c, bytes-most _ _ _ _ (pre .1 .0) _ (pre .1 .1 .1 .1), kept)
+
+block-bytes : (c : tie.After-packed-length)
+    → take (c .packed-length .result) (c .before .before .before .pack-block .last .1 .1 .1 .1 .1 .0)
+    ≡ bytesOfSketch (bare (start c .args .h)) (start c .args .j) (start c .args .sketch .now)
+block-bytes c =
+    let pre = start c .pre in
+    ap (take (c .packed-length .result)) (c .before .before .before .pack-block .ensures)
+    ∙ bytes-first _ _ (pre .1 .1 .0) _ (pre .1 .1 .1 .1) _ _ (bytes-count c)
+
+array-share-prefix-bytes : tie.Need-array-share-prefix-bytes
+array-share-prefix-bytes c = fits-array (c .before .before)
+
+slice-aggregate-walk : tie.Need-slice-aggregate-walk
+slice-aggregate-walk c =
+    let p = c .before .before .before in
+    sym (length-take-le (p .packed-length .result) _ (fits-array p))
+
+walk-requires : tie.Need-walk-requires
+walk-requires c κs =
+    let p = c .before .before .before in
+    let pre = start p .pre in
+    (pre .0, (fitting-call _ _ _ _ _ _ _ _ _ (c .before .before .next-at .ensures) (pre .1 .1 .1 .0) (block-bytes p) (pre .1 .0) (pre .1 .1 .0) (pre .1 .1 .1 .1), omega arith))
+
+same-length : tie.Need-same-length
+same-length c = search needs
+
+returns : tie.Need-returns
+returns c =
+    let w = c .before .before in
+    let n = w .before .before .before in
+    w .walk .ensures
+    ∙ walk-call _ _ _ _ _ _ _ _ _ (n .next-at .ensures) (start (n .before) .pre .1 .1 .1 .0) (block-bytes (n .before)) _
+
+pub mark-block-spec : {M : Type 1} → statement M
+mark-block-spec =
+    tie.close
+    (tie.spec
+    cast-b
+    slice-aggregate-pack-block
+    pack-block-requires
+    block-length-requires
+    packed-length-requires
+    next-at-requires
+    array-share-prefix-bytes
+    slice-aggregate-walk
+    walk-requires
+    same-length
+    returns)

@@ -1,0 +1,116 @@
+-- `search` keeps its promise.
+use mathlib.Core.Path.{_≡_, sym, _∙_}
+use borrow.Author.Needs.{needs}
+use Rattle.layout.specs.declared.Header.{Header}
+use Rattle.layout.specs.declared.Opening.the-variants.{Shown}
+use Rattle.promises.specs.Tables.{Tables, tables}
+use Rattle.search.specs.Questions.{entry}
+use Rattle.search.proofs.Enters.{Entered, entry-shown}
+use Rattle.search.proofs.Queries.{query-passed}
+use Rattle.search.proofs.Walked.{lent-room, cleared-lent, cleared-summary}
+use Rattle.search.proofs.Promises.{promise-tables, promise-query, promise-found}
+use Rattle.search.proofs.search.search.Statement.{statement}
+use Rattle.search.proofs.search.search.Tie as tie
+
+enter-requires : tie.Need-enter-requires
+enter-requires c κs = search needs
+
+enum-known-number : tie.Need-enum-known-number
+enum-known-number c = search needs
+
+same-length : tie.Need-same-length
+same-length c = search needs
+
+returns : tie.Need-returns
+returns c =
+    let number = c .before in
+    promise-tables _ _ _ _ _ _ (sym (number .before .before .enter .ensures) ∙ number .number .given .1)
+
+enum-known-h : tie.Need-enum-known-h
+enum-known-h c = search needs
+
+-- the tables at entry, and the header that they show
+abbrev start : tie.After-known-told2 → tie.Start
+start k = k .before .before .before .before .before .before .before .before .before .before .before .before
+
+abbrev lent : tie.After-known-told2 → Tables
+lent k =
+    let a = start k .args in
+    tables (a .settings .now) (a .nodes .now) (a .pages .now) (a .sketches .now) (a .working .now)
+
+abbrev header : tie.After-known-told2 → Header
+header k = k .before .h .given .0 .0
+
+shows : (k : tie.After-known-told2) → entry (lent k) ≡ Shown (header k)
+shows k = sym (k .before .before .before .enter .ensures) ∙ k .before .h .given .1
+
+opened : (k : tie.After-known-told2) → Entered (lent k) (header k)
+opened k = entry-shown (lent k) (header k) (shows k)
+
+map-words-requires : tie.Need-map-words-requires
+map-words-requires c κs = opened c .lent .limits
+
+clear-marks-requires : tie.Need-clear-marks-requires
+clear-marks-requires c κs =
+    let k = c .before .before in
+    lent-room _ _ _ _ (opened k .lent) _ (c .before .map-words .ensures)
+
+query-number-requires : tie.Need-query-number-requires
+query-number-requires c κs = opened (c .before .before .before .before .before) .lent .limits
+
+same-length-2 : tie.Need-same-length-2
+same-length-2 c = search needs
+
+returns-2 : tie.Need-returns-2
+returns-2 c =
+    let q = c .before in
+    let m = q .before .before .before in
+    let k = m .before .before .before in
+    promise-query _ _ _ _ _ _ (shows k) _ (m .before .before .map-words .ensures) _ (m .clear-marks .ensures) _ (q .query-number .ensures) (c .if1 .taken)
+
+find-requires : tie.Need-find-requires
+find-requires c κs =
+    let t = c .before .before in
+    let q = t .before in
+    let m = q .before .before .before in
+    let o = opened (m .before .before .before) in
+    let words = m .before .before .map-words .ensures in
+    let passed = query-passed _ _ _ _ (sym (q .query-number .ensures) ∙ t .if1 .left) in (
+      cleared-lent _ _ _ _ (o .lent) _ words _ (m .clear-marks .ensures),
+      (o .rows, (passed .1, ((o .settings-long, passed .0), (words, cleared-summary _ _ _ _ (o .lent) _ words _ (m .clear-marks .ensures))))),
+    )
+
+same-length-3 : tie.Need-same-length-3
+same-length-3 c = search needs
+
+same-length-4 : tie.Need-same-length-4
+same-length-4 c = search needs
+
+returns-3 : tie.Need-returns-3
+returns-3 c =
+    let f = c .before .before .before .before in
+    let t = f .before .before .before in
+    let q = t .before in
+    let m = q .before .before .before in
+    let k = m .before .before .before in
+    promise-found _ _ _ _ _ _ (shows k) _ (m .before .before .map-words .ensures) _ (m .clear-marks .ensures) (sym (q .query-number .ensures) ∙ t .if1 .left) _ _ _ _
+    (f .find .ensures .0) (f .find .ensures .1)
+
+pub search-spec : {M : Type 1} → statement M
+search-spec =
+    tie.close
+    (tie.spec
+    enter-requires
+    enum-known-number
+    same-length
+    returns
+    enum-known-h
+    map-words-requires
+    clear-marks-requires
+    query-number-requires
+    same-length-2
+    returns-2
+    find-requires
+    same-length-3
+    same-length-4
+    returns-3)

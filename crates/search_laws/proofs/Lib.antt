@@ -1,0 +1,6 @@
+pub mod Paths
+pub mod Meets
+pub mod Marks
+pub mod Sound
+pub mod Complete
+pub mod Lists
