@@ -6,6 +6,7 @@ ghost use Rattle.meaning.specs.Ledger.{join, leave, grant, revoke, show};
 ghost use Rattle.promises.specs.Tables.{tables, showTables};
 ghost use Rattle.promises.specs.Answers.{number};
 ghost use Rattle.promises.specs.Calls.{OpenPromise, settingsGiven, RightsPromise, startShown, lengthShown};
+ghost use Rattle.store.specs.Calls.{AddPromise, DropPromise, SearchPromise};
 
 #[no_mangle]
 pub extern "C" fn vetch_open(
@@ -36,6 +37,64 @@ pub extern "C" fn vetch_open(
         node_capacity,
         thresholds,
     )
+}
+
+#[no_mangle]
+pub extern "C" fn vetch_add(
+    settings: &mut [u32],
+    nodes: &mut [u32],
+    pages: &mut [u32],
+    sketches: &mut [u8],
+    page: u32,
+    class: u32,
+    sketch: &[u8],
+) -> u32
+    ensures { λ r. ⌜ AddPromise (tables (now (settings .entry)) (now (nodes .entry)) (now (pages .entry)) (now (sketches .entry)) []) page «class» (now (sketch .entry)) r (tables (now (settings .exit)) (now (nodes .exit)) (now (pages .exit)) (now (sketches .exit)) []) ⌝ }
+{
+    add_page::add::add(settings, nodes, pages, sketches, page, class, sketch)
+}
+
+#[no_mangle]
+pub extern "C" fn vetch_drop(
+    settings: &mut [u32],
+    nodes: &mut [u32],
+    pages: &mut [u32],
+    sketches: &[u8],
+    page: u32,
+) -> u32
+    ensures { λ r. ⌜ DropPromise (tables (now (settings .entry)) (now (nodes .entry)) (now (pages .entry)) (now (sketches .entry)) []) page r (tables (now (settings .exit)) (now (nodes .exit)) (now (pages .exit)) (now (sketches .entry)) []) ⌝ }
+{
+    drop_page::drop::drop_page(settings, nodes, pages, sketches, page)
+}
+
+#[no_mangle]
+pub extern "C" fn vetch_search(
+    settings: &[u32],
+    nodes: &[u32],
+    pages: &[u32],
+    sketches: &[u8],
+    working: &mut [u32],
+    reader: u32,
+    radius: u32,
+    sketch: &[u8],
+    output: &mut [u16],
+    count: &mut u32,
+) -> u32
+    ensures { λ r. ⌜ SearchPromise (tables (now (settings .entry)) (now (nodes .entry)) (now (pages .entry)) (now (sketches .entry)) (now (working .entry))) reader radius (now (sketch .entry)) (now (output .entry)) r (now (count .exit)) (now (output .exit)) (now (working .exit)) ⌝ }
+{
+    let found = search::search::search(
+        settings,
+        nodes,
+        pages,
+        sketches,
+        working,
+        reader,
+        radius,
+        sketch,
+        output,
+    );
+    *count = found.count;
+    found.number
 }
 
 #[no_mangle]
