@@ -30,7 +30,7 @@ module _ (h : Header) (N P x : List ℕ) where
 
   block-marking : (share j : ℕ) (map : List ℕ) → Marked map (markBlock h N P x share j map .map)
   unfolding markBlock
-  block-marking share j map = walk-marking (walkOf h N P x j) j share map
+  block-marking share j map = walk-marking (walkOf h N P x j) _ _ map
 
   from-marking : (share k j : ℕ) (map : List ℕ) → Marked map (markFrom h N P x share k j map .map)
   unfolding markFrom
@@ -47,7 +47,7 @@ module _ (h : Header) (N P x : List ℕ) where
 
   pub blocks-marking : (radius : ℕ) (map : List ℕ) → Marked map (markBlocks h N P x radius map .map)
   unfolding markBlocks
-  blocks-marking radius map = from-marking (radius / h .q) (h .q) 0 map
+  blocks-marking radius map = from-marking _ _ _ map
 
 -- ---- what that says of the maps
 behind-marks : (words : ℕ) (map ps : List ℕ) → all (λ p. ltb p (32 * words)) ps ≡ true
