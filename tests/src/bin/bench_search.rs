@@ -1,6 +1,5 @@
-//! Searches against scans, multi-index hashing and a pointer-based trie: all built for release, interleaved in one run, medians.
-//! Every list is compared with the first.
-use std::hint::black_box;
+//! Searches against scans, multi-index hashing and a pointer-based trie: all built for release, in one run. Each way in turn answers
+//! all queries, a scan the first hundred of them, round after round; medians of the rounds. Every list is compared with ours.
 use std::time::Instant;
 use vetchdawn_tests::baselines::{Hashing, Pointers, Rows, Vertical};
 use vetchdawn_tests::calls;
@@ -8,8 +7,9 @@ use vetchdawn_tests::random::Random;
 use vetchdawn_tests::stores::Sketches;
 use vetchdawn_tests::tables::{lengths, Settings, Tables, SETTINGS};
 
-const QUERIES: usize = 24;
-const ROUNDS: usize = 9;
+const QUERIES: usize = 1_000;
+const SCANS: usize = 100;
+const ROUNDS: usize = 5;
 const OPEN: u64 = 0x0f0f_f0f0_ffff_1111;
 
 struct Case {
@@ -71,52 +71,56 @@ fn median(mut times: Vec<f64>) -> f64 {
     times[times.len() / 2]
 }
 
+/// Microseconds a search, over all queries in a row; and the lists.
+fn timed(queries: &[Vec<u8>], search: &mut dyn FnMut(&[u8], &mut Vec<u16>)) -> (f64, Vec<Vec<u16>>) {
+    let mut lists = vec![Vec::with_capacity(64); queries.len()];
+    let start = Instant::now();
+    for (query, list) in queries.iter().zip(&mut lists) {
+        search(query, list);
+    }
+    (start.elapsed().as_nanos() as f64 / 1000.0 / queries.len() as f64, lists)
+}
+
 fn run(c: &Case) {
     let mut random = Random::new(u64::from(c.b) * 1_000 + c.n as u64 + u64::from(c.clustered));
     let (rows, queries) = rows(c, &mut random);
     let mut t = store(c, &rows);
+    let mut lent = t.lend();
     let vertical = Vertical::new(&rows);
-    // hashing tries every block within r / q: with wide symbols and a block radius over 1 that is too many
-    let probes = |block: usize| (0..c.r as usize / c.q).fold(1f64, |n, i| n * ((block - i) * ((1 << c.b) - 1)) as f64);
-    let mut hashing = (probes(c.m.div_ceil(c.q)) < 100_000.0).then(|| Hashing::new(&rows, c.q));
+    // hashing tries every block within r / q: with wide symbols that can be too many
+    let probes = (0..c.r as usize / c.q).fold(1, |n, i| n * (c.m.div_ceil(c.q) - i) * ((1 << c.b) - 1));
+    let mut hashing = (probes < 100_000).then(|| Hashing::new(&rows, c.q));
     let mut pointers = Pointers::new(c.b, c.m, c.q, c.n, c.threshold);
     for p in 0..c.n {
         assert!(pointers.add(p as u32, rows.classes[p], rows.row(p)));
     }
     let mut output = vec![0u16; c.n];
+    let mut ours = |query: &[u8], list: &mut Vec<u16>| {
+        let given = calls::search(&mut lent, 9, c.r, query, &mut output);
+        assert_eq!(given.number, 0);
+        list.extend_from_slice(&output[..given.value as usize]);
+    };
     let mut times = [const { Vec::new() }; 6];
     let mut found = 0;
-    for round in 0..ROUNDS {
-        for query in &queries {
-            let mut lists: Vec<Vec<u16>> = Vec::new();
-            for (way, times) in times.iter_mut().enumerate() {
-                let mut list = Vec::new();
-                let start = Instant::now();
-                match way {
-                    0 => {
-                        let given = calls::search(&mut t.lend(), 9, c.r, query, &mut output);
-                        assert_eq!(given.number, 0);
-                        list.extend_from_slice(&output[..given.value as usize]);
-                    }
-                    1 => rows.early_exit(OPEN, query, c.r, &mut list),
-                    2 => rows.full(OPEN, query, c.r, &mut list),
-                    3 => vertical.scan(OPEN, query, c.r, &mut list),
-                    4 => match &mut hashing {
-                        Some(h) => h.search(OPEN, query, c.r, &mut list),
-                        None => continue,
-                    },
-                    _ => pointers.search(OPEN, query, c.r, &mut list),
-                }
-                black_box(&list);
-                times.push(start.elapsed().as_nanos() as f64);
-                lists.push(list);
-            }
-            assert!(lists.windows(2).all(|w| w[0] == w[1]), "lists differ");
-            found += if round == 0 { lists[0].len() } else { 0 };
+    for _ in 0..ROUNDS {
+        let (time, lists) = timed(&queries, &mut ours);
+        times[0].push(time);
+        found = lists.iter().map(Vec::len).sum();
+        let mut other = |way: usize, count: usize, search: &mut dyn FnMut(&[u8], &mut Vec<u16>)| {
+            let (time, other) = timed(&queries[..count], search);
+            times[way].push(time);
+            assert!(other == lists[..count], "lists differ");
+        };
+        other(1, SCANS, &mut |query, list| rows.early_exit(OPEN, query, c.r, list));
+        other(2, SCANS, &mut |query, list| rows.full(OPEN, query, c.r, list));
+        other(3, SCANS, &mut |query, list| vertical.scan(OPEN, query, c.r, list));
+        other(5, QUERIES, &mut |query, list| pointers.search(OPEN, query, c.r, list));
+        if let Some(hashing) = &mut hashing {
+            other(4, SCANS, &mut |query, list| hashing.search(OPEN, query, c.r, list));
         }
     }
     let [ours, early, full, vertical, hashing, pointers] = times.map(|t| if t.is_empty() { f64::NAN } else { median(t) });
-    let us = |t: f64| if t.is_nan() { "      -".into() } else { format!("{:7.1}", t / 1000.0) };
+    let us = |t: f64| if t.is_nan() { "      -".into() } else { format!("{t:7.1}") };
     println!(
         "{:5} {} {:2} {:2} {:1} {:2} {} {:5.1} {} {} {} {} {} {}   {:5.2}  {:5.2}",
         c.n, c.b, c.m, c.r, c.q, c.threshold, if c.clustered { "clustered" } else { "random   " }, found as f64 / QUERIES as f64,
@@ -127,11 +131,11 @@ fn run(c: &Case) {
 
 fn main() {
     println!("Microseconds a search, medians; the last columns: this search / the best scan, and / the pointer trie.");
-    println!("    n b  m  r q  t sketches  found    ours   early    full  vertic    hash  pointer   /scan  /trie");
+    println!("    n b  m  r q  t sketches  found    ours   early    full  vertic    hash pointer   /scan  /trie");
     let quick = std::env::args().any(|a| a == "quick");
     for n in [1_000, 8_000, 65_535] {
         for (b, m) in [(4, 32), (2, 64), (8, 32), (1, 64)] {
-            for (r, q) in [(3, 4), (2, 2), (3, 3), (7, 8), (8, 8)] {
+            for (r, q) in [(1, 2), (1, 1), (2, 3), (2, 2), (3, 4), (3, 3)] {
                 for threshold in [8, 32] {
                     for clustered in [false, true] {
                         let c = Case { n, b, m, r, q, threshold, clustered };
