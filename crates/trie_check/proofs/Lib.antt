@@ -3,3 +3,4 @@ pub mod Steps
 pub mod Visits
 pub mod Stack
 pub mod Turns
+pub mod Example

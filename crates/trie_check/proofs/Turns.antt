@@ -19,7 +19,7 @@ use Rattle.trie_check.specs.declared.test.Move.the-variants as move
 use Rattle.trie_check.specs.Mark.{Noted, noted, markOnce}
 use Rattle.trie_check.specs.Leaf.{kindOf}
 use Rattle.trie_check.specs.Frame.{entered, pastChild, nextChain, stepIn}
-use Rattle.trie_check.specs.Trie.{Given, Fitting, pastLeaf, leafLeft, childMove, visitChild, Visited, visited, visitStep, visit, State, state, Tested, tested, leftIf, leftLeaf, follow, run, testBelow, testKind, testTrie}
+use Rattle.trie_check.specs.Trie.{Given, Fitting, pastLeaf, leafLeft, childMove, visitChild, Visited, visited, visitStep, visit, state, Tested, tested, leftIf, leftLeaf, follow, run, testBelow, testKind, testTrie}
 use Rattle.trie_check.proofs.LeafSteps.{suc-pred}
 use Rattle.trie_check.proofs.Steps.{chain-within, child-within}
 use Rattle.trie_check.proofs.Stack.{above}

@@ -4,7 +4,6 @@ use Prim.Native.Nat.{_-_, _≤_}
 use native.Mathlib.Omega.{arith}
 use borrow.Author.Needs.{needs}
 use borrow.Author.Tests.{eq-eqb, ne-eqb}
-use lib.ListN.{getD}
 use Rattle.meaning.specs.Lists.{all, from, upto}
 use Rattle.sketch.proofs.Runs.{all-fails, all-passes, all-done}
 use Rattle.trie_check.specs.Leaf.{bare}

@@ -1,6 +1,5 @@
 -- `mark_once` is `markOnce`, a test at a time.
 use borrow.Author.Tests.{lt-ltb, le-ltb}
-use mathlib.Core.Path.{sym, _∙_}
 use Rattle.trie_check.specs.Mark.{markOnce}
 use borrow.Author.Needs.{needs}
 use Rattle.trie_check.proofs.mark.mark_once.Statement.{statement}

@@ -1,5 +1,4 @@
 -- `test_below` is `testBelow`: each turn takes one step of the machine.
-use Prim.Native.Nat.{_+_}
 use mathlib.Core.Path.{_≡_, refl, sym, _∙_}
 use native.Mathlib.Omega.{arith}
 use lib.ListN.{length}
