@@ -55,12 +55,11 @@ loop-less : tie.Need-loop-less Inv-loop μ-loop
 loop-less c = omega arith
 
 loop-again : tie.Need-loop-again Inv-loop μ-loop
-loop-again c =
-    let inside = chain-inside _ _ _ _ _ _ _ (c .before .before .before .before .before .before .before .before .before .before .before .loop .inv .2 .inside .1) _ _ _ (c .before .before .before .before .before .before .before .visit .ensures) _ (c .before .before .before .link .given .1) in (
-      sym (run-chain _ _ _ _ _ _ _ _ (omega arith) _ (above-length _ _) _ _ _ (c .before .before .before .before .before .before .before .visit .ensures) _ (c .before .before .before .link .given .1)) ∙ c .before .before .before .before .before .before .before .before .before .before .before .loop .inv .0,
-      c .before .before .before .before .before .before .before .visit .kept .1 .1 .1 .0 ∙ c .before .before .before .before .before .before .before .before .before .before .before .loop .inv .1,
-      held-stay _ _ _ _ _ (c .before .before .before .before .before .before .before .before .before .before .before .loop .inv .2) _ (c .before .before .before .before .before .before .before .before .before .before .before .loop .inv .2 .inside .0, omega (arith, inside)),
-    )
+loop-again c = (
+  sym (run-chain _ _ _ _ _ _ _ _ (omega arith) _ (above-length _ _) _ _ _ (c .before .before .before .before .before .before .before .visit .ensures) _ (c .before .before .before .link .given .1)) ∙ c .before .before .before .before .before .before .before .before .before .before .before .loop .inv .0,
+  c .before .before .before .before .before .before .before .visit .kept .1 .1 .1 .0 ∙ c .before .before .before .before .before .before .before .before .before .before .before .loop .inv .1,
+  let inside = chain-inside _ _ _ _ _ _ _ (c .before .before .before .before .before .before .before .before .before .before .before .loop .inv .2 .inside .1) _ _ _ (c .before .before .before .before .before .before .before .visit .ensures) _ (c .before .before .before .link .given .1) in let h = c .before .before .before .before .before .before .before .before .before .before .before .loop .inv .2 in held-stay _ _ _ _ _ h _ (h .inside .0, omega (arith, inside)),
+)
 
 enum-known-byte : tie.Need-enum-known-byte Inv-loop μ-loop
 enum-known-byte c = search needs
@@ -110,10 +109,10 @@ loop-less-3 c = omega arith
 
 loop-again-3 : tie.Need-loop-again-3 Inv-loop μ-loop
 loop-again-3 c =
-    let inside = down-inside _ _ _ _ _ _ _ (c .before .before .before .before .before .before .before .before .before .before .loop .inv .2 .inside .1) _ _ _ (c .before .before .before .before .before .before .visit .ensures) _ _ _ (c .before .before .child .given .1) in let h = c .before .before .before .before .before .before .before .before .before .before .loop .inv .2 in (
+    let h = c .before .before .before .before .before .before .before .before .before .before .loop .inv .2 in (
       sym (run-down _ _ _ _ _ _ _ _ (omega arith) _ (above-length _ _) _ _ _ (c .before .before .before .before .before .before .visit .ensures) _ _ _ _ _ (c .before .before .child .given .1) (c .enter2 .ensures) (above-put _ _ _ (omega (arith, h .level, h .levels, h .room)))) ∙ c .before .before .before .before .before .before .before .before .before .before .loop .inv .0,
       c .before .before .before .before .before .before .visit .kept .1 .1 .1 .0 ∙ c .before .before .before .before .before .before .before .before .before .before .loop .inv .1,
-      held-down _ _ _ _ _ h _ _ (h .inside) (inside-entered _ _ _ _ (c .enter2 .ensures) (inside .2)) (inside .3),
+      let inside = down-inside _ _ _ _ _ _ _ (c .before .before .before .before .before .before .before .before .before .before .loop .inv .2 .inside .1) _ _ _ (c .before .before .before .before .before .before .visit .ensures) _ _ _ (c .before .before .child .given .1) in held-down _ _ _ _ _ h _ _ (h .inside) (inside-entered _ _ _ _ (c .enter2 .ensures) (inside .2)) (inside .3),
     )
 
 enum-told : tie.Need-enum-told Inv-loop μ-loop
