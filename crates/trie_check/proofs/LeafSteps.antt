@@ -7,6 +7,7 @@ use mathlib.Core.List.{List}
 use lib.Dec.{eqb}
 use lib.ListN.{getD}
 use borrow.Author.Tests.{le-ltb, lt-ltb, eq-eqb, ne-eqb}
+use Rattle.meaning.proofs.Stacks.{suc-pred}
 use Rattle.layout.specs.Nodes.{headAt}
 use Rattle.layout.specs.Pages.{isLive}
 use Rattle.trie.specs.declared.Level.{Level}
@@ -14,9 +15,6 @@ use Rattle.trie.specs.declared.Rows.{Rows}
 use Rattle.trie.specs.Model.{pageByte, levelAt}
 use Rattle.trie_check.specs.declared.leaf.Left.the-variants.{Some, Failed}
 use Rattle.trie_check.specs.Leaf.{onPath, testLeaf}
-
-pub suc-pred : (f : ℕ) → 0 < f → f ≡ suc (f - 1)
-suc-pred f h = omega arith
 
 -- head g of node x is 0
 abbrev pub bareAt : List ℕ → ℕ → ℕ → ℕ → Bool

@@ -7,6 +7,7 @@ use mathlib.Core.List.{List, [], _∷_}
 use lib.Dec.{ltb, eqb}
 use lib.ListN.{length, replicate, set}
 use borrow.Author.Tests.{ltb-true, eq-eqb, ne-eqb, eqb-false}
+use Rattle.meaning.proofs.Stacks.{suc-pred, length-none, above}
 use Rattle.trie_check.specs.declared.frame.Frame.{Frame}
 use Rattle.trie_check.specs.declared.frame.Step.{Step}
 use Rattle.trie_check.specs.declared.frame.Step.the-variants as step
@@ -20,13 +21,8 @@ use Rattle.trie_check.specs.Mark.{Noted, noted, markOnce}
 use Rattle.trie_check.specs.Leaf.{kindOf}
 use Rattle.trie_check.specs.Frame.{entered, pastChild, nextChain, stepIn}
 use Rattle.trie_check.specs.Trie.{Given, Fitting, pastLeaf, leafLeft, childMove, visitChild, Visited, visited, visitStep, visit, state, Tested, tested, leftIf, leftLeaf, follow, run, testBelow, testKind, testTrie}
-use Rattle.trie_check.proofs.LeafSteps.{suc-pred}
 use Rattle.trie_check.proofs.Steps.{chain-within, child-within}
-use Rattle.trie_check.proofs.Stack.{above}
-
-length-none : {A : Type 0} (xs : List A) → length xs ≡ 0 → xs ≡ []
-length-none [] e = refl
-length-none (x ∷ xs) e = absurd (omega arith)
+use Rattle.trie_check.proofs.Stack.{noFrame}
 
 pub fitting-kept : (w : Given) (map after : List ℕ) → length after ≡ length map → Fitting w map → Fitting w after
 fitting-kept w map after e h = record {
@@ -94,7 +90,7 @@ module _ (w : Given) (f : ℕ) (map path : List ℕ) (left pages : ℕ) (frame :
 
 pub run-start : (w : Given) (root : ℕ) (map : List ℕ) (left pages : ℕ) (frame : Frame) (stack : List Frame)
     → frame ≡ entered (w .nodes) (w .block .nodes) root
-    → run w (10 * (w .block .nodes + 1)) (state map (replicate 64 0) left pages frame (above stack 0)) ≡ testBelow w root map left pages
+    → run w (10 * (w .block .nodes + 1)) (state map (replicate 64 0) left pages frame (above noFrame stack 0)) ≡ testBelow w root map left pages
 unfolding testBelow above
 run-start w root map left pages frame stack e =
     ap (λ f. run w (10 * (w .block .nodes + 1)) (state map (replicate 64 0) left pages f [])) e

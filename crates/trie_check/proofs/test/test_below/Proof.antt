@@ -4,17 +4,18 @@ use native.Mathlib.Omega.{arith}
 use lib.ListN.{length}
 use borrow.Author.Needs.{needs}
 use Rattle.trie_check.specs.Trie.{given, state, run, testBelow}
-use Rattle.trie_check.proofs.Stack.{above, above-length, above-put, above-take, Held, held-start, held-stay, held-down, held-up, inside-entered}
+use Rattle.meaning.proofs.Stacks.{above, above-length, above-put, above-take, Held, held-start, held-stay, held-down, held-up}
+use Rattle.trie_check.proofs.Stack.{noFrame, Inside, inside-entered}
 use Rattle.trie_check.proofs.Turns.{fitting-kept, run-start, run-spent, run-chain, run-past, run-down, run-up, run-done, run-failed, chain-inside, past-inside, down-inside}
 use Rattle.trie_check.proofs.test.test_below.Statement.{statement}
 use Rattle.trie_check.proofs.test.test_below.Tie as tie
 
 abbrev Inv-loop : tie.InvT-loop
 Inv-loop nodes pages sketches map₀ block rows window root budget page-budget frame₀ stack₀ path₀ depth₀ left₀ pages-left₀ steps₀ map frame stack path depth left pages-left steps =
-    (run (given nodes pages sketches block rows window) steps (state map path left pages-left frame (above stack depth))
+    (run (given nodes pages sketches block rows window) steps (state map path left pages-left frame (above noFrame stack depth))
     ≡ testBelow (given nodes pages sketches block rows window) root map₀ budget page-budget)
     × (length map ≡ length map₀)
-    × Held (block .nodes) (rows .bytes) frame stack depth
+    × Held noFrame (Inside (block .nodes)) (rows .bytes) frame stack depth
 
 abbrev μ-loop : tie.MeasureT-loop
 μ-loop nodes pages sketches map₀ block rows window root budget page-budget frame₀ stack₀ path₀ depth₀ left₀ pages-left₀ steps₀ map frame stack path depth left pages-left steps = steps
@@ -33,7 +34,7 @@ loop-holds c =
     let fit = c .before .before .before .before .before .before .pre .0 in (
       run-start _ _ _ _ _ _ _ (c .before .enter .ensures),
       refl,
-      held-start _ _ _ _ (inside-entered _ _ _ _ (c .before .enter .ensures) (c .before .before .before .before .before .before .pre .1)) refl (fit .some) (fit .rows .short),
+      held-start noFrame _ _ _ _ (inside-entered _ _ _ _ (c .before .enter .ensures) (c .before .before .before .before .before .before .pre .1)) refl (fit .some) (fit .rows .short),
     )
 
 sub-steps : tie.Need-sub-steps Inv-loop μ-loop
@@ -56,9 +57,9 @@ loop-less c = omega arith
 
 loop-again : tie.Need-loop-again Inv-loop μ-loop
 loop-again c = (
-  sym (run-chain _ _ _ _ _ _ _ _ (omega arith) _ (above-length _ _) _ _ _ (c .before .before .before .before .before .before .before .visit .ensures) _ (c .before .before .before .link .given .1)) ∙ c .before .before .before .before .before .before .before .before .before .before .before .loop .inv .0,
+  sym (run-chain _ _ _ _ _ _ _ _ (omega arith) _ (above-length _ _ _) _ _ _ (c .before .before .before .before .before .before .before .visit .ensures) _ (c .before .before .before .link .given .1)) ∙ c .before .before .before .before .before .before .before .before .before .before .before .loop .inv .0,
   c .before .before .before .before .before .before .before .visit .kept .1 .1 .1 .0 ∙ c .before .before .before .before .before .before .before .before .before .before .before .loop .inv .1,
-  let inside = chain-inside _ _ _ _ _ _ _ (c .before .before .before .before .before .before .before .before .before .before .before .loop .inv .2 .inside .1) _ _ _ (c .before .before .before .before .before .before .before .visit .ensures) _ (c .before .before .before .link .given .1) in let h = c .before .before .before .before .before .before .before .before .before .before .before .loop .inv .2 in held-stay _ _ _ _ _ h _ (h .inside .0, omega (arith, inside)),
+  let inside = chain-inside _ _ _ _ _ _ _ (c .before .before .before .before .before .before .before .before .before .before .before .loop .inv .2 .inside .1) _ _ _ (c .before .before .before .before .before .before .before .visit .ensures) _ (c .before .before .before .link .given .1) in let h = c .before .before .before .before .before .before .before .before .before .before .before .loop .inv .2 in held-stay _ _ _ _ _ _ h _ (h .inside .0, omega (arith, inside)),
 )
 
 enum-known-byte : tie.Need-enum-known-byte Inv-loop μ-loop
@@ -75,9 +76,9 @@ loop-less-2 c = omega arith
 
 loop-again-2 : tie.Need-loop-again-2 Inv-loop μ-loop
 loop-again-2 c = (
-  sym (run-past _ _ _ _ _ _ _ _ (omega arith) _ (above-length _ _) _ _ _ (c .before .before .before .before .before .visit .ensures) _ _ _ (c .before .byte .given .1)) ∙ c .before .before .before .before .before .before .before .before .before .loop .inv .0,
+  sym (run-past _ _ _ _ _ _ _ _ (omega arith) _ (above-length _ _ _) _ _ _ (c .before .before .before .before .before .visit .ensures) _ _ _ (c .before .byte .given .1)) ∙ c .before .before .before .before .before .before .before .before .before .loop .inv .0,
   c .before .before .before .before .before .visit .kept .1 .1 .1 .0 ∙ c .before .before .before .before .before .before .before .before .before .loop .inv .1,
-  held-stay _ _ _ _ _ (c .before .before .before .before .before .before .before .before .before .loop .inv .2) _ (c .before .before .before .before .before .before .before .before .before .loop .inv .2 .inside),
+  held-stay _ _ _ _ _ _ (c .before .before .before .before .before .before .before .before .before .loop .inv .2) _ (c .before .before .before .before .before .before .before .before .before .loop .inv .2 .inside),
 )
 
 enum-known-child : tie.Need-enum-known-child Inv-loop μ-loop
@@ -110,9 +111,9 @@ loop-less-3 c = omega arith
 loop-again-3 : tie.Need-loop-again-3 Inv-loop μ-loop
 loop-again-3 c =
     let h = c .before .before .before .before .before .before .before .before .before .before .loop .inv .2 in (
-      sym (run-down _ _ _ _ _ _ _ _ (omega arith) _ (above-length _ _) _ _ _ (c .before .before .before .before .before .before .visit .ensures) _ _ _ _ _ (c .before .before .child .given .1) (c .enter2 .ensures) (above-put _ _ _ (omega (arith, h .level, h .levels, h .room)))) ∙ c .before .before .before .before .before .before .before .before .before .before .loop .inv .0,
+      sym (run-down _ _ _ _ _ _ _ _ (omega arith) _ (above-length _ _ _) _ _ _ (c .before .before .before .before .before .before .visit .ensures) _ _ _ _ _ (c .before .before .child .given .1) (c .enter2 .ensures) (above-put _ _ _ _ (omega (arith, h .level, h .levels, h .room)))) ∙ c .before .before .before .before .before .before .before .before .before .before .loop .inv .0,
       c .before .before .before .before .before .before .visit .kept .1 .1 .1 .0 ∙ c .before .before .before .before .before .before .before .before .before .before .loop .inv .1,
-      let inside = down-inside _ _ _ _ _ _ _ (c .before .before .before .before .before .before .before .before .before .before .loop .inv .2 .inside .1) _ _ _ (c .before .before .before .before .before .before .visit .ensures) _ _ _ (c .before .before .child .given .1) in held-down _ _ _ _ _ h _ _ (h .inside) (inside-entered _ _ _ _ (c .enter2 .ensures) (inside .2)) (inside .3),
+      let inside = down-inside _ _ _ _ _ _ _ (c .before .before .before .before .before .before .before .before .before .before .loop .inv .2 .inside .1) _ _ _ (c .before .before .before .before .before .before .visit .ensures) _ _ _ (c .before .before .child .given .1) in held-down _ _ _ _ _ _ h _ _ (h .inside) (inside-entered _ _ _ _ (c .enter2 .ensures) (inside .2)) (inside .3),
     )
 
 enum-told : tie.Need-enum-told Inv-loop μ-loop
@@ -125,7 +126,7 @@ same-length : tie.Need-same-length Inv-loop μ-loop
 same-length c = c .before .before .before .before .before .before .visit .kept .1 .1 .1 .0 ∙ c .before .before .before .before .before .before .before .before .before .before .loop .inv .1
 
 returns : tie.Need-returns Inv-loop μ-loop
-returns c = sym (run-done _ _ _ _ _ _ _ _ (omega arith) _ (above-length _ _) _ _ _ (c .before .before .before .before .before .before .visit .ensures) _ (c .before .before .enum-told .given .1) (c .before .if1 .taken) (c .left-if .ensures)) ∙ c .before .before .before .before .before .before .before .before .before .before .loop .inv .0
+returns c = sym (run-done _ _ _ _ _ _ _ _ (omega arith) _ (above-length _ _ _) _ _ _ (c .before .before .before .before .before .before .visit .ensures) _ (c .before .before .enum-told .given .1) (c .before .if1 .taken) (c .left-if .ensures)) ∙ c .before .before .before .before .before .before .before .before .before .before .loop .inv .0
 
 sub-depth : tie.Need-sub-depth Inv-loop μ-loop
 sub-depth c = search needs
@@ -141,9 +142,9 @@ loop-less-4 c = omega arith
 
 loop-again-4 : tie.Need-loop-again-4 Inv-loop μ-loop
 loop-again-4 c = (
-  sym (run-up _ _ _ _ _ _ _ _ (omega arith) _ (above-length _ _) _ _ _ (c .before .before .before .before .before .before .visit .ensures) _ _ (c .before .before .enum-told .given .1) (above-take _ _ (omega arith))) ∙ c .before .before .before .before .before .before .before .before .before .before .loop .inv .0,
+  sym (run-up _ _ _ _ _ _ _ _ (omega arith) _ (above-length _ _ _) _ _ _ (c .before .before .before .before .before .before .visit .ensures) _ _ (c .before .before .enum-told .given .1) (above-take _ _ _ (omega arith))) ∙ c .before .before .before .before .before .before .before .before .before .before .loop .inv .0,
   c .before .before .before .before .before .before .visit .kept .1 .1 .1 .0 ∙ c .before .before .before .before .before .before .before .before .before .before .loop .inv .1,
-  held-up _ _ _ _ _ (c .before .before .before .before .before .before .before .before .before .before .loop .inv .2) (omega arith),
+  held-up _ _ _ _ _ _ (c .before .before .before .before .before .before .before .before .before .before .loop .inv .2) (omega arith),
 )
 
 enum-told-2 : tie.Need-enum-told-2 Inv-loop μ-loop
@@ -153,7 +154,7 @@ same-length-2 : tie.Need-same-length-2 Inv-loop μ-loop
 same-length-2 c = c .before .before .before .before .visit .kept .1 .1 .1 .0 ∙ c .before .before .before .before .before .before .before .before .loop .inv .1
 
 returns-2 : tie.Need-returns-2 Inv-loop μ-loop
-returns-2 c = sym (run-failed _ _ _ _ _ _ _ _ (omega arith) _ (above-length _ _) _ _ _ (c .before .before .before .before .visit .ensures) (c .enum-told2 .given .1)) ∙ c .before .before .before .before .before .before .before .before .loop .inv .0
+returns-2 c = sym (run-failed _ _ _ _ _ _ _ _ (omega arith) _ (above-length _ _ _) _ _ _ (c .before .before .before .before .visit .ensures) (c .enum-told2 .given .1)) ∙ c .before .before .before .before .before .before .before .before .loop .inv .0
 
 same-length-3 : tie.Need-same-length-3 Inv-loop μ-loop
 same-length-3 c = c .before .loop .inv .1
