@@ -5,6 +5,7 @@ use mathlib.Core.Path.{_≡_, refl, ap, _∙_}
 use mathlib.Core.List.{List}
 use lib.ListN.{getD, length, length-set}
 use borrow.Author.Tests.{le-ltb, lt-ltb, eq-eqb, ne-eqb}
+use Rattle.meaning.proofs.Stacks.{suc-pred}
 use Rattle.words.specs.Bits.{withFlag}
 use Rattle.walk.specs.declared.mark.Left.the-variants.{Some, Broken}
 use Rattle.walk.specs.Mark.{marks, marked, markLeaf}
@@ -12,9 +13,6 @@ use Rattle.walk.specs.Mark.{marks, marked, markLeaf}
 pub marked-length : (map : List ℕ) (words p : ℕ) → length (marked map words p) ≡ length map
 unfolding marked withFlag
 marked-length map words p = simp length-set
-
-pub suc-pred : (f : ℕ) → 0 < f → f ≡ suc (f - 1)
-suc-pred f h = omega arith
 
 module _ (pages : List ℕ) (words cap next : ℕ) (map : List ℕ) where
   pub leaf-end : (link f : ℕ) → link ≡ 0 → markLeaf pages words cap next map link f ≡ marks map (Some f)

@@ -7,6 +7,7 @@ use mathlib.Core.List.{List, [], _∷_}
 use lib.Dec.{ltb}
 use lib.ListN.{length, getD}
 use borrow.Author.Tests.{ltb-true, eq-eqb, ne-eqb}
+use Rattle.meaning.proofs.Stacks.{suc-pred, length-none, above}
 use Rattle.layout.specs.Nodes.{stateAt}
 use Rattle.walk.specs.declared.mark.Left.{Left}
 use Rattle.walk.specs.declared.mark.Left.the-variants as budget
@@ -18,13 +19,8 @@ use Rattle.walk.specs.declared.walk.Move.the-variants as move
 use Rattle.walk.specs.Mark.{marks, markLeaf}
 use Rattle.walk.specs.Frame.{entered, stepIn}
 use Rattle.walk.specs.Walk.{Given, Fitting, Visited, visited, leafMove, visitStep, visit, state, Walked, walked, atLink, follow, run, walkBelow, isSome, walkedLeaf, walkFrom}
-use Rattle.walk.proofs.LeafSteps.{suc-pred}
 use Rattle.walk.proofs.Steps.{down-within}
-use Rattle.walk.proofs.Stack.{above}
-
-length-none : {A : Type 0} (xs : List A) → length xs ≡ 0 → xs ≡ []
-length-none [] e = refl
-length-none (x ∷ xs) e = absurd (omega arith)
+use Rattle.walk.proofs.Stack.{noFrame}
 
 pub fitting-kept : (w : Given) (map after : List ℕ) → length after ≡ length map → Fitting w map → Fitting w after
 fitting-kept w map after e h = record {
@@ -89,7 +85,7 @@ module _ (w : Given) (f : ℕ) (map : List ℕ) (left : ℕ) (frame : Frame) (st
 
 pub run-start : (w : Given) (x radius : ℕ) (map : List ℕ) (frame : Frame) (stack : List Frame)
     → frame ≡ entered (w .nodes) (w .cap) x radius (getD (w .bytes) 0 0)
-    → run w (10 * (w .cap + 1)) (state map (w .pcap) frame (above stack 0)) ≡ walkBelow w x radius map
+    → run w (10 * (w .cap + 1)) (state map (w .pcap) frame (above noFrame stack 0)) ≡ walkBelow w x radius map
 unfolding walkBelow above
 run-start w x radius map frame stack e = ap (λ f. run w (10 * (w .cap + 1)) (state map (w .pcap) f [])) e
 

@@ -5,17 +5,18 @@ use native.Mathlib.Omega.{arith}
 use lib.ListN.{length}
 use borrow.Author.Needs.{needs}
 use Rattle.walk.specs.Walk.{given, state, run, walkBelow}
-use Rattle.walk.proofs.Stack.{above, above-length, above-put, above-take, Held, held-stay, held-down, held-up, inside-entered, held-start}
+use Rattle.meaning.proofs.Stacks.{above, above-length, above-put, above-take, Held, held-stay, held-down, held-up, held-start}
+use Rattle.walk.proofs.Stack.{noFrame, Inside, inside-entered}
 use Rattle.walk.proofs.Turns.{fitting-kept, down-inside, run-start, run-spent, run-stay, run-down, run-up, run-done, run-broken}
 use Rattle.walk.proofs.walk.walk_below.Statement.{statement}
 use Rattle.walk.proofs.walk.walk_below.Tie as tie
 
 abbrev Inv-loop : tie.InvT-loop
 Inv-loop table nodes pages map₀ cap pcap next words b bytes x radius frame₀ stack₀ depth₀ left₀ steps₀ map frame stack depth left steps =
-    (run (given nodes pages cap pcap next words b bytes) steps (state map left frame (above stack depth))
+    (run (given nodes pages cap pcap next words b bytes) steps (state map left frame (above noFrame stack depth))
     ≡ walkBelow (given nodes pages cap pcap next words b bytes) x radius map₀)
     × (length map ≡ length map₀)
-    × Held cap (length bytes) frame stack depth
+    × Held noFrame (Inside cap) (length bytes) frame stack depth
 
 abbrev μ-loop : tie.MeasureT-loop
 μ-loop table nodes pages map₀ cap pcap next words b bytes x radius frame₀ stack₀ depth₀ left₀ steps₀ map frame stack depth left steps = steps
@@ -40,7 +41,7 @@ loop-holds c =
     let fit = c .before .before .before .before .before .before .pre .1 .0 in (
       run-start _ _ _ _ _ _ (c .enter .ensures),
       refl,
-      held-start _ _ _ _
+      held-start noFrame _ _ _ _
           (inside-entered _ _ _ _ _ _ (c .enter .ensures) (c .before .before .before .before .before .before .pre .1 .1) (omega (arith, c .before .shared-slice-known4 .given 0)))
           refl
           (fit .some)
@@ -63,9 +64,9 @@ loop-again : tie.Need-loop-again Inv-loop μ-loop
 loop-again c =
     let at = c .before .before .before .before .before .before .before .before .loop in
     let moved = c .before .before .before .before .before .visit in (
-      sym (run-stay _ _ _ _ _ _ (omega arith) _ (above-length _ _) _ _ (moved .ensures) _ _ _ (c .before .at .given .1)) ∙ at .inv .0,
+      sym (run-stay _ _ _ _ _ _ (omega arith) _ (above-length _ _ _) _ _ (moved .ensures) _ _ _ (c .before .at .given .1)) ∙ at .inv .0,
       moved .kept .1 .1 .1 .0 ∙ at .inv .1,
-      held-stay _ _ _ _ _ (at .inv .2) _ (at .inv .2 .inside),
+      held-stay _ _ _ _ _ _ (at .inv .2) _ (at .inv .2 .inside),
     )
 
 enum-known-child : tie.Need-enum-known-child Inv-loop μ-loop
@@ -99,12 +100,12 @@ loop-again-2 c =
     let room = at .inv .2 in
     let in-table = down-inside _ _ _ _ _ _ _ _ _ _ (c .before .before .before .before .before .before .before .visit .ensures) (c .before .before .before .child .given .1) in (
       sym
-          (run-down _ _ _ _ _ _ (omega arith) _ (above-length _ _) _ _ (moved .ensures) _ _ _ _ _ (c .before .before .before .child .given .1)
+          (run-down _ _ _ _ _ _ (omega arith) _ (above-length _ _ _) _ _ (moved .ensures) _ _ _ _ _ (c .before .before .before .child .given .1)
           (c .enter2 .ensures)
-          (above-put _ _ _ (omega (arith, room .level, room .levels, room .room))))
+          (above-put _ _ _ _ (omega (arith, room .level, room .levels, room .room))))
           ∙ at .inv .0,
       moved .kept .1 .1 .1 .0 ∙ at .inv .1,
-      held-down _ _ _ _ _ room _ _ (room .inside)
+      held-down _ _ _ _ _ _ room _ _ (room .inside)
           (inside-entered _ _ _ _ _ _ (c .enter2 .ensures) (in-table .0) (omega (arith, c .before .shared-slice-known5 .given (at .depth + 1))))
           (in-table .1),
     )
@@ -116,7 +117,7 @@ same-length : tie.Need-same-length Inv-loop μ-loop
 same-length c = c .before .before .before .before .before .visit .kept .1 .1 .1 .0 ∙ c .before .before .before .before .before .before .before .before .loop .inv .1
 
 returns : tie.Need-returns Inv-loop μ-loop
-returns c = sym (run-done _ _ _ _ _ _ (omega arith) _ (above-length _ _) _ _ (c .before .before .before .before .before .visit .ensures) (c .before .enum-told .given .1) (c .if1 .taken)) ∙ c .before .before .before .before .before .before .before .before .loop .inv .0
+returns c = sym (run-done _ _ _ _ _ _ (omega arith) _ (above-length _ _ _) _ _ (c .before .before .before .before .before .visit .ensures) (c .before .enum-told .given .1) (c .if1 .taken)) ∙ c .before .before .before .before .before .before .before .before .loop .inv .0
 
 sub-depth : tie.Need-sub-depth Inv-loop μ-loop
 sub-depth c = search needs
@@ -135,11 +136,11 @@ loop-again-3 c =
     let at = c .before .before .before .before .before .before .before .before .before .loop in
     let moved = c .before .before .before .before .before .before .visit in (
       sym
-          (run-up _ _ _ _ _ _ (omega arith) _ (above-length _ _) _ _ (moved .ensures) _ _ (c .before .before .enum-told .given .1)
-          (above-take _ _ (omega arith)))
+          (run-up _ _ _ _ _ _ (omega arith) _ (above-length _ _ _) _ _ (moved .ensures) _ _ (c .before .before .enum-told .given .1)
+          (above-take _ _ _ (omega arith)))
           ∙ at .inv .0,
       moved .kept .1 .1 .1 .0 ∙ at .inv .1,
-      held-up _ _ _ _ _ (at .inv .2) (omega arith),
+      held-up _ _ _ _ _ _ (at .inv .2) (omega arith),
     )
 
 enum-told-2 : tie.Need-enum-told-2 Inv-loop μ-loop
@@ -149,7 +150,7 @@ same-length-2 : tie.Need-same-length-2 Inv-loop μ-loop
 same-length-2 c = c .before .before .before .before .visit .kept .1 .1 .1 .0 ∙ c .before .before .before .before .before .before .before .loop .inv .1
 
 returns-2 : tie.Need-returns-2 Inv-loop μ-loop
-returns-2 c = sym (run-broken _ _ _ _ _ _ (omega arith) _ (above-length _ _) _ _ (c .before .before .before .before .visit .ensures) (c .enum-told2 .given .1)) ∙ c .before .before .before .before .before .before .before .loop .inv .0
+returns-2 c = sym (run-broken _ _ _ _ _ _ (omega arith) _ (above-length _ _ _) _ _ (c .before .before .before .before .visit .ensures) (c .enum-told2 .given .1)) ∙ c .before .before .before .before .before .before .before .loop .inv .0
 
 same-length-3 : tie.Need-same-length-3 Inv-loop μ-loop
 same-length-3 c = c .before .loop .inv .1

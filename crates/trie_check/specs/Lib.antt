@@ -1,0 +1,4 @@
+pub mod Mark
+pub mod Leaf
+pub mod Frame
+pub mod Trie
