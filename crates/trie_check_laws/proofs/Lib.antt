@@ -1,0 +1,4 @@
+pub mod RightTests
+pub mod RightStep
+pub mod RightMark
+pub mod RightLeaf
