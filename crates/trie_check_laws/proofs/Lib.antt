@@ -5,3 +5,4 @@ pub mod RightLeaf
 pub mod RightRest
 pub mod RightRun
 pub mod RightTrie
+pub mod Same
