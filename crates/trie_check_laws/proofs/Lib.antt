@@ -6,3 +6,4 @@ pub mod RightRest
 pub mod RightRun
 pub mod RightTrie
 pub mod Same
+pub mod Once
