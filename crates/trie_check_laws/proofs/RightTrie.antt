@@ -1,7 +1,6 @@
 -- Where the test of a trie says yes, the tables hold a sound trie at that root, with the pages and the nodes that were counted and marked.
 use Prim.Native.Nat.{ℕ, zero, suc, _+_, _*_, _-_, _<_, _≤_}
 use native.Mathlib.Omega.{arith}
-use native.Mathlib.Nat.{add-zero}
 use native.Mathlib.Numerals.{add-one}
 use mathlib.Core.Path.{_≡_, refl, sym, ap, _∙_, subst}
 use mathlib.Core.Bool.{Bool, true, false, cond}
@@ -14,8 +13,7 @@ use Rattle.meaning.specs.Lists.{all}
 use Rattle.meaning.specs.Trie.{leaf, inner, nodes, nodesIn}
 use Rattle.words.specs.Bits.{flag}
 use Rattle.layout.specs.Nodes.{leafState, innerState, stateAt}
-use Rattle.trie.specs.Heap.{Holds, hit}
-use Rattle.trie.specs.Phys.{Phys, leafP, innerP, bucket, tree, first, cells, Sound}
+use Rattle.trie.specs.Phys.{Phys, leafP, innerP, bucket, tree, first}
 use Rattle.trie_laws.specs.Sound.{pagesIn, pagesAmong, filled}
 use Rattle.trie_laws.specs.Path.{follows}
 use Rattle.trie_laws.specs.Walk.{soundWalk}
@@ -29,12 +27,11 @@ use Rattle.trie_check.specs.declared.leaf.Left.the-variants as budget
 use Rattle.trie_check.specs.declared.test.Move.{Move}
 use Rattle.trie_check.specs.declared.test.Move.the-variants as move
 use Rattle.trie_check.specs.Mark.{markOnce}
-use Rattle.trie_check.specs.Leaf.{kindOf, testLeaf}
+use Rattle.trie_check.specs.Leaf.{kindOf}
 use Rattle.trie_check.specs.Frame.{entered, pastChild, nextChain, stepIn}
-use Rattle.trie_check.specs.Trie.{Given, Fitting, State, state, Tested, tested, Visited, visited, seen, onChild, childMove, leafLeft, pastLeaf, visitChild, visitStep, visit, follow, run, leftIf, leftLeaf, testBelow, testKind, testTrie}
-use Rattle.trie_check_laws.specs.Uses.{uses}
+use Rattle.trie_check.specs.Trie.{Given, Fitting, state, Tested, tested, Visited, visited, childMove, leafLeft, pastLeaf, visitChild, visitStep, visit, follow, run, leftIf, leftLeaf, testBelow, testKind, testTrie}
 use Rattle.trie_check_laws.specs.Found.{Reads, Found, Marked, one}
-use Rattle.trie_check_laws.proofs.RightTests.{refused, passed}
+use Rattle.trie_check_laws.proofs.RightTests.{passed}
 use Rattle.trie_check_laws.proofs.RightStep.{AtChild, step-child, step-chain, step-up}
 use Rattle.trie_check_laws.proofs.RightMark.{Once, mark-fresh}
 use Rattle.trie_check_laws.proofs.RightLeaf.{kind-inner, kind-leaf, AtLeaf, LeafPages, leaf-right}
