@@ -7,3 +7,4 @@ pub mod RightRun
 pub mod RightTrie
 pub mod Same
 pub mod Once
+pub mod RightExample
