@@ -1,0 +1,10 @@
+pub mod RightTests
+pub mod RightStep
+pub mod RightMark
+pub mod RightLeaf
+pub mod RightRest
+pub mod RightRun
+pub mod RightTrie
+pub mod Same
+pub mod Once
+pub mod RightExample
