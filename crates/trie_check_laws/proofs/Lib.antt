@@ -1,1 +1,2 @@
 pub mod WholeMarks
+pub mod WholeLeaf
