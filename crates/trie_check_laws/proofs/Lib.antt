@@ -1,2 +1,3 @@
 pub mod WholeMarks
 pub mod WholeLeaf
+pub mod WholeSteps
