@@ -1,3 +1,5 @@
 pub mod WholeMarks
 pub mod WholeLeaf
 pub mod WholeSteps
+pub mod WholeFit
+pub mod WholeTrie
