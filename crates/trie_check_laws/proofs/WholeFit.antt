@@ -1,5 +1,5 @@
 -- How many nodes and pages the parts of a trie have, and that each part is in order where the whole is.
-use Prim.Native.Nat.{ℕ, suc, _+_, _≤_, _<_}
+use Prim.Native.Nat.{ℕ, suc, _+_, _<_}
 use native.Mathlib.Omega.{arith}
 use mathlib.Core.Path.{_≡_, refl, sym, _∙_}
 use mathlib.Core.Bool.{Bool, true, _&&_}
@@ -128,8 +128,7 @@ module _ (bytesOf : ℕ → List ℕ) (live : ℕ → Bool) (b n len : ℕ) wher
     pub fit : (t : Phys) (ys : List ℕ) → soundWalk bytesOf b n len (length ys) ys (tree t) ≡ true → all live (pagesIn (tree t)) ≡ true → Fit t ys
     fit (leafP x ps) ys h a = (h, a)
     fit (innerP x bs) ys h a =
-        let on : Bool = walkFrom bytesOf b n len (length ys) ys 0 (kids bs) in
-        (
+        let on : Bool = walkFrom bytesOf b n len (length ys) ys 0 (kids bs) in (
           ltb-true (length ys) len (and-first (ltb (length ys) len) on h),
           fit-kids bs ys (record { lo = 0; walked = and-second (ltb (length ys) len) on h; alive = a }),
         )

@@ -1,7 +1,7 @@
 -- The machine of the test from one state to another: what it costs, and its single steps.
 use Prim.Native.Nat.{ℕ, suc, _+_, _*_, _-_, _≤_, _<_}
 use native.Mathlib.Omega.{arith}
-use mathlib.Core.Path.{_≡_, refl, sym, ap, _∙_}
+use mathlib.Core.Path.{_≡_, refl, ap, _∙_}
 use mathlib.Core.Bool.{true}
 use mathlib.Core.List.{List, [], _∷_}
 use lib.Dec.{eqb}
@@ -17,7 +17,7 @@ use Rattle.trie_check.specs.declared.test.Move.the-variants as move
 use Rattle.trie_check.specs.Mark.{noted, markOnce}
 use Rattle.trie_check.specs.Leaf.{kindOf}
 use Rattle.trie_check.specs.Frame.{entered, pastChild, nextChain, stepAlong, stepIn}
-use Rattle.trie_check.specs.Trie.{Given, seen, Visited, visited, childMove, onMark, visitChild, onChild, visitStep, visit, State, state, Tested, tested, leftIf, follow, run}
+use Rattle.trie_check.specs.Trie.{Given, Visited, visited, childMove, onMark, visitChild, onChild, visitStep, visit, State, state, Tested, tested, leftIf, follow, run}
 
 -- ---- from state to state
 pub record Ran (w : Given) (f : ℕ) (s s′ : State) (cost : ℕ) : Type 0 where
