@@ -3,3 +3,4 @@ pub mod WholeLeaf
 pub mod WholeSteps
 pub mod WholeFit
 pub mod WholeTrie
+pub mod Claims

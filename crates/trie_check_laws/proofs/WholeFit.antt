@@ -1,5 +1,5 @@
 -- How many nodes and pages the parts of a trie have, and that each part is in order where the whole is.
-use Prim.Native.Nat.{ℕ, suc, _+_, _<_}
+use Prim.Native.Nat.{ℕ, suc, _+_, _≤_, _<_}
 use native.Mathlib.Omega.{arith}
 use mathlib.Core.Path.{_≡_, refl, sym, _∙_}
 use mathlib.Core.Bool.{Bool, true, _&&_}
@@ -10,7 +10,7 @@ use borrow.Author.Tests.{ltb-true}
 use Rattle.meaning.specs.Lists.{all}
 use Rattle.meaning.specs.Sketch.{packable}
 use Rattle.meaning.specs.Trie.{Children, child, nodes, nodesIn}
-use Rattle.trie.specs.Phys.{Phys, leafP, innerP, Buckets, end, bucket, Chain, stop, link, tree, kids, kidsC}
+use Rattle.trie.specs.Phys.{Phys, leafP, innerP, Buckets, end, bucket, Chain, stop, link, tree, kids, kidsC, SoundB}
 use Rattle.trie_laws.specs.Sound.{pagesIn, pagesAmong, filled}
 use Rattle.trie_laws.specs.Path.{follows}
 use Rattle.trie_laws.specs.Walk.{soundWalk, walkFrom}
@@ -73,6 +73,11 @@ mutual
   load-chain stop cs = omega arith
   load-chain (link c t ch) cs =
       omega (arith, load-pages t, load-chain ch cs, length-append (pagesIn (tree t)) (pagesAmong (kidsC ch cs)))
+
+-- eight chains
+pub chains-left : (cap pcap : ℕ) (bs : Buckets) (g : ℕ) → SoundB cap pcap bs g → g ≤ 8
+chains-left cap pcap end g s = omega arith
+chains-left cap pcap (bucket ch bs) g s = omega (arith, chains-left cap pcap bs (suc g) (s .1))
 
 -- ---- order
 module _ (bytesOf : ℕ → List ℕ) (live : ℕ → Bool) (b n len : ℕ) where

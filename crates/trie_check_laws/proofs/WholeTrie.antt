@@ -32,7 +32,7 @@ use Rattle.trie_check_laws.specs.Found.{Reads, Found, Marked, one}
 use Rattle.trie_check_laws.proofs.WholeMarks.{Clear, Counted, counted-none, counted-then, clear-first, clear-then, Fresh, mark-once}
 use Rattle.trie_check_laws.proofs.WholeLeaf.{leaf-kind, inner-kind, Leads, leads-none, leads-more, leads-less, on-path, leaf-tested}
 use Rattle.trie_check_laws.proofs.WholeSteps.{Ran, ran-none, ran-then, ran-within, ran-to, stepAt, step-chain, step-up, step-end, step-past, step-down, to-child, to-chain, to-up}
-use Rattle.trie_check_laws.proofs.WholeFit.{size, sizeB, sizeC, load, loadB, loadC, size-nodes, load-pages, Fit, FitB, FitC, fit}
+use Rattle.trie_check_laws.proofs.WholeFit.{size, sizeB, sizeC, load, loadB, loadC, size-nodes, load-pages, chains-left, Fit, FitB, FitC, fit}
 
 -- ---- from one end of a part to the other
 
@@ -169,10 +169,6 @@ module _ (w : Given) (bytesOf : ℕ → List ℕ) (small : w .block .nodes ≤ 2
   head-link : (ch : Chain) (x g : ℕ) → Holds (cellsC cap base ch (headAt cap x g) 0) N P → getD N (headAt cap x g) 0 ≡ linkC ch
   head-link ch x g h = omega (arith, slot-word ch (headAt cap x g) 0 h)
 
-  chains-left : (bs : Buckets) (g : ℕ) → SoundB cap pcap bs g → g ≤ 8
-  chains-left end g s = omega arith
-  chains-left (bucket ch bs) g s = omega (arith, chains-left bs (suc g) (s .1))
-
   -- ---- a leaf with a page
   leaf-through : (x p : ℕ) (ps ys : List ℕ) (c l : ℕ) → Holds (cells cap base (leafP x (p ∷ ps))) N P → Below pcap (p ∷ ps)
       → FitsT (leafP x (p ∷ ps)) (ys ++ c ∷ []) → length ys < len
@@ -208,7 +204,7 @@ module _ (w : Given) (bytesOf : ℕ → List ℕ) (small : w .block .nodes ≤ 2
       → (f : ℕ) (s : State) → 0 < f → s .frame .node ≡ x → s .frame .group ≡ g → s .frame .link ≡ 0 → Onward f s bs x (suc g)
   onward end x g h b f s n a d e = record { next = s .frame; from = (e, omega arith); ran = ran-within w f s s 0 1 (omega arith) (ran-none w f s) }
   onward (bucket ch bs) x g h b f s n a d e =
-      let top : g < 7 = omega (arith, chains-left bs (suc (suc g)) (b .1)) in
+      let top : g < 7 = omega (arith, chains-left cap pcap bs (suc (suc g)) (b .1)) in
       let l : ℕ = getD N (headAt cap (s .frame .node) (s .frame .group + 1)) 0 in
       let there : l ≡ linkC ch = rw (a, d, add-one g) (head-link ch x (suc g) (h .0)) in
       record {
@@ -234,7 +230,7 @@ module _ (w : Given) (bytesOf : ℕ → List ℕ) (small : w .block .nodes ≤ 2
   then-under : (ch : Chain) (bs : Buckets) (x g : ℕ) (ys : List ℕ) → Holds (cellsB cap base bs x (suc g)) N P → SoundB cap pcap bs (suc g)
       → Through ch ys (32 * g) (32 * g + 32) → ThroughAll bs x (suc g) ys → ThroughAll (bucket ch bs) x g ys
   then-under ch bs x g ys h b through others f s from r c =
-      let low : g < 8 = omega (arith, chains-left bs (suc g) b) in
+      let low : g < 8 = omega (arith, chains-left cap pcap bs (suc g) b) in
       let u : ℕ → ℕ = λ a. usesC ch a in
       let v : ℕ → ℕ = λ a. usesB bs a in
       let past = through f s (from .2) (from .3) (ap (λ n. 32 * n + 32) (from .1))
