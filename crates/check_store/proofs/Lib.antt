@@ -1,0 +1,2 @@
+pub mod PageSteps
+pub mod Admits

@@ -1,0 +1,3 @@
+// Check: is the store sound?
+mod pages;
+mod questions;
