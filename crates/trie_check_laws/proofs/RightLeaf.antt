@@ -1,0 +1,202 @@
+-- What the kind of a node says of its words, and what the test of a leaf says of its pages.
+use Prim.Native.Nat.{ℕ, zero, suc, _+_, _*_, _-_, _<_, _≤_}
+use native.Mathlib.Omega.{arith}
+use native.Mathlib.Nat.{zero-add}
+use mathlib.Core.Path.{_≡_, refl, sym, ap, _∙_}
+use mathlib.Core.Bool.{Bool, true, false, cond, _&&_}
+use mathlib.Core.List.{List, [], _∷_, _++_}
+use lib.Dec.{ltb, eqb}
+use lib.ListN.{length, getD, take}
+use lib.Seq.{getD-take, length-take-le}
+use borrow.Author.Tests.{eqb-true, eqb-false, eq-eqb, ltb-true, ltb-false}
+use Rattle.meaning.specs.Lists.{all, upto}
+use Rattle.meaning.specs.Trie.{byteAt}
+use Rattle.layout.specs.Nodes.{stateAt, headAt, freeState, innerState, leafState}
+use Rattle.layout.specs.Pages.{isLive}
+use Rattle.trie.specs.Heap.{Holds}
+use Rattle.trie.specs.Phys.{first, pageCells, noHeads, Below}
+use Rattle.trie.specs.Model.{pageByte, levelAt}
+use Rattle.trie_laws.specs.Path.{follows}
+use Rattle.trie_laws.proofs.Lists.{and-intro, upto-all}
+use Rattle.trie_laws.proofs.Path.{shift}
+use Rattle.trie_check.specs.declared.leaf.Kind.{Kind}
+use Rattle.trie_check.specs.declared.leaf.Kind.the-variants.{Inner, Leaf, Damaged}
+use Rattle.trie_check.specs.declared.leaf.Left.{Left}
+use Rattle.trie_check.specs.declared.leaf.Left.the-variants.{Some, Failed}
+use Rattle.trie_check.specs.Leaf.{bare, kindOf, onPath, testLeaf}
+use Rattle.trie_check.specs.Trie.{Given}
+use Rattle.trie_check_laws.specs.Found.{Reads}
+use Rattle.trie_check_laws.proofs.RightTests.{refused, passed}
+
+-- ---- the kind of a node
+module _ (N P : List ℕ) (cap x : ℕ) where
+  pub bare-holds : bare N cap x ≡ true → Holds (noHeads cap x) N P
+  unfolding bare noHeads
+  bare-holds h =
+      let at : (g : ℕ) → g < 8 → getD N (headAt cap x g) 0 ≡ 0 =
+      λ g l. eqb-true (getD N (headAt cap x g) 0) 0 (upto-all (λ g. eqb (getD N (headAt cap x g) 0) 0) 8 h g l) in (
+        at 0 (omega arith),
+        (
+          at 1 (omega arith),
+          (
+            at 2 (omega arith),
+            (
+              at 3 (omega arith),
+              (
+                at 4 (omega arith),
+                (
+                  at 5 (omega arith),
+                  (at 6 (omega arith), (at 7 (omega arith), tt)),
+                ),
+              ),
+            ),
+          ),
+        ),
+      )
+
+  abbrev word : ℕ
+  word = getD N (stateAt cap x) 0
+
+  pub kind-inner : kindOf N cap x ≡ Inner → word ≡ innerState
+  unfolding kindOf
+  kind-inner h =
+      let t = refused Damaged Inner apart (eqb word freeState) _ h in
+      go (eqb word innerState) refl (bare N cap x) (t .1)
+    where
+      apart : Damaged ≡ Inner → ⊥
+      apart e = let z : _≡_ {A = ℕ} 0 1 = cc in omega arith
+
+      go : (q : Bool) → eqb word innerState ≡ q → (r : Bool) → cond q Inner (cond r (Leaf (word - 2)) Damaged) ≡ Inner → word ≡ innerState
+      go true e r h = eqb-true word innerState e
+      go false e true h = let z : _≡_ {A = ℕ} 0 1 = cc in absurd (omega arith)
+      go false e false h = absurd (apart h)
+
+  pub record AtLeaf (link : ℕ) : Type 0 where
+    pub state : word ≡ leafState link
+    pub heads : Holds (noHeads cap x) N P
+
+  pub kind-leaf : (link : ℕ) → kindOf N cap x ≡ Leaf link → AtLeaf link
+  unfolding kindOf
+  kind-leaf link h =
+      let t1 = refused Damaged (Leaf link) damaged (eqb word freeState) _ h in
+      let t2 = refused Inner (Leaf link) inner (eqb word innerState) _ (t1 .1) in
+      let t3 = passed Damaged (Leaf link) damaged (bare N cap x) _ (t2 .1) in
+      let e : word - 2 ≡ link = same (t3 .1) in
+      let a : word ≡ 0 → ⊥ = eqb-false word freeState (t1 .0) in
+      let b : word ≡ 1 → ⊥ = eqb-false word innerState (t2 .0) in
+      record { state = omega arith; heads = bare-holds (t3 .0) }
+    where
+      damaged : Damaged ≡ Leaf link → ⊥
+      damaged e = let z : _≡_ {A = ℕ} 0 1 = cc in omega arith
+
+      inner : Inner ≡ Leaf link → ⊥
+      inner e = let z : _≡_ {A = ℕ} 0 1 = cc in omega arith
+
+      same : {a : ℕ} → Leaf a ≡ Leaf link → a ≡ link
+      same e = cc
+
+-- ---- the path
+pub follows-each : (bytesOf : ℕ → List ℕ) (k : ℕ) (ys : List ℕ) (p : ℕ) → ((i : ℕ) → i < length ys → byteAt bytesOf (k + i) p ≡ getD ys i 0) →
+    follows bytesOf k ys p ≡ true
+unfolding follows
+follows-each bytesOf k [] p h = refl
+follows-each bytesOf k (y ∷ ys) p h =
+    and-intro (eqb (byteAt bytesOf k p) y) (follows bytesOf (suc k) ys p)
+    (eq-eqb (byteAt bytesOf k p) y (ap (λ i. byteAt bytesOf i p) (omega arith) ∙ h 0 (omega arith)))
+    (follows-each bytesOf (suc k) ys p (λ i l. ap (λ j. byteAt bytesOf j p) (sym (shift k i)) ∙ h (suc i) (omega arith)))
+
+-- ---- the pages of a leaf
+module _ (w : Given) (bytesOf : ℕ → List ℕ) (reads : Reads w bytesOf) where
+  -- the pages below the bytes ys, from a link on; n is what they leave of a budget f
+  pub record LeafPages (ys : List ℕ) (link f n : ℕ) : Type 0 where
+    pub list : List ℕ
+    pub start : first list ≡ link
+    pub held : Holds (pageCells (w .block .base) list) (w .nodes) (w .pages)
+    pub below : Below (w .block .pages) list
+    pub live : all (isLive (w .pages)) list ≡ true
+    pub path : all (follows bytesOf 0 ys) list ≡ true
+    pub many : n + length list ≡ f
+
+  module _ (path : List ℕ) (d : ℕ) (long : d ≤ length path) (deep : d ≤ w .rows .bytes) where
+    abbrev ys : List ℕ
+    ys = take d path
+
+    abbrev test : ℕ → ℕ → Left
+    test link f = testLeaf (w .pages) (w .sketches) (w .block .pages) (w .block .base) (w .rows) path d link f
+
+    on-path : (p : ℕ) → p < w .block .pages → onPath (w .sketches) (w .rows) path d p ≡ true → follows bytesOf 0 ys p ≡ true
+    unfolding onPath
+    on-path p l h =
+        follows-each bytesOf 0 ys p
+        (λ i m.
+        let i-below : i < d = omega (arith, length-take-le d path long) in
+        let byte : ℕ = pageByte (w .sketches) (levelAt (w .rows) i) p in
+        ap (λ j. byteAt bytesOf j p) (zero-add i)
+        ∙ reads p i l (omega arith)
+        ∙ eqb-true byte (getD path i 0) (upto-all (λ k. eqb (pageByte (w .sketches) (levelAt (w .rows) k) p) (getD path k 0)) d h i i-below)
+        ∙ sym (getD-take d path i 0 i-below))
+
+    -- no page
+    none : (link f n : ℕ) → link ≡ 0 → Some f ≡ Some n → LeafPages ys link f n
+    unfolding all
+    none link f n e h =
+        let same : f ≡ n = some-same h in
+        record {
+          list = [];
+          start = sym e;
+          held = tt;
+          below = tt;
+          live = refl;
+          path = refl;
+          many = omega arith;
+        }
+      where
+        some-same : Some f ≡ Some n → f ≡ n
+        some-same h = cc
+
+    -- one page more
+    more : (link f n : ℕ) → (link ≡ 0 → ⊥) → link ≤ w .block .pages → isLive (w .pages) (link - 1) ≡ true
+        → onPath (w .sketches) (w .rows) path d (link - 1) ≡ true
+        → LeafPages ys (getD (w .pages) (w .block .base + (link - 1)) 0) f n → LeafPages ys link (suc f) n
+    unfolding all
+    more link f n some inside live on r =
+        let p : ℕ = link - 1 in
+        record {
+          list = p ∷ r .list;
+          start = omega arith;
+          held = (sym (r .start), r .held);
+          below = (omega arith, r .below);
+          live = and-intro (isLive (w .pages) p) (all (isLive (w .pages)) (r .list)) live (r .live);
+          path = and-intro (follows bytesOf 0 ys p) (all (follows bytesOf 0 ys) (r .list)) (on-path p (omega arith) on) (r .path);
+          many = omega (arith, r .many);
+        }
+
+    pub leaf-right : (f link n : ℕ) → test link f ≡ Some n → LeafPages ys link f n
+    unfolding testLeaf
+    leaf-right zero link n h =
+        let t = passed Failed (Some n) failed (eqb link 0) _ h in
+        none link 0 n (eqb-true link 0 (t .0)) (t .1)
+      where
+        failed : Failed ≡ Some n → ⊥
+        failed e = let z : _≡_ {A = ℕ} 0 1 = cc in omega arith
+    leaf-right (suc f) link n h =
+        go (eqb link 0) refl h (leaf-right f (getD (w .pages) (w .block .base + (link - 1)) 0) n)
+      where
+        failed : Failed ≡ Some n → ⊥
+        failed e = let z : _≡_ {A = ℕ} 0 1 = cc in omega arith
+
+        next : ℕ
+        next = getD (w .pages) (w .block .base + (link - 1)) 0
+
+        on : Bool
+        on = onPath (w .sketches) (w .rows) path d (link - 1)
+
+        go : (q : Bool) → eqb link 0 ≡ q
+            → cond q (Some (suc f)) (cond (ltb (w .block .pages) link) Failed (cond (isLive (w .pages) (link - 1)) (cond on (test next f) Failed) Failed)) ≡ Some n
+            → (test next f ≡ Some n → LeafPages ys next f n) → LeafPages ys link (suc f) n
+        go true e h ih = none link (suc f) n (eqb-true link 0 e) h
+        go false e h ih =
+            let t1 = refused Failed (Some n) failed (ltb (w .block .pages) link) _ h in
+            let t2 = passed Failed (Some n) failed (isLive (w .pages) (link - 1)) _ (t1 .1) in
+            let t3 = passed Failed (Some n) failed on _ (t2 .1) in
+            more link f n (eqb-false link 0 e) (ltb-false (w .block .pages) link (t1 .0)) (t2 .0) (t3 .0) (ih (t3 .1))

@@ -1,0 +1,166 @@
+-- Where the test ends well, each state of it has a rest that the tables hold: by the turns of the machine, from the last one back.
+use Prim.Native.Nat.{ℕ, zero, suc, _+_, _*_, _-_, _<_, _≤_}
+use native.Mathlib.Omega.{arith}
+use native.Mathlib.Numerals.{add-one}
+use mathlib.Core.Path.{_≡_, refl, sym, ap, _∙_, subst}
+use mathlib.Core.Bool.{Bool, true, false, cond}
+use mathlib.Core.List.{List, [], _∷_, _++_}
+use lib.Dec.{ltb, eqb}
+use lib.ListN.{length, getD, set, take, length-append, length-set}
+use lib.Seq.{take-set-le, take-suc-set}
+use borrow.Author.Tests.{eqb-true, eqb-false, ltb-true}
+use Rattle.meaning.specs.Lists.{all}
+use Rattle.meaning.specs.Trie.{Tree, leaf, inner, child, nodes, nodesIn}
+use Rattle.words.specs.Bits.{flag}
+use Rattle.layout.specs.Nodes.{leafState}
+use Rattle.trie.specs.Heap.{hit}
+use Rattle.trie.specs.Phys.{Phys, leafP, innerP, Buckets, end, bucket, Chain, stop, link, tree, first}
+use Rattle.trie_laws.specs.Sound.{pagesIn, pagesAmong, filled}
+use Rattle.trie_laws.specs.Walk.{soundWalk}
+use Rattle.trie_check.specs.declared.frame.Frame.{Frame}
+use Rattle.trie_check.specs.Frame.{entered, pastChild, nextChain}
+use Rattle.trie_check.specs.Trie.{Given}
+use Rattle.trie_check_laws.specs.Uses.{uses}
+use Rattle.trie_check_laws.specs.Found.{one}
+use Rattle.trie_check_laws.proofs.RightStep.{AtChild, AtChain, AtEnd}
+use Rattle.trie_check_laws.proofs.RightRest.{Rest, rest, kidsOf, usesOf, nodesAll, pagesAll, usesAll, Covers, Hangs, covers-end, covers-chain, covers-child}
+
+module _ (w : Given) (bytesOf : ℕ → List ℕ) where
+  -- the frames of a stack, the nearest first, with their rests
+  abbrev pub Above : List Frame → List ℕ → List Rest → Type 0
+  Above [] path [] = Unit {0}
+  Above [] path (r ∷ rs) = ⊥
+  Above (f ∷ fs) path [] = ⊥
+  Above (f ∷ fs) path (r ∷ rs) = Covers w bytesOf (length fs) (take (length fs) path) f r × Above fs path rs
+
+  -- bytes behind the stack's do not matter
+  above-set : (fs : List Frame) (rs : List Rest) (path : List ℕ) (k byte : ℕ) → length fs ≤ k → Above fs (set path k byte) rs → Above fs path rs
+  above-set [] [] path k byte l h = tt
+  above-set [] (r ∷ rs) path k byte l h = h
+  above-set (f ∷ fs) [] path k byte l h = h
+  above-set (f ∷ fs) (r ∷ rs) path k byte l h = (
+    subst (λ ys. Covers w bytesOf (length fs) ys f r) (take-set-le (length fs) path k byte (omega arith)) (h .0),
+    above-set fs rs path k byte (omega arith) (h .1),
+  )
+
+  -- The rest of a state: with it the budgets come out even and the marks become those of map′, of which `left′` nodes are left.
+  -- `bits` are the marks so far, in a map of `size` words.
+  pub record Completes (bits : ℕ → ℕ) (size : ℕ) (path : List ℕ) (left pages : ℕ) (f : Frame) (fs : List Frame) (map′ : List ℕ) (left′ : ℕ) : Type 0 where
+    pub here : Rest
+    pub above : List Rest
+    pub covers : Covers w bytesOf (length fs) (take (length fs) path) f here
+    pub covered : Above fs path above
+    pub nodesLeft : left′ + (nodesIn (kidsOf here) + nodesAll above) ≡ left
+    pub pagesLeft : length (pagesAmong (kidsOf here)) + pagesAll above ≡ pages
+    pub long : length map′ ≡ size
+    pub marks : (n : ℕ) → n < w .window .size → one (flag map′ 0 n) ≡ bits n + (usesOf here (w .window .from + n) + usesAll above (w .window .from + n))
+
+  module _ (bits : ℕ → ℕ) (size : ℕ) (path : List ℕ) (left pages : ℕ) (f : Frame) where
+    abbrev ends : ℕ → Type 0
+    ends k = AtEnd (w .nodes) (w .block .nodes) (w .rows .bits) (w .rows .length) k f
+
+    -- the last step
+    pub complete-done : (map′ : List ℕ) (left′ : ℕ) → ends 0 → left′ ≡ left → pages ≡ 0 → length map′ ≡ size
+        → ((n : ℕ) → one (flag map′ 0 n) ≡ bits n) → Completes bits size path left pages f [] map′ left′
+    unfolding pagesIn nodes
+    complete-done map′ left′ a e z l m = record {
+      here = rest stop end;
+      above = [];
+      covers = covers-end w bytesOf 0 (take 0 path) f a;
+      covered = tt;
+      nodesLeft = omega arith;
+      pagesLeft = omega arith;
+      long = l;
+      marks = λ n b. omega (arith, m n);
+    }
+
+    -- a step up
+    pub complete-up : (f′ : Frame) (fs : List Frame) (map′ : List ℕ) (left′ : ℕ) → ends (suc (length fs))
+        → Completes bits size path left pages f′ fs map′ left′ → Completes bits size path left pages f (f′ ∷ fs) map′ left′
+    unfolding pagesIn nodes
+    complete-up f′ fs map′ left′ a c = record {
+      here = rest stop end;
+      above = c .here ∷ c .above;
+      covers = covers-end w bytesOf (suc (length fs)) (take (suc (length fs)) path) f a;
+      covered = (c .covers, c .covered);
+      nodesLeft = omega (arith, c .nodesLeft);
+      pagesLeft = omega (arith, c .pagesLeft);
+      long = c .long;
+      marks = λ n b. omega (arith, c .marks n b);
+    }
+
+    -- a step to the next chain
+    pub complete-chain : (next : ℕ) (fs : List Frame) (map′ : List ℕ) (left′ : ℕ)
+        → AtChain (w .nodes) (w .block .nodes) (w .rows .bits) (w .rows .length) (length fs) f next
+        → Completes bits size path left pages (nextChain f next) fs map′ left′ → Completes bits size path left pages f fs map′ left′
+    complete-chain next fs map′ left′ a c = record {
+      here = rest stop (bucket (c .here .chain) (c .here .later));
+      above = c .above;
+      covers = covers-chain w bytesOf (length fs) (take (length fs) path) f next (c .here) a (c .covers);
+      covered = c .covered;
+      nodesLeft = c .nodesLeft;
+      pagesLeft = c .pagesLeft;
+      long = c .long;
+      marks = λ n b. omega (arith, c .marks n b);
+    }
+
+    -- past a child t
+    pub complete-child : (x byte next : ℕ) (t : Phys) (bits′ : ℕ → ℕ) (left₁ pages₁ : ℕ) (fs : List Frame) (map′ : List ℕ) (left′ : ℕ)
+        → AtChild (w .nodes) (w .block .nodes) (w .rows .bits) (w .rows .length) (length fs) f x byte next
+        → Hangs w bytesOf (length fs) (take (length fs) path) f x byte t
+        → left₁ + nodes (tree t) ≡ left → pages₁ + length (pagesIn (tree t)) ≡ pages
+        → ((n : ℕ) → n < w .window .size → bits′ n ≡ bits n + uses t (w .window .from + n))
+        → Completes bits′ size (set path (length fs) byte) left₁ pages₁ (pastChild f byte next) fs map′ left′
+        → Completes bits size path left pages f fs map′ left′
+    unfolding pagesIn nodes
+    complete-child x byte next t bits′ left₁ pages₁ fs map′ left′ a h u v m c =
+        let same : take (length fs) (set path (length fs) byte) ≡ take (length fs) path = take-set-le (length fs) path (length fs) byte (omega arith) in
+        record {
+          here = rest (link byte t (c .here .chain)) (c .here .later);
+          above = c .above;
+          covers = covers-child w bytesOf (length fs) (take (length fs) path) f x byte next t (c .here) a h
+              (subst (λ ys. Covers w bytesOf (length fs) ys (pastChild f byte next) (c .here)) same (c .covers));
+          covered = above-set fs (c .above) path (length fs) byte (omega arith) (c .covered);
+          nodesLeft = omega (arith, c .nodesLeft);
+          pagesLeft = omega (arith, c .pagesLeft, length-append (pagesIn (tree t)) (pagesAmong (kidsOf (c .here))));
+          long = c .long;
+          marks = λ n b. omega (arith, c .marks n b, m n b);
+        }
+
+  -- ---- back to the frame above: what was left below it is a tree
+  pub record Returned (bits : ℕ → ℕ) (size : ℕ) (path : List ℕ) (left pages : ℕ) (f f′ : Frame) (fs : List Frame) (map′ : List ℕ) (left′ : ℕ) : Type 0 where
+    pub below : Rest
+    pub covers : Covers w bytesOf (suc (length fs)) (take (suc (length fs)) path) f below
+    pub leftAfter : ℕ
+    pub pagesAfter : ℕ
+    pub nodesBelow : leftAfter + nodesIn (kidsOf below) ≡ left
+    pub pagesBelow : pagesAfter + length (pagesAmong (kidsOf below)) ≡ pages
+    pub onward : Completes (λ n. bits n + usesOf below (w .window .from + n)) size path leftAfter pagesAfter f′ fs map′ left′
+
+  pub return : (bits : ℕ → ℕ) (size : ℕ) (path : List ℕ) (left pages : ℕ) (f f′ : Frame) (fs : List Frame) (map′ : List ℕ) (left′ : ℕ)
+      → Completes bits size path left pages f (f′ ∷ fs) map′ left′ → Returned bits size path left pages f f′ fs map′ left′
+  return bits size path left pages f f′ fs map′ left′ c = go (c .above) (c .covered) (c .nodesLeft) (c .pagesLeft) (c .marks)
+    where
+      go : (rs : List Rest) → Above (f′ ∷ fs) path rs → left′ + (nodesIn (kidsOf (c .here)) + nodesAll rs) ≡ left
+          → length (pagesAmong (kidsOf (c .here))) + pagesAll rs ≡ pages
+          → ((n : ℕ) → n < w .window .size → one (flag map′ 0 n) ≡ bits n + (usesOf (c .here) (w .window .from + n) + usesAll rs (w .window .from + n)))
+          → Returned bits size path left pages f f′ fs map′ left′
+      go [] a u v m = absurd a
+      go (r ∷ rs) a u v m = record {
+        below = c .here;
+        covers = c .covers;
+        leftAfter = left′ + (nodesIn (kidsOf r) + nodesAll rs);
+        pagesAfter = length (pagesAmong (kidsOf r)) + pagesAll rs;
+        nodesBelow = omega arith;
+        pagesBelow = omega arith;
+        onward = record {
+          here = r;
+          above = rs;
+          covers = a .0;
+          covered = a .1;
+          nodesLeft = refl;
+          pagesLeft = refl;
+          long = c .long;
+          marks = λ n b. omega (arith, m n b);
+        };
+      }
