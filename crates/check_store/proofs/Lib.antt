@@ -1,2 +1,3 @@
-pub mod PageSteps
 pub mod Admits
+pub mod Fits
+pub mod PageSteps
