@@ -5,3 +5,6 @@ pub mod RightLeaf
 pub mod RightRest
 pub mod RightRun
 pub mod RightTrie
+pub mod Same
+pub mod Once
+pub mod RightExample

@@ -1,15 +1,15 @@
 -- What the kind of a node says of its words, and what the test of a leaf says of its pages.
-use Prim.Native.Nat.{ℕ, zero, suc, _+_, _*_, _-_, _<_, _≤_}
+use Prim.Native.Nat.{ℕ, zero, suc, _+_, _-_, _<_, _≤_}
 use native.Mathlib.Omega.{arith}
 use native.Mathlib.Nat.{zero-add}
 use mathlib.Core.Path.{_≡_, refl, sym, ap, _∙_}
-use mathlib.Core.Bool.{Bool, true, false, cond, _&&_}
-use mathlib.Core.List.{List, [], _∷_, _++_}
+use mathlib.Core.Bool.{Bool, true, false, cond}
+use mathlib.Core.List.{List, [], _∷_}
 use lib.Dec.{ltb, eqb}
 use lib.ListN.{length, getD, take}
 use lib.Seq.{getD-take, length-take-le}
-use borrow.Author.Tests.{eqb-true, eqb-false, eq-eqb, ltb-true, ltb-false}
-use Rattle.meaning.specs.Lists.{all, upto}
+use borrow.Author.Tests.{eqb-true, eqb-false, eq-eqb, ltb-false}
+use Rattle.meaning.specs.Lists.{all}
 use Rattle.meaning.specs.Trie.{byteAt}
 use Rattle.layout.specs.Nodes.{stateAt, headAt, freeState, innerState, leafState}
 use Rattle.layout.specs.Pages.{isLive}
@@ -19,7 +19,6 @@ use Rattle.trie.specs.Model.{pageByte, levelAt}
 use Rattle.trie_laws.specs.Path.{follows}
 use Rattle.trie_laws.proofs.Lists.{and-intro, upto-all}
 use Rattle.trie_laws.proofs.Path.{shift}
-use Rattle.trie_check.specs.declared.leaf.Kind.{Kind}
 use Rattle.trie_check.specs.declared.leaf.Kind.the-variants.{Inner, Leaf, Damaged}
 use Rattle.trie_check.specs.declared.leaf.Left.{Left}
 use Rattle.trie_check.specs.declared.leaf.Left.the-variants.{Some, Failed}

@@ -1,22 +1,20 @@
 -- What a state of the test has still to come, where the test ends well: for each frame the rest of its chain and the later chains.
-use Prim.Native.Nat.{ℕ, suc, _+_, _*_, _-_, _<_, _≤_}
+use Prim.Native.Nat.{ℕ, suc, _+_, _*_, _<_, _≤_}
 use native.Mathlib.Omega.{arith}
 use native.Mathlib.Numerals.{add-one}
 use mathlib.Core.Path.{_≡_, refl, sym, ap, _∙_, subst}
-use mathlib.Core.Bool.{Bool, true, false, cond, _&&_}
+use mathlib.Core.Bool.{Bool, true}
 use mathlib.Core.List.{List, [], _∷_, _++_}
-use lib.Dec.{ltb, leb, eqb}
-use lib.ListN.{length, getD, set, take, length-append}
-use lib.Seq.{take-set-le}
+use lib.Dec.{leb}
+use lib.ListN.{length, getD}
 use borrow.Author.Tests.{leb-true, le-leb, lt-ltb}
 use Rattle.meaning.specs.Lists.{all}
 use Rattle.meaning.specs.Sketch.{packable}
-use Rattle.meaning.specs.Trie.{Tree, leaf, inner, Children, none, child, nodes, nodesIn}
-use Rattle.words.specs.Bits.{flag}
+use Rattle.meaning.specs.Trie.{Tree, inner, Children, none, child, nodes, nodesIn}
 use Rattle.layout.specs.Nodes.{chainWord, stateAt, headAt, innerState}
 use Rattle.layout.specs.Pages.{isLive}
 use Rattle.trie.specs.Heap.{Holds}
-use Rattle.trie.specs.Phys.{Phys, leafP, innerP, Buckets, end, bucket, Chain, stop, link, root, tree, kids, kidsC, cells, cellsB, cellsC, Sound, SoundB, SoundC}
+use Rattle.trie.specs.Phys.{Phys, innerP, Buckets, end, bucket, Chain, stop, link, root, tree, kids, kidsC, cells, cellsB, Sound, SoundB, SoundC}
 use Rattle.trie.proofs.Fresh.{linkC, afterC, chain-head}
 use Rattle.trie_laws.specs.Sound.{pagesIn, pagesAmong, filled}
 use Rattle.trie_laws.specs.Walk.{soundWalk, walkFrom}
@@ -24,8 +22,7 @@ use Rattle.trie_laws.proofs.Lists.{and-intro, and-first, and-second, all-append
 use Rattle.trie_check.specs.declared.frame.Frame.{Frame}
 use Rattle.trie_check.specs.Frame.{entered, pastChild, nextChain}
 use Rattle.trie_check.specs.Trie.{Given}
-use Rattle.trie_check_laws.specs.Uses.{uses, usesB, usesC}
-use Rattle.trie_check_laws.specs.Found.{one}
+use Rattle.trie_check_laws.specs.Uses.{usesB, usesC}
 use Rattle.trie_check_laws.proofs.RightStep.{AtChild, AtChain, AtEnd}
 
 -- ---- the walk's test of children

@@ -1,24 +1,16 @@
 -- Where the test ends well, each state of it has a rest that the tables hold: by the turns of the machine, from the last one back.
-use Prim.Native.Nat.{ℕ, zero, suc, _+_, _*_, _-_, _<_, _≤_}
+use Prim.Native.Nat.{ℕ, suc, _+_, _<_, _≤_}
 use native.Mathlib.Omega.{arith}
-use native.Mathlib.Numerals.{add-one}
-use mathlib.Core.Path.{_≡_, refl, sym, ap, _∙_, subst}
-use mathlib.Core.Bool.{Bool, true, false, cond}
-use mathlib.Core.List.{List, [], _∷_, _++_}
-use lib.Dec.{ltb, eqb}
-use lib.ListN.{length, getD, set, take, length-append, length-set}
-use lib.Seq.{take-set-le, take-suc-set}
-use borrow.Author.Tests.{eqb-true, eqb-false, ltb-true}
-use Rattle.meaning.specs.Lists.{all}
-use Rattle.meaning.specs.Trie.{Tree, leaf, inner, child, nodes, nodesIn}
+use mathlib.Core.Path.{_≡_, refl, subst}
+use mathlib.Core.List.{List, [], _∷_}
+use lib.ListN.{length, set, take, length-append}
+use lib.Seq.{take-set-le}
+use Rattle.meaning.specs.Trie.{nodes, nodesIn}
 use Rattle.words.specs.Bits.{flag}
-use Rattle.layout.specs.Nodes.{leafState}
-use Rattle.trie.specs.Heap.{hit}
-use Rattle.trie.specs.Phys.{Phys, leafP, innerP, Buckets, end, bucket, Chain, stop, link, tree, first}
-use Rattle.trie_laws.specs.Sound.{pagesIn, pagesAmong, filled}
-use Rattle.trie_laws.specs.Walk.{soundWalk}
+use Rattle.trie.specs.Phys.{Phys, end, bucket, stop, link, tree}
+use Rattle.trie_laws.specs.Sound.{pagesIn, pagesAmong}
 use Rattle.trie_check.specs.declared.frame.Frame.{Frame}
-use Rattle.trie_check.specs.Frame.{entered, pastChild, nextChain}
+use Rattle.trie_check.specs.Frame.{pastChild, nextChain}
 use Rattle.trie_check.specs.Trie.{Given}
 use Rattle.trie_check_laws.specs.Uses.{uses}
 use Rattle.trie_check_laws.specs.Found.{one}

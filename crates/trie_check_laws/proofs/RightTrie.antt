@@ -1,7 +1,6 @@
 -- Where the test of a trie says yes, the tables hold a sound trie at that root, with the pages and the nodes that were counted and marked.
 use Prim.Native.Nat.{ℕ, zero, suc, _+_, _*_, _-_, _<_, _≤_}
 use native.Mathlib.Omega.{arith}
-use native.Mathlib.Nat.{add-zero}
 use native.Mathlib.Numerals.{add-one}
 use mathlib.Core.Path.{_≡_, refl, sym, ap, _∙_, subst}
 use mathlib.Core.Bool.{Bool, true, false, cond}
@@ -14,8 +13,7 @@ use Rattle.meaning.specs.Lists.{all}
 use Rattle.meaning.specs.Trie.{leaf, inner, nodes, nodesIn}
 use Rattle.words.specs.Bits.{flag}
 use Rattle.layout.specs.Nodes.{leafState, innerState, stateAt}
-use Rattle.trie.specs.Heap.{Holds, hit}
-use Rattle.trie.specs.Phys.{Phys, leafP, innerP, bucket, tree, first, cells, Sound}
+use Rattle.trie.specs.Phys.{Phys, leafP, innerP, bucket, tree, first}
 use Rattle.trie_laws.specs.Sound.{pagesIn, pagesAmong, filled}
 use Rattle.trie_laws.specs.Path.{follows}
 use Rattle.trie_laws.specs.Walk.{soundWalk}
@@ -29,12 +27,11 @@ use Rattle.trie_check.specs.declared.leaf.Left.the-variants as budget
 use Rattle.trie_check.specs.declared.test.Move.{Move}
 use Rattle.trie_check.specs.declared.test.Move.the-variants as move
 use Rattle.trie_check.specs.Mark.{markOnce}
-use Rattle.trie_check.specs.Leaf.{kindOf, testLeaf}
+use Rattle.trie_check.specs.Leaf.{kindOf}
 use Rattle.trie_check.specs.Frame.{entered, pastChild, nextChain, stepIn}
-use Rattle.trie_check.specs.Trie.{Given, Fitting, State, state, Tested, tested, Visited, visited, seen, onChild, childMove, leafLeft, pastLeaf, visitChild, visitStep, visit, follow, run, leftIf, leftLeaf, testBelow, testKind, testTrie}
-use Rattle.trie_check_laws.specs.Uses.{uses}
+use Rattle.trie_check.specs.Trie.{Given, Fitting, state, Tested, tested, Visited, visited, childMove, leafLeft, pastLeaf, visitChild, visitStep, visit, follow, run, leftIf, leftLeaf, testBelow, testKind, testTrie}
 use Rattle.trie_check_laws.specs.Found.{Reads, Found, Marked, one}
-use Rattle.trie_check_laws.proofs.RightTests.{refused, passed}
+use Rattle.trie_check_laws.proofs.RightTests.{passed}
 use Rattle.trie_check_laws.proofs.RightStep.{AtChild, step-child, step-chain, step-up}
 use Rattle.trie_check_laws.proofs.RightMark.{Once, mark-fresh}
 use Rattle.trie_check_laws.proofs.RightLeaf.{kind-inner, kind-leaf, AtLeaf, LeafPages, leaf-right}
@@ -57,11 +54,11 @@ module _ (w : Given) (bytesOf : ℕ → List ℕ) (reads : Reads w bytesOf) (map
   failed : (map : List ℕ) → tested map budget.Failed ≡ good → ⊥
   failed map h = failed-left (ap (λ t. t .answer) h)
 
-  abbrev bitsOf : List ℕ → ℕ → ℕ
-  bitsOf map n = one (flag map 0 n)
+  abbrev marksIn : List ℕ → ℕ → ℕ
+  marksIn map n = one (flag map 0 n)
 
   abbrev Ends : List ℕ → List ℕ → ℕ → ℕ → Frame → List Frame → Type 0
-  Ends map path left pages f fs = Completes w bytesOf (bitsOf map) (length map) path left pages f fs map′ left′
+  Ends map path left pages f fs = Completes w bytesOf (marksIn map) (length map) path left pages f fs map′ left′
 
   -- a run from a state that ends well
   abbrev Right : ℕ → Type 0
@@ -104,11 +101,11 @@ module _ (w : Given) (bytesOf : ℕ → List ℕ) (reads : Reads w bytesOf) (map
         let ps : LeafPages w bytesOf reads (take (k + 1) path₁) link pages n =
         leaf-right w bytesOf reads path₁ (k + 1) (omega arith) (omega arith) pages link n t in
         let c = ih map₁ path₁ (left - 1) n (pastChild f byte next) fs (omega (arith, mark .long)) deep (omega arith) h in
-        complete-child w bytesOf (bitsOf map) (length map) path left pages f x byte next (leafP x (ps .list)) (bitsOf map₁) (left - 1) n fs map′ left′
+        complete-child w bytesOf (marksIn map) (length map) path left pages f x byte next (leafP x (ps .list)) (marksIn map₁) (left - 1) n fs map′ left′
         at (leaf-hangs link n a more ps) (omega arith) (ps .many) (mark .marks)
-        (subst (λ s. Completes w bytesOf (bitsOf map₁) s path₁ (left - 1) n (pastChild f byte next) fs map′ left′) (mark .long) c)
+        (subst (λ s. Completes w bytesOf (marksIn map₁) s path₁ (left - 1) n (pastChild f byte next) fs map′ left′) (mark .long) c)
 
-    inner-hangs : (r : Returned w bytesOf (bitsOf map₁) (length map) path₁ (left - 1) pages (entered (w .nodes) (w .block .nodes) x) (pastChild f byte next) fs map′ left′)
+    inner-hangs : (r : Returned w bytesOf (marksIn map₁) (length map) path₁ (left - 1) pages (entered (w .nodes) (w .block .nodes) x) (pastChild f byte next) fs map′ left′)
         → getD (w .nodes) (stateAt (w .block .nodes) x) 0 ≡ innerState → suc k < w .rows .bytes
         → Hangs w bytesOf k (take k path) f x byte (innerP x (bucket (r .below .chain) (r .below .later)))
     unfolding filled pagesIn entered
@@ -132,10 +129,10 @@ module _ (w : Given) (bytesOf : ℕ → List ℕ) (reads : Reads w bytesOf) (map
         let wide : length path₁ ≡ length path = length-set path k byte in
         let f₁ : Frame = entered (w .nodes) (w .block .nodes) x in
         let c = ih map₁ path₁ (left - 1) pages f₁ (pastChild f byte next ∷ fs) (omega (arith, mark .long)) (omega arith) (omega arith) h in
-        let r = return w bytesOf (bitsOf map₁) (length map) path₁ (left - 1) pages f₁ (pastChild f byte next) fs map′ left′
-        (subst (λ s. Completes w bytesOf (bitsOf map₁) s path₁ (left - 1) pages f₁ (pastChild f byte next ∷ fs) map′ left′) (mark .long) c) in
-        complete-child w bytesOf (bitsOf map) (length map) path left pages f x byte next (innerP x (bucket (r .below .chain) (r .below .later)))
-        (λ n. bitsOf map₁ n + usesOf (r .below) (w .window .from + n)) (r .leftAfter) (r .pagesAfter) fs map′ left′
+        let r = return w bytesOf (marksIn map₁) (length map) path₁ (left - 1) pages f₁ (pastChild f byte next) fs map′ left′
+        (subst (λ s. Completes w bytesOf (marksIn map₁) s path₁ (left - 1) pages f₁ (pastChild f byte next ∷ fs) map′ left′) (mark .long) c) in
+        complete-child w bytesOf (marksIn map) (length map) path left pages f x byte next (innerP x (bucket (r .below .chain) (r .below .later)))
+        (λ n. marksIn map₁ n + usesOf (r .below) (w .window .from + n)) (r .leftAfter) (r .pagesAfter) fs map′ left′
         at (inner-hangs r (kind-inner (w .nodes) (w .pages) (w .block .nodes) x e) (omega arith))
         (omega (arith, r .nodesBelow)) (r .pagesBelow) (λ n b. omega (arith, mark .marks n b)) (r .onward)
 
@@ -204,21 +201,21 @@ module _ (w : Given) (bytesOf : ℕ → List ℕ) (reads : Reads w bytesOf) (map
     up-turn f [] room deep long e h =
         let t = passed budget.Failed (budget.Some left′) failed-left (eqb pages 0) (budget.Some left) (ap (λ t. t .answer) h) in
         let same : map ≡ map′ = ap (λ t. t .map) h in
-        complete-done w bytesOf (bitsOf map) (length map) path left pages f map′ left′
+        complete-done w bytesOf (marksIn map) (length map) path left pages f map′ left′
         (step-up (w .nodes) (w .block .nodes) (w .rows .bits) (w .rows .length) 0 f e)
         (left-same (t .1)) (eqb-true pages 0 (t .0)) (ap length (sym same)) (λ n. ap (λ m. one (flag m 0 n)) (sym same))
       where
         left-same : budget.Some left ≡ budget.Some left′ → left′ ≡ left
         left-same e = cc
     up-turn f (f′ ∷ fs) room deep long e h =
-        complete-up w bytesOf (bitsOf map) (length map) path left pages f f′ fs map′ left′
+        complete-up w bytesOf (marksIn map) (length map) path left pages f f′ fs map′ left′
         (step-up (w .nodes) (w .block .nodes) (w .rows .bits) (w .rows .length) (suc (length fs)) f e)
         (ih map path left pages f′ fs room (omega arith) long h)
 
     turn : (f : Frame) (fs : List Frame) → w .window .size ≤ 32 * length map → length fs < w .rows .bytes → w .rows .bytes ≤ length path
         → (s : Step) → stepOf f fs ≡ s → follows-step f fs s ≡ good → Ends map path left pages f fs
     turn f fs room deep long (step.Chain next) e h =
-        complete-chain w bytesOf (bitsOf map) (length map) path left pages f next fs map′ left′
+        complete-chain w bytesOf (marksIn map) (length map) path left pages f next fs map′ left′
         (step-chain (w .nodes) (w .block .nodes) (w .rows .bits) (w .rows .length) (length fs) f next e)
         (ih map path left pages (nextChain f next) fs room deep long h)
     turn f fs room deep long (step.Child x byte next) e h = child-turn f fs room deep long x byte next e h
@@ -278,7 +275,7 @@ module _ (w : Given) (bytesOf : ℕ → List ℕ) (reads : Reads w bytesOf) (map
       where
         go : (rs : List Rest) → Above w bytesOf [] path rs → (r : Rest) → Covers w bytesOf 0 (take 0 path) (entered (w .nodes) (w .block .nodes) at) r
             → left′ + (nodesIn (kidsOf r) + nodesAll rs) ≡ left - 1 → length (pagesAmong (kidsOf r)) + pagesAll rs ≡ total → length map′ ≡ length map₁
-            → ((n : ℕ) → n < w .window .size → one (flag map′ 0 n) ≡ bitsOf map₁ n + (usesOf r (w .window .from + n) + usesAll rs (w .window .from + n)))
+            → ((n : ℕ) → n < w .window .size → one (flag map′ 0 n) ≡ marksIn map₁ n + (usesOf r (w .window .from + n) + usesAll rs (w .window .from + n)))
             → Answer
         go (r′ ∷ rs) a r c u v l m = absurd a
         go [] a r c u v l m = (
