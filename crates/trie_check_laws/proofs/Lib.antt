@@ -8,3 +8,9 @@ pub mod RightTrie
 pub mod Same
 pub mod Once
 pub mod RightExample
+pub mod WholeMarks
+pub mod WholeLeaf
+pub mod WholeSteps
+pub mod WholeFit
+pub mod WholeTrie
+pub mod Claims

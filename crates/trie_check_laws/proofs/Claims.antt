@@ -1,0 +1,218 @@
+-- How often a trie and the free nodes claim a word of the node table: as often as the node stands there that the word belongs to.
+use Prim.Native.Nat.{ℕ, zero, suc, _+_, _*_, _-_, _/_, _≤_, _<_}
+use native.Mathlib.Decide.{ℕ-discrete}
+use native.Mathlib.Nat.{add-suc, add-zero}
+use native.Mathlib.Numerals.{towards-suc}
+use native.Mathlib.Omega.{arith}
+use mathlib.Core.Path.{_≡_, refl, sym, ap, _∙_}
+use mathlib.Core.Bool.{Bool, true, false, cond}
+use mathlib.Core.Logic.{_≢_}
+use mathlib.Core.List.{List, [], _∷_}
+use lib.Dec.{ltb, eqb}
+use lib.ListN.{getD}
+use borrow.Author.Tests.{ltb-true, ltb-false, lt-ltb, le-ltb, eq-eqb, ne-eqb}
+use Rattle.meaning.specs.Lists.{count}
+use Rattle.layout.specs.Nodes.{chainAt, stateAt, headAt}
+use Rattle.trie.specs.Heap.{hit, nodeClaims, Holds}
+use Rattle.trie.specs.Phys.{Phys, leafP, innerP, Buckets, end, bucket, Chain, stop, link, root, noHeads, pageCells, freeCells, cells, cellsB, cellsC, Below, Sound, SoundB, SoundC}
+use Rattle.trie.proofs.Frame.{hit-same, hit-other}
+use Rattle.trie_laws.proofs.Lists.{eqb-comm}
+use Rattle.trie_check_laws.specs.Uses.{uses, usesB, usesC}
+use Rattle.trie_check_laws.proofs.WholeFit.{chains-left}
+
+-- ---- the words of a node
+
+-- the node of cap nodes that a word belongs to; cap for a word behind them
+unfoldable pub owner : ℕ → ℕ → ℕ
+owner cap a = cond (ltb a cap) a (cond (ltb a (2 * cap)) (a - cap) (cond (ltb a (10 * cap)) ((a - 2 * cap) / 8) cap))
+
+-- how often a word is among n from k on
+among : ℕ → ℕ → ℕ → ℕ
+among k zero a = 0
+among k (suc n) a = hit k a + among (suc k) n a
+
+among-out : (k n a : ℕ) → (k ≤ a → k + n ≤ a) → among k n a ≡ 0
+unfolding among
+among-out k zero a h = refl
+among-out k (suc n) a h =
+    omega (arith, hit-other {a = a} {b = k} (λ e. omega (arith, h (omega arith))), among-out (suc k) n a (λ l. omega (arith, h (omega arith))))
+
+among-in : (k n a : ℕ) → k ≤ a → a < k + n → among k n a ≡ 1
+unfolding among
+among-in k zero a l m = absurd (omega arith)
+among-in k (suc n) a l m = go (λ p q. among-in (suc k) n a p q) (ℕ-discrete a k)
+  where
+    go : (suc k ≤ a → a < suc k + n → among (suc k) n a ≡ 1) → Dec (a ≡ k) → hit k a + among (suc k) n a ≡ 1
+    go more (yes e) = omega (arith, hit-same {a = a} {b = k} e, among-out (suc k) n a (λ q. absurd (omega arith)))
+    go more (no e) = omega (arith, hit-other {a = a} {b = k} e, more (omega arith) (omega arith))
+
+heads : (cap n a : ℕ) → nodeClaims (noHeads cap n) a ≡ among (headAt cap n 0) 8 a
+unfolding noHeads among
+heads cap n a = simp (towards-suc, add-zero)
+
+-- each word of a node belongs to it
+module _ (cap a n : ℕ) (below : n < cap) where
+  abbrev Owned : ℕ → Type 0
+  Owned x = hit (chainAt n) a + hit (stateAt cap n) a + nodeClaims (noHeads cap n) a ≡ hit n x
+
+  in-chain : a < cap → Owned a
+  in-chain l =
+      omega (arith, hit-other {a = a} {b = cap + n} (λ e. omega arith), heads cap n a, among-out (headAt cap n 0) 8 a (λ q. absurd (omega arith)))
+
+  in-state : cap ≤ a → a < 2 * cap → Owned (a - cap)
+  in-state l m = go (ℕ-discrete (a - cap) n)
+    where
+      others : hit (chainAt n) a + nodeClaims (noHeads cap n) a ≡ 0
+      others = omega (arith, hit-other {a = a} {b = n} (λ e. omega arith), heads cap n a, among-out (headAt cap n 0) 8 a (λ q. absurd (omega arith)))
+
+      go : Dec (a - cap ≡ n) → Owned (a - cap)
+      go (yes e) = omega (arith, others, hit-same {a = a - cap} {b = n} e, hit-same {a = a} {b = cap + n} (omega arith))
+      go (no e) = omega (arith, others, hit-other {a = a - cap} {b = n} e, hit-other {a = a} {b = cap + n} (λ q. e (omega arith)))
+
+  others : 2 * cap ≤ a → hit (chainAt n) a + hit (stateAt cap n) a ≡ 0
+  others l = omega (arith, hit-other {a = a} {b = n} (λ e. omega arith), hit-other {a = a} {b = cap + n} (λ e. omega arith))
+
+  in-head : 2 * cap ≤ a → Owned ((a - 2 * cap) / 8)
+  in-head l = go (ℕ-discrete ((a - 2 * cap) / 8) n)
+    where
+      go : Dec ((a - 2 * cap) / 8 ≡ n) → Owned ((a - 2 * cap) / 8)
+      go (yes e) =
+          omega (arith, others l, heads cap n a, among-in (headAt cap n 0) 8 a (omega arith) (omega arith), hit-same {a = (a - 2 * cap) / 8} {b = n} e)
+      go (no e) =
+          omega (arith, others l, heads cap n a, hit-other {a = (a - 2 * cap) / 8} {b = n} e,
+          among-out (headAt cap n 0) 8 a (λ q. not-below (λ r. e (omega arith))))
+        where
+          not-below : (a < headAt cap n 0 + 8 → ⊥) → headAt cap n 0 + 8 ≤ a
+          not-below h = omega (arith, h)
+
+  in-none : 10 * cap ≤ a → Owned cap
+  in-none l =
+      omega (arith, others (omega arith), heads cap n a, among-out (headAt cap n 0) 8 a (λ q. omega arith), hit-other {a = cap} {b = n} (λ e. omega arith))
+
+  owned : Owned (owner cap a)
+  unfolding owner
+  owned = go (ltb a cap) refl (ltb a (2 * cap)) refl (ltb a (10 * cap)) refl
+    where
+      go : (p : Bool) → ltb a cap ≡ p → (q : Bool) → ltb a (2 * cap) ≡ q → (r : Bool) → ltb a (10 * cap) ≡ r
+          → Owned (cond p a (cond q (a - cap) (cond r ((a - 2 * cap) / 8) cap)))
+      go true e q f r g = in-chain (ltb-true a cap e)
+      go false e true f r g = in-state (ltb-false a cap e) (ltb-true a (2 * cap) f)
+      go false e false f true g = in-head (ltb-false a (2 * cap) f)
+      go false e false f false g = in-none (ltb-false a (10 * cap) g)
+
+-- where the words of node x stand
+pub owner-chain : (cap x : ℕ) → x < cap → owner cap (chainAt x) ≡ x
+unfolding owner
+owner-chain cap x l = rw (lt-ltb x cap l) refl
+
+pub owner-state : (cap x : ℕ) → x < cap → owner cap (stateAt cap x) ≡ x
+unfolding owner
+owner-state cap x l = rw (le-ltb (cap + x) cap (omega arith), lt-ltb (cap + x) (2 * cap) (omega arith)) (omega arith)
+
+pub owner-head : (cap x g : ℕ) → x < cap → g < 8 → owner cap (headAt cap x g) ≡ x
+unfolding owner
+owner-head cap x g l m =
+    rw (
+      le-ltb (2 * cap + 8 * x + g) cap (omega arith),
+      le-ltb (2 * cap + 8 * x + g) (2 * cap) (omega arith),
+      lt-ltb (2 * cap + 8 * x + g) (10 * cap) (omega arith),
+    )
+    (omega arith)
+
+pub owner-none : (cap a : ℕ) → 10 * cap ≤ a → owner cap a ≡ cap
+unfolding owner
+owner-none cap a l = rw (le-ltb a cap (omega arith), le-ltb a (2 * cap) (omega arith), le-ltb a (10 * cap) l) refl
+
+-- ---- claims by uses
+hit-count : (f x : ℕ) → hit f x ≡ cond (eqb x f) 1 0
+unfolding hit
+hit-count f x = ap (λ q. cond q 1 0) (eqb-comm f x)
+
+module _ (cap pcap base a : ℕ) where
+  no-nodes : (ps : List ℕ) → nodeClaims (pageCells base ps) a ≡ 0
+  no-nodes [] = refl
+  no-nodes (p ∷ ps) = omega (arith, no-nodes ps)
+
+  mutual
+    unfolding among
+
+    -- the root's chain word is not the trie's
+    pub trie-words : (t : Phys) → Sound cap pcap t → nodeClaims (cells cap base t) a + hit (chainAt (root t)) a ≡ uses t (owner cap a)
+    trie-words (leafP n ps) s = omega (arith, owned cap a n (s .0), no-nodes ps)
+    trie-words (innerP n bs) s = omega (arith, owned cap a n (s .0), heads cap n a, bucket-words bs n 0 8 refl (s .1))
+
+    bucket-words : (bs : Buckets) (n g k : ℕ) → k + g ≡ 8 → SoundB cap pcap bs g
+        → nodeClaims (cellsB cap base bs n g) a ≡ among (headAt cap n g) k a + usesB bs (owner cap a)
+    bucket-words end n g zero e s = refl
+    bucket-words end n g (suc k) e s = absurd (omega (arith, s))
+    bucket-words (bucket ch bs) n g zero e s = absurd (omega (arith, chains-left cap pcap bs (suc g) (s .1)))
+    bucket-words (bucket ch bs) n g (suc k) e s =
+        let next : headAt cap n (suc g) ≡ suc (headAt cap n g) = omega arith in
+        omega (arith, chain-words ch (headAt cap n g) 0 (32 * g) (32 * g + 32) (s .0), rw next at (bucket-words bs n (suc g) k (omega arith) (s .1)))
+
+    chain-words : (ch : Chain) (s y lo hi : ℕ) → SoundC cap pcap ch lo hi → nodeClaims (cellsC cap base ch s y) a ≡ hit s a + usesC ch (owner cap a)
+    chain-words stop s y lo hi h = omega arith
+    chain-words (link b t ch) s y lo hi h = omega (arith, trie-words t (h .2), chain-words ch (chainAt (root t)) b (suc b) hi (h .3))
+
+  pub free-words : (fs : List ℕ) → Below cap fs → nodeClaims (freeCells cap fs) a ≡ count (eqb (owner cap a)) fs
+  unfolding count
+  free-words [] b = refl
+  free-words (f ∷ fs) b = omega (arith, owned cap a f (b .0), hit-count f (owner cap a), free-words fs (b .1))
+
+-- ---- a node that is not in the table stands nowhere
+module _ (cap pcap x : ℕ) (outside : cap ≤ x) where
+  mutual
+    pub uses-none : (t : Phys) → Sound cap pcap t → uses t x ≡ 0
+    uses-none (leafP n ps) s = hit-other {a = x} {b = n} (λ e. omega (arith, s .0))
+    uses-none (innerP n bs) s = omega (arith, hit-other {a = x} {b = n} (λ e. omega (arith, s .0)), uses-none-kids bs 0 (s .1))
+
+    uses-none-kids : (bs : Buckets) (g : ℕ) → SoundB cap pcap bs g → usesB bs x ≡ 0
+    uses-none-kids end g s = refl
+    uses-none-kids (bucket ch bs) g s = omega (arith, uses-none-chain ch (32 * g) (32 * g + 32) (s .0), uses-none-kids bs (suc g) (s .1))
+
+    uses-none-chain : (ch : Chain) (lo hi : ℕ) → SoundC cap pcap ch lo hi → usesC ch x ≡ 0
+    uses-none-chain stop lo hi s = refl
+    uses-none-chain (link b t ch) lo hi s = omega (arith, uses-none t (s .2), uses-none-chain ch (suc b) hi (s .3))
+
+  pub free-none : (fs : List ℕ) → Below cap fs → count (eqb x) fs ≡ 0
+  unfolding count
+  free-none [] b = refl
+  free-none (f ∷ fs) b = rw (ne-eqb x f (λ e. omega (arith, b .0))) (omega (arith, free-none fs (b .1)))
+
+-- ---- word by word
+root-in : (cap pcap : ℕ) (t : Phys) → Sound cap pcap t → root t < cap
+root-in cap pcap (leafP n ps) s = s .0
+root-in cap pcap (innerP n bs) s = s .0
+
+module _ (cap pcap base : ℕ) (t : Phys) (s : Sound cap pcap t) where
+  -- a word that is no chain word of the table is not the root's
+  apart : (a : ℕ) → cap ≤ a → hit (chainAt (root t)) a ≡ 0
+  apart a l = hit-other {a = a} {b = root t} (λ e. omega (arith, root-in cap pcap t s))
+
+  pub chain-claims : (x : ℕ) → x < cap → nodeClaims (cells cap base t) (chainAt x) + hit (root t) x ≡ uses t x
+  chain-claims x l = trie-words cap pcap base x t s ∙ ap (λ n. uses t n) (owner-chain cap x l)
+
+  pub state-claims : (x : ℕ) → x < cap → nodeClaims (cells cap base t) (stateAt cap x) ≡ uses t x
+  state-claims x l =
+      omega (arith, trie-words cap pcap base (stateAt cap x) t s, apart (stateAt cap x) (omega arith), ap (λ n. uses t n) (owner-state cap x l))
+
+  pub head-claims : (x g : ℕ) → x < cap → g < 8 → nodeClaims (cells cap base t) (headAt cap x g) ≡ uses t x
+  head-claims x g l m =
+      omega (arith, trie-words cap pcap base (headAt cap x g) t s, apart (headAt cap x g) (omega arith), ap (λ n. uses t n) (owner-head cap x g l m))
+
+  pub past-claims : (a : ℕ) → 10 * cap ≤ a → nodeClaims (cells cap base t) a ≡ 0
+  past-claims a l =
+      omega (arith, trie-words cap pcap base a t s, ap (λ n. uses t n) (owner-none cap a l), uses-none cap pcap cap (omega arith) t s)
+
+module _ (cap pcap base : ℕ) (fs : List ℕ) (b : Below cap fs) where
+  pub free-chain : (x : ℕ) → x < cap → nodeClaims (freeCells cap fs) (chainAt x) ≡ count (eqb x) fs
+  free-chain x l = free-words cap pcap base x fs b ∙ ap (λ n. count (eqb n) fs) (owner-chain cap x l)
+
+  pub free-state : (x : ℕ) → x < cap → nodeClaims (freeCells cap fs) (stateAt cap x) ≡ count (eqb x) fs
+  free-state x l = free-words cap pcap base (stateAt cap x) fs b ∙ ap (λ n. count (eqb n) fs) (owner-state cap x l)
+
+  pub free-head : (x g : ℕ) → x < cap → g < 8 → nodeClaims (freeCells cap fs) (headAt cap x g) ≡ count (eqb x) fs
+  free-head x g l m = free-words cap pcap base (headAt cap x g) fs b ∙ ap (λ n. count (eqb n) fs) (owner-head cap x g l m)
+
+  pub free-past : (a : ℕ) → 10 * cap ≤ a → nodeClaims (freeCells cap fs) a ≡ 0
+  free-past a l = free-words cap pcap base a fs b ∙ ap (λ n. count (eqb n) fs) (owner-none cap a l) ∙ free-none cap pcap cap (omega arith) fs b
