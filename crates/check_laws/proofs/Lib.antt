@@ -1,0 +1,4 @@
+pub mod Pages
+pub mod Free
+pub mod Blocks
+pub mod Windows

@@ -1,0 +1,1 @@
+// No code (proofs/): the test of a store says yes exactly where the store is sound.
