@@ -1,0 +1,5 @@
+pub mod LeafSteps
+pub mod Steps
+pub mod Visits
+pub mod Stack
+pub mod Turns

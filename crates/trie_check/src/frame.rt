@@ -1,4 +1,11 @@
 // The children of an inner node that are still to be tested, and the step to the next of them.
+ghost use mathlib.Core.Path.{_≡_};
+ghost use Prim.Native.Nat.{_≤_, _<_};
+ghost use lib.ListN.{length};
+ghost use Rattle.meaning.specs.Sketch.{packedLength};
+ghost use Rattle.sketch.specs.Settings.{Bits};
+ghost use Rattle.trie.specs.Tables.{NodeTable};
+ghost use Rattle.trie_check.specs.Frame.{entered, stepAlong, stepIn};
 
 // The children of a node from `link` on in chain `group`, whose bytes are to be `least` or more, and those in the later chains.
 pub struct Frame {
@@ -17,4 +24,62 @@ pub enum Step {
     Up,
     // a link or a byte is not in order
     Broken,
+}
+
+// All children of node x.
+pub fn enter(nodes: &[u32], cap: usize, x: usize) -> Frame
+    requires { ⌜ NodeTable cap (now nodes) ⌝ }
+    requires { ⌜ x < cap ⌝ }
+    ensures { λ r. ⌜ r ≡ entered (now (nodes .entry)) cap x ⌝ }
+{
+    Frame {
+        node: x as u32,
+        group: 0,
+        link: nodes[layout::nodes::head_at(cap, x, 0)],
+        least: 0,
+    }
+}
+
+// The step to the next child of a chain, in a node at level k of a block of n symbols.
+fn step_along(nodes: &[u32], cap: usize, b: u32, n: usize, k: usize, frame: Frame) -> Step
+    requires { ⌜ NodeTable cap (now nodes) ⌝ }
+    requires { ⌜ Bits b ⌝ }
+    requires { ⌜ (n ≤ 64) × (k < packedLength b n) ⌝ }
+    requires { ⌜ (0 < frame .link) × (frame .group < 8) ⌝ }
+    ensures { λ r. ⌜ r ≡ stepAlong (now (nodes .entry)) cap b n k frame ⌝ }
+{
+    let x = frame.link - 1;
+    if x as usize >= cap {
+        return Step::Broken;
+    }
+    let w = nodes[x as usize];
+    let byte = layout::nodes::byte_of(w);
+    if byte < frame.least {
+        return Step::Broken;
+    }
+    if 32 * frame.group + 31 < byte {
+        return Step::Broken;
+    }
+    if !sketch::packing::packable(b, n, k, byte as u8) {
+        return Step::Broken;
+    }
+    Step::Child(x, byte, layout::nodes::link_of(w))
+}
+
+// The next step in a node at level k.
+pub fn next_step(nodes: &[u32], cap: usize, b: u32, n: usize, k: usize, frame: Frame) -> Step
+    requires { ⌜ NodeTable cap (now nodes) ⌝ }
+    requires { ⌜ Bits b ⌝ }
+    requires { ⌜ (n ≤ 64) × (k < packedLength b n) ⌝ }
+    requires { ⌜ (frame .node < cap) × (frame .group < 8) ⌝ }
+    ensures { λ r. ⌜ r ≡ stepIn (now (nodes .entry)) cap b n k frame ⌝ }
+{
+    if frame.link != 0 {
+        return step_along(nodes, cap, b, n, k, frame);
+    }
+    if frame.group >= 7 {
+        return Step::Up;
+    }
+    let g = frame.group as usize + 1;
+    Step::Chain(nodes[layout::nodes::head_at(cap, frame.node as usize, g)])
 }
