@@ -41,27 +41,27 @@ pub frees-linked : (N P : List ℕ) (cap : ℕ) (fs : List ℕ) → Holds (freeC
 frees-linked N P cap [] h = tt
 frees-linked N P cap (f ∷ fs) h = let e : 0 + f ≡ f = omega arith in (rw e (h .0), frees-linked N P cap fs (h .1 .1 .1))
 
--- no more than pcap pages below pcap are claimed at most once each
-sumTo : ℕ → (ℕ → ℕ) → ℕ
+-- a sum over the numbers below m
+unfoldable pub sumTo : ℕ → (ℕ → ℕ) → ℕ
 sumTo zero f = 0
 sumTo (suc m) f = f m + sumTo m f
 
-sum-most : (m : ℕ) (f : ℕ → ℕ) → ((a : ℕ) → f a ≤ 1) → sumTo m f ≤ m
+pub sum-most : (m : ℕ) (f : ℕ → ℕ) → ((a : ℕ) → f a ≤ 1) → sumTo m f ≤ m
 unfolding sumTo
 sum-most zero f h = omega arith
 sum-most (suc m) f h = omega (arith, h m, sum-most m f h)
 
-sum-add : (m : ℕ) (f g : ℕ → ℕ) → sumTo m (λ a. f a + g a) ≡ sumTo m f + sumTo m g
+pub sum-add : (m : ℕ) (f g : ℕ → ℕ) → sumTo m (λ a. f a + g a) ≡ sumTo m f + sumTo m g
 unfolding sumTo
 sum-add zero f g = refl
 sum-add (suc m) f g = omega (arith, sum-add m f g)
 
-sum-none : (m : ℕ) (f : ℕ → ℕ) → ((a : ℕ) → a < m → f a ≡ 0) → sumTo m f ≡ 0
+pub sum-none : (m : ℕ) (f : ℕ → ℕ) → ((a : ℕ) → a < m → f a ≡ 0) → sumTo m f ≡ 0
 unfolding sumTo
 sum-none zero f h = refl
 sum-none (suc m) f h = omega (arith, h m (omega arith), sum-none m f (λ a l. h a (omega arith)))
 
-sum-hit : (m base p : ℕ) → p < m → sumTo m (λ a. hit (base + p) (base + a)) ≡ 1
+pub sum-hit : (m base p : ℕ) → p < m → sumTo m (λ a. hit (base + p) (base + a)) ≡ 1
 unfolding sumTo
 sum-hit zero base p l = absurd (omega arith)
 sum-hit (suc m) base p l = go (sum-hit m base p) (ℕ-discrete p m)
@@ -71,6 +71,7 @@ sum-hit (suc m) base p l = go (sum-hit m base p) (ℕ-discrete p m)
         omega (arith, hit-same {a = base + m} {b = base + p} (omega arith), sum-none m (λ a. hit (base + p) (base + a)) (λ a k. hit-other {a = base + a} {b = base + p} (λ q. omega arith)))
     go more (no e) = omega (arith, hit-other {a = base + m} {b = base + p} (λ q. e (omega arith)), more (omega arith))
 
+-- no more than pcap pages below pcap are claimed at most once each
 sum-pages : (base m : ℕ) (ps : List ℕ) → Below m ps → sumTo m (λ a. pageClaims (pageCells base ps) (base + a)) ≡ length ps
 sum-pages base m [] b = sum-none m (λ a. 0) (λ a l. refl)
 sum-pages base m (p ∷ ps) b =

@@ -1,24 +1,26 @@
 -- How often a trie and the free nodes claim a word of the node table: as often as the node stands there that the word belongs to.
 use Prim.Native.Nat.{ℕ, zero, suc, _+_, _*_, _-_, _/_, _≤_, _<_}
-use native.Mathlib.Decide.{ℕ-discrete}
-use native.Mathlib.Nat.{add-suc, add-zero}
+use native.Mathlib.Decide.{decLt, ℕ-discrete}
+use native.Mathlib.Nat.{add-zero, zero-add}
 use native.Mathlib.Numerals.{towards-suc}
 use native.Mathlib.Omega.{arith}
-use mathlib.Core.Path.{_≡_, refl, sym, ap, _∙_}
+use mathlib.Core.Path.{_≡_, refl, sym, ap, ap₂, _∙_, fun-ext}
 use mathlib.Core.Bool.{Bool, true, false, cond}
-use mathlib.Core.Logic.{_≢_}
+use mathlib.Core.Logic.{by-cases}
 use mathlib.Core.List.{List, [], _∷_}
 use lib.Dec.{ltb, eqb}
-use lib.ListN.{getD}
-use borrow.Author.Tests.{ltb-true, ltb-false, lt-ltb, le-ltb, eq-eqb, ne-eqb}
+use lib.ListN.{length, getD}
+use borrow.Author.Tests.{ltb-true, ltb-false, lt-ltb, le-ltb, eqb-true, ne-eqb}
 use Rattle.meaning.specs.Lists.{count}
-use Rattle.layout.specs.Nodes.{chainAt, stateAt, headAt}
+use Rattle.meaning.specs.Trie.{nodes}
+use Rattle.layout.specs.Nodes.{chainAt, stateAt, headAt, freeState}
 use Rattle.trie.specs.Heap.{hit, nodeClaims, Holds}
-use Rattle.trie.specs.Phys.{Phys, leafP, innerP, Buckets, end, bucket, Chain, stop, link, root, noHeads, pageCells, freeCells, cells, cellsB, cellsC, Below, Sound, SoundB, SoundC}
+use Rattle.trie.specs.Phys.{Phys, leafP, innerP, Buckets, end, bucket, Chain, stop, link, root, tree, noHeads, pageCells, freeCells, cells, cellsB, cellsC, Below, Sound, SoundB, SoundC}
 use Rattle.trie.proofs.Frame.{hit-same, hit-other}
+use Rattle.trie.proofs.Spans.{sumTo, sum-add, sum-none, sum-hit}
 use Rattle.trie_laws.proofs.Lists.{eqb-comm}
 use Rattle.trie_check_laws.specs.Uses.{uses, usesB, usesC}
-use Rattle.trie_check_laws.proofs.WholeFit.{chains-left}
+use Rattle.trie_check_laws.proofs.WholeFit.{size, sizeB, sizeC, size-nodes, chains-left}
 
 -- ---- the words of a node
 
@@ -154,10 +156,10 @@ module _ (cap pcap base a : ℕ) where
     chain-words stop s y lo hi h = omega arith
     chain-words (link b t ch) s y lo hi h = omega (arith, trie-words t (h .2), chain-words ch (chainAt (root t)) b (suc b) hi (h .3))
 
-  pub free-words : (fs : List ℕ) → Below cap fs → nodeClaims (freeCells cap fs) a ≡ count (eqb (owner cap a)) fs
-  unfolding count
-  free-words [] b = refl
-  free-words (f ∷ fs) b = omega (arith, owned cap a f (b .0), hit-count f (owner cap a), free-words fs (b .1))
+pub free-words : (cap a : ℕ) (fs : List ℕ) → Below cap fs → nodeClaims (freeCells cap fs) a ≡ count (eqb (owner cap a)) fs
+unfolding count
+free-words cap a [] b = refl
+free-words cap a (f ∷ fs) b = omega (arith, owned cap a f (b .0), hit-count f (owner cap a), free-words cap a fs (b .1))
 
 -- ---- a node that is not in the table stands nowhere
 module _ (cap pcap x : ℕ) (outside : cap ≤ x) where
@@ -174,10 +176,10 @@ module _ (cap pcap x : ℕ) (outside : cap ≤ x) where
     uses-none-chain stop lo hi s = refl
     uses-none-chain (link b t ch) lo hi s = omega (arith, uses-none t (s .2), uses-none-chain ch (suc b) hi (s .3))
 
-  pub free-none : (fs : List ℕ) → Below cap fs → count (eqb x) fs ≡ 0
-  unfolding count
-  free-none [] b = refl
-  free-none (f ∷ fs) b = rw (ne-eqb x f (λ e. omega (arith, b .0))) (omega (arith, free-none fs (b .1)))
+pub free-none : (cap x : ℕ) (fs : List ℕ) → cap ≤ x → Below cap fs → count (eqb x) fs ≡ 0
+unfolding count
+free-none cap x [] l b = refl
+free-none cap x (f ∷ fs) l b = rw (ne-eqb x f (λ e. omega (arith, b .0))) (omega (arith, free-none cap x fs l (b .1)))
 
 -- ---- word by word
 root-in : (cap pcap : ℕ) (t : Phys) → Sound cap pcap t → root t < cap
@@ -204,15 +206,92 @@ module _ (cap pcap base : ℕ) (t : Phys) (s : Sound cap pcap t) where
   past-claims a l =
       omega (arith, trie-words cap pcap base a t s, ap (λ n. uses t n) (owner-none cap a l), uses-none cap pcap cap (omega arith) t s)
 
-module _ (cap pcap base : ℕ) (fs : List ℕ) (b : Below cap fs) where
+module _ (cap : ℕ) (fs : List ℕ) (b : Below cap fs) where
   pub free-chain : (x : ℕ) → x < cap → nodeClaims (freeCells cap fs) (chainAt x) ≡ count (eqb x) fs
-  free-chain x l = free-words cap pcap base x fs b ∙ ap (λ n. count (eqb n) fs) (owner-chain cap x l)
+  free-chain x l = free-words cap x fs b ∙ ap (λ n. count (eqb n) fs) (owner-chain cap x l)
 
   pub free-state : (x : ℕ) → x < cap → nodeClaims (freeCells cap fs) (stateAt cap x) ≡ count (eqb x) fs
-  free-state x l = free-words cap pcap base (stateAt cap x) fs b ∙ ap (λ n. count (eqb n) fs) (owner-state cap x l)
+  free-state x l = free-words cap (stateAt cap x) fs b ∙ ap (λ n. count (eqb n) fs) (owner-state cap x l)
 
   pub free-head : (x g : ℕ) → x < cap → g < 8 → nodeClaims (freeCells cap fs) (headAt cap x g) ≡ count (eqb x) fs
-  free-head x g l m = free-words cap pcap base (headAt cap x g) fs b ∙ ap (λ n. count (eqb n) fs) (owner-head cap x g l m)
+  free-head x g l m = free-words cap (headAt cap x g) fs b ∙ ap (λ n. count (eqb n) fs) (owner-head cap x g l m)
 
   pub free-past : (a : ℕ) → 10 * cap ≤ a → nodeClaims (freeCells cap fs) a ≡ 0
-  free-past a l = free-words cap pcap base a fs b ∙ ap (λ n. count (eqb n) fs) (owner-none cap a l) ∙ free-none cap pcap cap (omega arith) fs b
+  free-past a l = free-words cap a fs b ∙ ap (λ n. count (eqb n) fs) (owner-none cap a l) ∙ free-none cap cap fs (omega arith) b
+
+-- ---- a node that stands in a trie is not free
+hit-is : (n x : ℕ) → 0 < hit n x → n ≡ x
+hit-is n x h = go (ℕ-discrete n x)
+  where
+    go : Dec (n ≡ x) → n ≡ x
+    go (yes e) = e
+    go (no e) = absurd (omega (arith, hit-other {a = x} {b = n} (λ q. e (sym q))))
+
+module _ (cap base : ℕ) (N P : List ℕ) (x : ℕ) where
+  abbrev Used : Type 0
+  Used = 0 < getD N (stateAt cap x) 0
+
+  -- in one part or the other
+  either : (m n : ℕ) → (0 < m → Used) → (0 < n → Used) → 0 < m + n → Used
+  either m n f g l = by-cases (decLt 0 m) f (λ z. g (omega arith))
+
+  mutual
+    pub used-state : (t : Phys) → Holds (cells cap base t) N P → 0 < uses t x → Used
+    used-state (leafP n ps) h l = let e : n ≡ x = hit-is n x l in rw (← e) (omega (arith, h .0))
+    used-state (innerP n bs) h l =
+        either (hit n x) (usesB bs x) (λ k. let e : n ≡ x = hit-is n x k in rw (← e) (omega (arith, h .0))) (λ k. used-kids bs n 0 (h .1) k) l
+
+    used-kids : (bs : Buckets) (n g : ℕ) → Holds (cellsB cap base bs n g) N P → 0 < usesB bs x → Used
+    used-kids end n g h l = absurd (omega arith)
+    used-kids (bucket ch bs) n g h l =
+        either (usesC ch x) (usesB bs x) (λ k. used-chain ch (headAt cap n g) 0 (h .0) k) (λ k. used-kids bs n (suc g) (h .1) k) l
+
+    used-chain : (ch : Chain) (s y : ℕ) → Holds (cellsC cap base ch s y) N P → 0 < usesC ch x → Used
+    used-chain stop s y h l = absurd (omega arith)
+    used-chain (link b t ch) s y h l =
+        either (uses t x) (usesC ch x) (λ k. used-state t (h .1 .0) k) (λ k. used-chain ch (chainAt (root t)) b (h .1 .1) k) l
+
+  pub free-zero : (fs : List ℕ) → Holds (freeCells cap fs) N P → 0 < count (eqb x) fs → getD N (stateAt cap x) 0 ≡ freeState
+  unfolding count
+  free-zero [] h l = absurd (omega arith)
+  free-zero (f ∷ fs) h l = go (λ k. free-zero fs (h .1 .1 .1) k) (eqb x f) refl l
+    where
+      go : (0 < count (eqb x) fs → getD N (stateAt cap x) 0 ≡ freeState) → (q : Bool) → eqb x f ≡ q → 0 < cond q 1 0 + count (eqb x) fs
+          → getD N (stateAt cap x) 0 ≡ freeState
+      go more true e k = rw (eqb-true x f e) (h .1 .0)
+      go more false e k = more (omega arith)
+
+  pub not-both : (t : Phys) (fs : List ℕ) → Holds (cells cap base t) N P → Holds (freeCells cap fs) N P → 0 < uses t x → count (eqb x) fs ≡ 0
+  not-both t fs h g l =
+      by-cases (decLt 0 (count (eqb x) fs)) (λ k. absurd (omega (arith, used-state t h l, free-zero fs g k))) (λ z. omega arith)
+
+-- ---- the nodes of a trie, and the free ones, over the table
+one-node : (cap n : ℕ) → n < cap → sumTo cap (λ x. hit n x) ≡ 1
+one-node cap n l = ap (sumTo cap) (fun-ext (λ x. ap₂ hit (sym (zero-add n)) (sym (zero-add x)))) ∙ sum-hit cap 0 n l
+
+module _ (cap pcap : ℕ) where
+  mutual
+    sum-size : (t : Phys) → Sound cap pcap t → sumTo cap (λ x. uses t x) ≡ size t
+    sum-size (leafP n ps) s = one-node cap n (s .0)
+    sum-size (innerP n bs) s =
+        sum-add cap (λ x. hit n x) (λ x. usesB bs x) ∙ omega (arith, one-node cap n (s .0), sum-kids bs 0 (s .1))
+
+    sum-kids : (bs : Buckets) (g : ℕ) → SoundB cap pcap bs g → sumTo cap (λ x. usesB bs x) ≡ sizeB bs
+    sum-kids end g s = sum-none cap (λ x. 0) (λ x l. refl)
+    sum-kids (bucket ch bs) g s =
+        sum-add cap (λ x. usesC ch x) (λ x. usesB bs x) ∙ omega (arith, sum-chain ch (32 * g) (32 * g + 32) (s .0), sum-kids bs (suc g) (s .1))
+
+    sum-chain : (ch : Chain) (lo hi : ℕ) → SoundC cap pcap ch lo hi → sumTo cap (λ x. usesC ch x) ≡ sizeC ch
+    sum-chain stop lo hi s = sum-none cap (λ x. 0) (λ x l. refl)
+    sum-chain (link b t ch) lo hi s =
+        sum-add cap (λ x. uses t x) (λ x. usesC ch x) ∙ omega (arith, sum-size t (s .2), sum-chain ch (suc b) hi (s .3))
+
+  pub sum-uses : (t : Phys) → Sound cap pcap t → sumTo cap (λ x. uses t x) ≡ nodes (tree t)
+  sum-uses t s = sum-size t s ∙ size-nodes t
+
+pub sum-free : (cap : ℕ) (fs : List ℕ) → Below cap fs → sumTo cap (λ x. count (eqb x) fs) ≡ length fs
+unfolding count
+sum-free cap [] b = sum-none cap (λ x. 0) (λ x l. refl)
+sum-free cap (f ∷ fs) b =
+    sum-add cap (λ x. cond (eqb x f) 1 0) (λ x. count (eqb x) fs)
+    ∙ omega (arith, ap (sumTo cap) (fun-ext (λ x. sym (hit-count f x))) ∙ one-node cap f (b .0), sum-free cap fs (b .1))
