@@ -71,25 +71,30 @@ module _ (cap a n : ℕ) (below : n < cap) where
       go (yes e) = omega (arith, others, hit-same {a = a - cap} {b = n} e, hit-same {a = a} {b = cap + n} (omega arith))
       go (no e) = omega (arith, others, hit-other {a = a - cap} {b = n} e, hit-other {a = a} {b = cap + n} (λ q. e (omega arith)))
 
-  others : 2 * cap ≤ a → hit (chainAt n) a + hit (stateAt cap n) a ≡ 0
-  others l = omega (arith, hit-other {a = a} {b = n} (λ e. omega arith), hit-other {a = a} {b = cap + n} (λ e. omega arith))
+  not-low : 2 * cap ≤ a → hit (chainAt n) a + hit (stateAt cap n) a ≡ 0
+  not-low l = omega (arith, hit-other {a = a} {b = n} (λ e. omega arith), hit-other {a = a} {b = cap + n} (λ e. omega arith))
 
   in-head : 2 * cap ≤ a → Owned ((a - 2 * cap) / 8)
   in-head l = go (ℕ-discrete ((a - 2 * cap) / 8) n)
     where
       go : Dec ((a - 2 * cap) / 8 ≡ n) → Owned ((a - 2 * cap) / 8)
       go (yes e) =
-          omega (arith, others l, heads cap n a, among-in (headAt cap n 0) 8 a (omega arith) (omega arith), hit-same {a = (a - 2 * cap) / 8} {b = n} e)
+          omega (arith, not-low l, heads cap n a, among-in (headAt cap n 0) 8 a (omega arith) (omega arith), hit-same {a = (a - 2 * cap) / 8} {b = n} e)
       go (no e) =
-          omega (arith, others l, heads cap n a, hit-other {a = (a - 2 * cap) / 8} {b = n} e,
-          among-out (headAt cap n 0) 8 a (λ q. not-below (λ r. e (omega arith))))
+          omega (
+            arith,
+            not-low l,
+            heads cap n a,
+            hit-other {a = (a - 2 * cap) / 8} {b = n} e,
+            among-out (headAt cap n 0) 8 a (λ q. not-below (λ r. e (omega arith))),
+          )
         where
           not-below : (a < headAt cap n 0 + 8 → ⊥) → headAt cap n 0 + 8 ≤ a
           not-below h = omega (arith, h)
 
   in-none : 10 * cap ≤ a → Owned cap
   in-none l =
-      omega (arith, others (omega arith), heads cap n a, among-out (headAt cap n 0) 8 a (λ q. omega arith), hit-other {a = cap} {b = n} (λ e. omega arith))
+      omega (arith, not-low (omega arith), heads cap n a, among-out (headAt cap n 0) 8 a (λ q. omega arith), hit-other {a = cap} {b = n} (λ e. omega arith))
 
   owned : Owned (owner cap a)
   unfolding owner
@@ -164,22 +169,22 @@ free-words cap a (f ∷ fs) b = omega (arith, owned cap a f (b .0), hit-count f 
 -- ---- a node that is not in the table stands nowhere
 module _ (cap pcap x : ℕ) (outside : cap ≤ x) where
   mutual
-    pub uses-none : (t : Phys) → Sound cap pcap t → uses t x ≡ 0
-    uses-none (leafP n ps) s = hit-other {a = x} {b = n} (λ e. omega (arith, s .0))
-    uses-none (innerP n bs) s = omega (arith, hit-other {a = x} {b = n} (λ e. omega (arith, s .0)), uses-none-kids bs 0 (s .1))
+    pub uses-beyond : (t : Phys) → Sound cap pcap t → uses t x ≡ 0
+    uses-beyond (leafP n ps) s = hit-other {a = x} {b = n} (λ e. omega (arith, s .0))
+    uses-beyond (innerP n bs) s = omega (arith, hit-other {a = x} {b = n} (λ e. omega (arith, s .0)), uses-beyond-kids bs 0 (s .1))
 
-    uses-none-kids : (bs : Buckets) (g : ℕ) → SoundB cap pcap bs g → usesB bs x ≡ 0
-    uses-none-kids end g s = refl
-    uses-none-kids (bucket ch bs) g s = omega (arith, uses-none-chain ch (32 * g) (32 * g + 32) (s .0), uses-none-kids bs (suc g) (s .1))
+    uses-beyond-kids : (bs : Buckets) (g : ℕ) → SoundB cap pcap bs g → usesB bs x ≡ 0
+    uses-beyond-kids end g s = refl
+    uses-beyond-kids (bucket ch bs) g s = omega (arith, uses-beyond-chain ch (32 * g) (32 * g + 32) (s .0), uses-beyond-kids bs (suc g) (s .1))
 
-    uses-none-chain : (ch : Chain) (lo hi : ℕ) → SoundC cap pcap ch lo hi → usesC ch x ≡ 0
-    uses-none-chain stop lo hi s = refl
-    uses-none-chain (link b t ch) lo hi s = omega (arith, uses-none t (s .2), uses-none-chain ch (suc b) hi (s .3))
+    uses-beyond-chain : (ch : Chain) (lo hi : ℕ) → SoundC cap pcap ch lo hi → usesC ch x ≡ 0
+    uses-beyond-chain stop lo hi s = refl
+    uses-beyond-chain (link b t ch) lo hi s = omega (arith, uses-beyond t (s .2), uses-beyond-chain ch (suc b) hi (s .3))
 
-pub free-none : (cap x : ℕ) (fs : List ℕ) → cap ≤ x → Below cap fs → count (eqb x) fs ≡ 0
+pub free-beyond : (cap x : ℕ) (fs : List ℕ) → cap ≤ x → Below cap fs → count (eqb x) fs ≡ 0
 unfolding count
-free-none cap x [] l b = refl
-free-none cap x (f ∷ fs) l b = rw (ne-eqb x f (λ e. omega (arith, b .0))) (omega (arith, free-none cap x fs l (b .1)))
+free-beyond cap x [] l b = refl
+free-beyond cap x (f ∷ fs) l b = rw (ne-eqb x f (λ e. omega (arith, b .0))) (omega (arith, free-beyond cap x fs l (b .1)))
 
 -- ---- word by word
 root-in : (cap pcap : ℕ) (t : Phys) → Sound cap pcap t → root t < cap
@@ -204,7 +209,7 @@ module _ (cap pcap base : ℕ) (t : Phys) (s : Sound cap pcap t) where
 
   pub past-claims : (a : ℕ) → 10 * cap ≤ a → nodeClaims (cells cap base t) a ≡ 0
   past-claims a l =
-      omega (arith, trie-words cap pcap base a t s, ap (λ n. uses t n) (owner-none cap a l), uses-none cap pcap cap (omega arith) t s)
+      omega (arith, trie-words cap pcap base a t s, ap (λ n. uses t n) (owner-none cap a l), uses-beyond cap pcap cap (omega arith) t s)
 
 module _ (cap : ℕ) (fs : List ℕ) (b : Below cap fs) where
   pub free-chain : (x : ℕ) → x < cap → nodeClaims (freeCells cap fs) (chainAt x) ≡ count (eqb x) fs
@@ -217,7 +222,7 @@ module _ (cap : ℕ) (fs : List ℕ) (b : Below cap fs) where
   free-head x g l m = free-words cap (headAt cap x g) fs b ∙ ap (λ n. count (eqb n) fs) (owner-head cap x g l m)
 
   pub free-past : (a : ℕ) → 10 * cap ≤ a → nodeClaims (freeCells cap fs) a ≡ 0
-  free-past a l = free-words cap a fs b ∙ ap (λ n. count (eqb n) fs) (owner-none cap a l) ∙ free-none cap cap fs (omega arith) b
+  free-past a l = free-words cap a fs b ∙ ap (λ n. count (eqb n) fs) (owner-none cap a l) ∙ free-beyond cap cap fs (omega arith) b
 
 -- ---- a node that stands in a trie is not free
 hit-is : (n x : ℕ) → 0 < hit n x → n ≡ x
