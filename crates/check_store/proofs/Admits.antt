@@ -1,24 +1,23 @@
 -- The number of questions 5 and 6 of a check, and what passing them tells.
-use Prim.Native.Nat.{ℕ, _≤_}
+use Prim.Native.Nat.{ℕ}
 use native.Mathlib.Omega.{arith}
-use mathlib.Core.Path.{_≡_, refl, sym, ap, _∙_}
+use mathlib.Core.Path.{_≡_, refl, ap, _∙_}
 use mathlib.Core.Bool.{Bool, true, false, cond, _&&_}
 use mathlib.Core.Logic.{_≢_}
 use mathlib.Core.List.{List, []}
-use borrow.Author.Tests.{ne-eqb, leb-true}
-use lib.Dec.{leb, eqb}
+use borrow.Author.Tests.{ne-eqb}
+use lib.Dec.{leb}
 use lib.ListN.{length}
 use Rattle.meaning.specs.Refusal.{firstNo}
 use Rattle.meaning.specs.Ledger.{check}
 use Rattle.meaning.specs.Questions.{asked}
 use Rattle.layout.specs.declared.Header.{Header}
 use Rattle.layout.specs.declared.Opening.the-variants.{Shown, Refused}
-use Rattle.layout.specs.Header.{openingOf, tablesFirst, headerOf, bare}
+use Rattle.layout.specs.Header.{openingOf, tablesFirst, bare}
 use Rattle.layout.specs.Lengths.{nodesLength, pagesLength, sketchesLength, workingLength}
 use Rattle.layout.specs.Working.{mapWords, summaryWords}
 use Rattle.layout.proofs.Openings.{shown, shown-number, refused-number, refused-range}
-use Rattle.layout.proofs.Tests.{and-left, and-right}
-use Rattle.promises.specs.Tables.{Tables, tables, given, byTables}
+use Rattle.promises.specs.Tables.{Tables, tables, given}
 use Rattle.promises.specs.Answers.{number, entered, shown56, longSettings, longFor, longNodes, longPages, longWorking}
 use Rattle.check_store.specs.Admission.{admission}
 

@@ -1,5 +1,5 @@
 -- The tables of block j, as the test of one trie asks for them.
-use Prim.Native.Nat.{ℕ, _+_, _*_, _/_, _%_, _≤_, _<_}
+use Prim.Native.Nat.{ℕ, _+_, _*_, _/_, _≤_, _<_}
 use native.Mathlib.Omega.{arith}
 use native.Mathlib.Nat.{suc-mul, mul-le-mul-right, div-add-mod', mod-lt}
 use native.Mathlib.Decide.{decLt}
@@ -7,7 +7,7 @@ use mathlib.Core.Path.{_≡_, refl}
 use mathlib.Core.Logic.{by-cases}
 use mathlib.Core.List.{List}
 use lib.ListN.{length}
-use Rattle.meaning.specs.Sketch.{blockLength, packedLength}
+use Rattle.meaning.specs.Sketch.{blockLength}
 use Rattle.meaning.specs.Ledger.{Settings}
 use Rattle.meaning.specs.Forest.{blockBytes}
 use Rattle.layout.specs.Lengths.{nodesLength, pagesLength, sketchesLength}
@@ -15,10 +15,11 @@ use Rattle.layout.specs.Pages.{nextAt}
 use Rattle.sketch.specs.Settings.{Bits}
 use Rattle.sketch.proofs.Width.{byte-of}
 use Rattle.sketch.proofs.BlockEnds.{block-ends}
+use Rattle.trie.specs.declared.Rows.{Rows}
 use Rattle.trie_room.specs.RowBytes.{rowsOf}
 use Rattle.trie_room.proofs.RowBytes.{rows-table}
 use Rattle.trie_check.specs.declared.mark.Window.{Window}
-use Rattle.trie_check.specs.Trie.{Fitting}
+use Rattle.trie_check.specs.Trie.{given, Fitting, testTrie}
 use Rattle.check_store.specs.Lent.{Lent}
 use Rattle.check_store.specs.Windows.{blockGiven}
 
@@ -60,5 +61,16 @@ module _ (s : Settings) (N P S : List ℕ) (lent : Lent s N P S) where
       bitmap = room;
     }
 
+    -- the block and its rows, as the code reads them
+    pub fitting-block : (base : ℕ) → base ≡ nextAt (s .pages) j → (r : Rows) → r ≡ rowsOf s j → (w : Window) (map : List ℕ) → w .size ≤ 32 * length map →
+        Fitting (given N P S (record { nodes = s .nodes; pages = s .pages; base = base }) r w) map
+    unfolding blockGiven
+    fitting-block base e r f w map room = rw (e, f) (fitting w map room)
+
     pub root-inside : j < s .nodes
     root-inside = omega (arith, lent .limits .nodes-least)
+
+pub tested-block : (s : Settings) (N P S : List ℕ) (j base : ℕ) → base ≡ nextAt (s .pages) j → (r : Rows) → r ≡ rowsOf s j → (w : Window) (map : List ℕ) (left live : ℕ) →
+    testTrie (given N P S (record { nodes = s .nodes; pages = s .pages; base = base }) r w) j map left live ≡ testTrie (blockGiven s N P S w j) j map left live
+unfolding blockGiven
+tested-block s N P S j base e r f w map left live = rw (e, f) refl

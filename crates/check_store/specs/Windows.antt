@@ -1,6 +1,6 @@
 -- The test of the tries, once for each window of nodes: each node of the window stands in one place. N is the node table, P the page
 -- table, S the sketch table.
-use Prim.Native.Nat.{ℕ, zero, suc, _+_, _*_}
+use Prim.Native.Nat.{ℕ, zero, suc, _*_}
 use mathlib.Core.Bool.{Bool, true, false, cond}
 use mathlib.Core.List.{List}
 use lib.Dec.{ltb, eqb}

@@ -2,7 +2,7 @@
 use Prim.Native.Nat.{ℕ, zero, suc, _+_, _-_, _≤_, _<_}
 use native.Mathlib.Omega.{arith}
 use mathlib.Core.Path.{_≡_, refl, sym, ap, ap₂, _∙_}
-use mathlib.Core.Bool.{Bool, true, false, cond, _&&_}
+use mathlib.Core.Bool.{Bool, true, false, cond}
 use mathlib.Core.List.{List, [], _∷_}
 use borrow.Author.Tests.{eq-eqb, ne-eqb, eqb-true, eqb-false, ltb-false, le-ltb}
 use lib.Dec.{ltb, eqb}
@@ -10,14 +10,14 @@ use lib.ListN.{length, getD}
 use Rattle.meaning.specs.Lists.{count}
 use Rattle.layout.specs.Nodes.{stateAt, freeState}
 use Rattle.trie.specs.Heap.{Holds}
-use Rattle.trie.specs.Phys.{first, freeCells, noHeads, Below}
-use Rattle.trie_laws.proofs.Lists.{and-intro, and-first, and-second}
+use Rattle.trie.specs.Phys.{first, freeCells, Below}
+use Rattle.trie_laws.proofs.Lists.{and-first, and-second}
 use Rattle.trie_check.specs.declared.leaf.Left.the-variants.{Some, Failed}
 use Rattle.trie_check.specs.Leaf.{bare}
 use Rattle.trie_check_laws.proofs.RightTests.{refused, passed}
 use Rattle.trie_check_laws.proofs.RightLeaf.{bare-holds}
 use Rattle.trie_check_laws.proofs.WholeLeaf.{held-bare}
-use Rattle.check_store.specs.Free.{isFree, freeFrom, testFree}
+use Rattle.check_store.specs.Free.{isFree, freeFrom}
 
 module _ (N P : List ℕ) (cap : ℕ) where
   -- the free nodes from a link on
@@ -121,7 +121,3 @@ module _ (N P : List ℕ) (cap : ℕ) where
           let r = behind x fs (h .1 .1 .1) (omega arith) in
           let same : x ∷ r .rest ≡ y ∷ fs = free-same (x ∷ r .rest) (y ∷ fs) (r .held) h (omega (arith, eqb-true x y e)) in
           absurd (omega (arith, ap length same, r .short))
-
-  -- a free node has state 0
-  pub free-state : (x : ℕ) (fs : List ℕ) → Holds (freeCells cap fs) N P → 0 < count (eqb x) fs → getD N (stateAt cap x) 0 ≡ freeState
-  free-state x fs h c = behind x fs h c .held .1 .0

@@ -2,15 +2,13 @@
 use Prim.Native.Nat.{ℕ, zero, suc, _+_, _-_, _*_, _≤_, _<_}
 use native.Mathlib.Omega.{arith}
 use mathlib.Core.Path.{_≡_, refl, sym, ap, ap₂, _∙_}
-use mathlib.Core.Bool.{Bool, true, false, cond}
+use mathlib.Core.Bool.{true, false}
 use mathlib.Core.List.{List, [], _∷_}
 use mathlib.Core.List.{map as each}
-use borrow.Author.Tests.{eqb-true, eq-eqb}
-use lib.Dec.{eqb}
+use borrow.Author.Tests.{eqb-true}
 use lib.ListN.{length}
 use Rattle.meaning.specs.Lists.{all, sum}
 use Rattle.meaning.specs.Sketch.{blockLength}
-use Rattle.meaning.specs.Trie.{byteAt}
 use Rattle.meaning.specs.Trie.{nodes as nodesOf}
 use Rattle.meaning.specs.Ledger.{Settings}
 use Rattle.meaning.specs.Forest.{blockBytes, totalNodes}
@@ -26,15 +24,15 @@ use Rattle.trie_room.proofs.RowBytes.{level-byte}
 use Rattle.trie_check.specs.declared.leaf.Left.{Left}
 use Rattle.trie_check.specs.declared.leaf.Left.the-variants.{Some, Failed}
 use Rattle.trie_check.specs.declared.mark.Window.{Window}
-use Rattle.trie_check.specs.Trie.{Given, Tested, tested, testTrie}
+use Rattle.trie_check.specs.Trie.{Given, tested, testTrie}
 use Rattle.trie_check_laws.specs.Uses.{uses}
 use Rattle.trie_check_laws.specs.Found.{Reads, Found, Marked, one}
 use Rattle.trie_check_laws.proofs.RightTrie.{test-right}
 use Rattle.trie_check_laws.proofs.WholeTrie.{test-whole}
 use Rattle.trie_check_laws.proofs.Same.{same-trie}
 use Rattle.check_store.specs.Lent.{Lent}
-use Rattle.check_store.specs.Windows.{Passed, passed, onLeft, onTested, blocksFrom, blockGiven}
+use Rattle.check_store.specs.Windows.{Passed, passed, onLeft, blocksFrom, blockGiven}
 use Rattle.check_store.proofs.Fits.{fitting, root-inside}
 
 -- a property of the tries of blocks j, j + 1, ..
 abbrev pub Each : (ℕ → Phys → Type 0) → ℕ → List Phys → Type 0
@@ -59,12 +57,24 @@ module _ (s : Settings) (N P S : List ℕ) (live : ℕ) where
   from-found : (w : Window) (j : ℕ) (t : Phys) → Found (blockGiven s N P S w j) (rowBytes s j S) j live t → InPlace j t
   unfolding blockGiven rowsOf
   from-found w j t f = record {
-    place = f .place; sound = f .sound; holds = f .holds; walked = f .walked; alive = f .live; pages = f .pages }
+    place = f .place;
+    sound = f .sound;
+    holds = f .holds;
+    walked = f .walked;
+    alive = f .live;
+    pages = f .pages;
+  }
 
-  to-found : (w : Window) (j : ℕ) (t : Phys) → InPlace j t → Found (blockGiven s N P S w j) (rowBytes s j S) j live t
+  pub to-found : (w : Window) (j : ℕ) (t : Phys) → InPlace j t → Found (blockGiven s N P S w j) (rowBytes s j S) j live t
   unfolding blockGiven rowsOf
   to-found w j t f = record {
-    place = f .place; sound = f .sound; holds = f .holds; walked = f .walked; live = f .alive; pages = f .pages }
+    place = f .place;
+    sound = f .sound;
+    holds = f .holds;
+    walked = f .walked;
+    live = f .alive;
+    pages = f .pages;
+  }
 
   -- the marks of a window of nodes after some tries
   pub record Marks (w : Window) (ts : List Phys) (map map′ : List ℕ) : Type 0 where
@@ -125,7 +135,7 @@ module _ (s : Settings) (N P S : List ℕ) (live : ℕ) where
         go Failed f e later = absurd (passed-no map₁ map′ e)
         go (Some left₁) f e later =
             let t = test-right g (rowBytes s j S) j left live map map₁ left₁ (fitting s N P S lent j (omega arith) w map room)
-                (reads w j (omega arith)) (root-inside s N P S lent j (omega arith)) (ap (tested map₁) f) in
+            (reads w j (omega arith)) (root-inside s N P S lent j (omega arith)) (ap (tested map₁) f) in
             let r = later left₁ (omega (arith, t .2 .long)) e in record {
               tries = t .0 ∷ r .tries;
               many = ap suc (r .many);
@@ -166,12 +176,11 @@ module _ (s : Settings) (N P S : List ℕ) (live : ℕ) where
     blocks-whole (t ∷ ts) j map l room a m c =
         let rest : ℕ = totalNodes (each tree ts) in
         let r = test-whole (blockGiven s N P S w j) (rowBytes s j S) j (nodesOf (tree t) + rest) live map t
-            (fitting s N P S lent j (omega arith) w map room) (reads w j (omega arith)) (to-found w j t (a .0)) (omega arith) (omega arith)
-            (λ n k. omega (arith, c n k)) in
+        (fitting s N P S lent j (omega arith) w map room) (reads w j (omega arith)) (to-found w j t (a .0)) (omega arith) (omega arith)
+        (λ n k. omega (arith, c n k)) in
         let less : nodesOf (tree t) + rest - nodesOf (tree t) ≡ rest = omega arith in
         let q = blocks-whole ts (suc j) (r .0) (omega arith) (omega (arith, r .2 .long)) (a .1) (omega arith)
-            (λ n k. omega (arith, c n k, r .2 .marks n k)) in
-        (
+        (λ n k. omega (arith, c n k, r .2 .marks n k)) in (
           q .0,
           step (length ts) j map (r .0) (q .0) (nodesOf (tree t) + rest) rest (r .1 ∙ ap (λ n. tested (r .0) (Some n)) less) (q .1),
           q .2 ∙ r .2 .long,

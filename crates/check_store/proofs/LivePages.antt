@@ -2,7 +2,7 @@
 use Prim.Native.Nat.{ℕ, zero, suc, _+_, _≤_, _<_}
 use native.Mathlib.Omega.{arith}
 use native.Mathlib.Decide.{decLt}
-use mathlib.Core.Path.{_≡_, refl, sym, ap, _∙_}
+use mathlib.Core.Path.{_≡_, refl, ap, _∙_}
 use mathlib.Core.Logic.{by-cases}
 use mathlib.Core.Bool.{Bool, true, false, cond}
 use mathlib.Core.List.{List}
@@ -12,10 +12,10 @@ use Rattle.meaning.specs.Lists.{count, from, upto}
 use Rattle.meaning.specs.Sketch.{inRange}
 use Rattle.meaning.specs.Ledger.{Settings}
 use Rattle.layout.specs.Pages.{isLive, classOf, rowOf}
-use Rattle.trie_laws.proofs.Lists.{and-intro, and-first, and-second}
+use Rattle.trie_laws.proofs.Lists.{and-first, and-second}
 use Rattle.trie_check.specs.declared.leaf.Left.the-variants.{Some, Failed}
 use Rattle.trie_check_laws.proofs.RightTests.{passed}
 use Rattle.check_store.specs.Pages.{pageFits, countFrom, testPages}
 
 module _ (fits live : ℕ → Bool) where
   pub record Counted (n k a b : ℕ) : Type 0 where

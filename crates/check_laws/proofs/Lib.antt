@@ -1,4 +1,0 @@
-pub mod Pages
-pub mod Free
-pub mod Blocks
-pub mod Windows

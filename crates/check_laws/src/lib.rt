@@ -1,1 +1,0 @@
-// No code (proofs/): the test of a store says yes exactly where the store is sound.
