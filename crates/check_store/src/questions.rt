@@ -8,6 +8,7 @@ ghost use Rattle.layout.specs.Limits.{HeaderLimits};
 ghost use Rattle.layout.specs.Lengths.{nodesLength, pagesLength, sketchesLength, workingLength};
 ghost use Rattle.promises.specs.Tables.{tables};
 ghost use Rattle.check_store.specs.Admission.{admission};
+use index::tables;
 use layout::Header;
 use layout::Opening;
 
@@ -16,10 +17,9 @@ fn long_tables(h: Header, nodes: &[u32], pages: &[u32], sketches: &[u8], working
     requires { ⌜ HeaderLimits h ⌝ }
     ensures { λ r. ⌜ r ≡ leb (nodesLength (bare h)) (length (now (nodes .entry))) && (leb (pagesLength (bare h)) (length (now (pages .entry))) && leb (sketchesLength (bare h)) (length (now (sketches .entry)))) && leb (workingLength (bare h)) (length (now (working .entry))) ⌝ }
 {
-    ((layout::lengths::nodes_length(h) <= nodes.len())
-        & ((layout::lengths::pages_length(h) <= pages.len())
-            & (layout::lengths::sketches_length(h) <= sketches.len())))
-        & (layout::lengths::working_length(h) <= working.len())
+    tables::long_nodes(h, nodes)
+        & tables::long_pages(h, pages, sketches)
+        & tables::long_working(h, working)
 }
 
 // The opening where none of them says no, else the number of the first that does.

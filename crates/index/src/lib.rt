@@ -5,4 +5,4 @@ pub mod lengths;
 pub mod open;
 pub mod register;
 pub mod show;
-mod tables;
+pub mod tables;
