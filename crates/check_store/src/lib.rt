@@ -47,6 +47,7 @@ fn test_store(
     windows::test_windows(nodes, pages, sketches, map, h, left, live)
 }
 
+// Past 6 the answer is yes exactly where the store is sound, and the needed part of the working table is left zero.
 pub fn check(
     settings: &[u32],
     nodes: &[u32],
