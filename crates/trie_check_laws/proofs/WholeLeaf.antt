@@ -26,7 +26,7 @@ use Rattle.trie_check.specs.Leaf.{bare, kindOf, onPath, testLeaf}
 
 -- ---- what a node is
 module _ (N P : List ℕ) (cap base x : ℕ) where
-  held-bare : Holds (noHeads cap x) N P → bare N cap x ≡ true
+  pub held-bare : Holds (noHeads cap x) N P → bare N cap x ≡ true
   unfolding bare noHeads all upto from
   held-bare h =
       rw (

@@ -1,0 +1,71 @@
+-- What the test of the pages says.
+use Prim.Native.Nat.{ℕ, zero, suc, _+_, _≤_, _<_}
+use native.Mathlib.Omega.{arith}
+use native.Mathlib.Decide.{decLt}
+use mathlib.Core.Path.{_≡_, refl, ap, _∙_}
+use mathlib.Core.Logic.{by-cases}
+use mathlib.Core.Bool.{Bool, true, false, cond}
+use mathlib.Core.List.{List}
+use borrow.Author.Tests.{lt-ltb, ltb-true}
+use lib.Dec.{ltb}
+use Rattle.meaning.specs.Lists.{count, from, upto}
+use Rattle.meaning.specs.Sketch.{inRange}
+use Rattle.meaning.specs.Ledger.{Settings}
+use Rattle.layout.specs.Pages.{isLive, classOf, rowOf}
+use Rattle.trie_laws.proofs.Lists.{and-first, and-second}
+use Rattle.trie_check.specs.declared.leaf.Left.the-variants.{Some, Failed}
+use Rattle.trie_check_laws.proofs.RightTests.{passed}
+use Rattle.check_store.specs.Pages.{pageFits, countFrom, testPages}
+
+module _ (fits live : ℕ → Bool) where
+  pub record Counted (n k a b : ℕ) : Type 0 where
+    pub fit : (p : ℕ) → k ≤ p → p < k + n → fits p ≡ true
+    pub total : b ≡ a + count live (from k n)
+
+  pub count-right : (n k a b : ℕ) → countFrom fits live n k a ≡ Some b → Counted n k a b
+  unfolding countFrom count from
+  count-right zero k a b e = record { fit = λ p l m. absurd (omega arith); total = let z : a ≡ b = cc in omega arith }
+  count-right (suc n) k a b e =
+      let t = passed Failed (Some b) (λ z. let o : _≡_ {A = ℕ} 0 1 = cc in omega arith) (fits k) _ e in
+      let r = count-right n (suc k) (a + cond (live k) 1 0) b (t .1) in record {
+        fit = λ p l m. by-cases (decLt k p) (λ d. r .fit p (omega arith) (omega arith)) (λ d. let same : p ≡ k = omega arith in rw same (t .0));
+        total = omega (arith, r .total);
+      }
+
+  pub count-whole : (n k a : ℕ) → ((p : ℕ) → k ≤ p → p < k + n → fits p ≡ true) → countFrom fits live n k a ≡ Some (a + count live (from k n))
+  unfolding countFrom count from
+  count-whole zero k a h = ap Some (omega arith)
+  count-whole (suc n) k a h =
+      rw (h k (omega arith) (omega arith))
+      (count-whole n (suc k) (a + cond (live k) 1 0) (λ p l m. h p (omega arith) (omega arith)) ∙ ap Some (omega arith))
+
+-- a live page that fits
+module _ (s : Settings) (P S : List ℕ) (p : ℕ) where
+  pub record Fits : Type 0 where
+    pub class : classOf P (s .pages) p < 64
+    pub symbols : inRange (s .bits) (rowOf (s .symbols) S p) ≡ true
+
+  pub fits-live : pageFits s P S p ≡ true → isLive P p ≡ true → Fits
+  unfolding pageFits
+  fits-live h live = let t = rw live at h in record {
+    class = ltb-true (classOf P (s .pages) p) 64 (and-first (ltb (classOf P (s .pages) p) 64) _ t);
+    symbols = and-second (ltb (classOf P (s .pages) p) 64) _ t;
+  }
+
+  pub live-fits : (isLive P p ≡ true → Fits) → pageFits s P S p ≡ true
+  unfolding pageFits
+  live-fits h = go (isLive P p) refl
+    where
+      go : (t : Bool) → isLive P p ≡ t → pageFits s P S p ≡ true
+      go false e = rw e refl
+      go true e = let f = h e in rw (e, lt-ltb (classOf P (s .pages) p) 64 (f .class), f .symbols) refl
+
+module _ (s : Settings) (P S : List ℕ) where
+  pub pages-right : (live : ℕ) → testPages s P S ≡ Some live → Counted (pageFits s P S) (isLive P) (s .pages) 0 0 live
+  unfolding testPages
+  pages-right live e = count-right (pageFits s P S) (isLive P) (s .pages) 0 0 live e
+
+  pub pages-whole : ((p : ℕ) → p < s .pages → isLive P p ≡ true → Fits s P S p) → testPages s P S ≡ Some (count (isLive P) (upto (s .pages)))
+  unfolding testPages upto
+  pages-whole h =
+      count-whole (pageFits s P S) (isLive P) (s .pages) 0 0 (λ p l m. live-fits s P S p (h p (omega arith))) ∙ ap Some (omega arith)

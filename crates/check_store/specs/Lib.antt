@@ -1,0 +1,6 @@
+pub mod Admission
+pub mod Lent
+pub mod Pages
+pub mod Free
+pub mod Windows
+pub mod Store
