@@ -48,7 +48,7 @@ fn against_a_scan() {
     let mut random = Random::new(31);
     let mut numbers = [0u32; 16];
     let mut listed = 0;
-    for _ in 0..1_500 {
+    for _ in 0..4_000 {
         let s = small_settings(&mut random);
         let (mut t, mut plain, sketches) = filled(&mut random, &s, 60);
         for _ in 0..12 {
@@ -92,7 +92,7 @@ fn against_a_scan() {
         }
     }
     assert!([0, 7, 10, 11, 13].iter().all(|&n| numbers[n] > 50), "{numbers:?}");
-    assert!(listed > 5_000, "{listed} listed");
+    assert!(listed > 20_000, "{listed} listed");
 }
 
 #[test]

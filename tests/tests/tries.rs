@@ -60,7 +60,7 @@ fn compare(t: &Tables, before: &Tables, plain: &Index) {
 fn histories() {
     let mut random = Random::new(21);
     let mut numbers = [0u32; 16];
-    for _ in 0..600 {
+    for _ in 0..3_000 {
         let s = small_settings(&mut random);
         let (mut t, mut plain) = opened(&mut random, &s);
         let centres = 1 + random.below(5) as usize;
