@@ -2,6 +2,9 @@
  *
  * Each call returns 0, or the number of the first question that its input fails:
  *
+ *    1  the command byte is not known
+ *    2  the command is not I where it is the first one, or is I where it is not
+ *    3  an operand of the command is missing
  *    4  settings, capacities or the count of thresholds are out of their limits
  *    5  the settings table is too short or, on opening, any other table
  *    6  the settings table shows no opening, or a table is too short for it
@@ -74,6 +77,14 @@ uint32_t vetch_show(const uint32_t *settings, size_t settings_len,
                     const uint8_t *sketches, size_t sketches_len,
                     uint32_t reader, uint32_t page, uint32_t *start,
                     uint32_t *length);
+
+/* ---- The journal */
+
+/* The form of the command at the beginning of the bytes: 1, 2, 3 or 0. m is the
+ * count of symbols in a sketch, and first is not 0 for the first command. Bytes
+ * behind the command are not looked at; no bytes give 1. */
+uint32_t vetch_form(uint8_t m, uint8_t first, const uint8_t *bytes,
+                    size_t bytes_len);
 
 #ifdef __cplusplus
 }

@@ -80,11 +80,11 @@ command m xs =
     cond (eqb (byteAt xs 0) 73) (opens (byteAt xs 1) (byteAt xs 2) (byteAt xs 3) (wordAt xs 4)) (
     cond (eqb (byteAt xs 0) 65) (adds (wordAt xs 1) (byteAt xs 3) (take m (skip 4 xs))) (
     cond (eqb (byteAt xs 0) 68) (drops (wordAt xs 1)) (
+    cond (eqb (byteAt xs 0) 83) (searches (byteAt xs 1) (byteAt xs 2) (take m (skip 3 xs))) (
     cond (eqb (byteAt xs 0) 74) (joins (byteAt xs 1) (byteAt xs 2)) (
     cond (eqb (byteAt xs 0) 76) (leaves (byteAt xs 1) (byteAt xs 2)) (
     cond (eqb (byteAt xs 0) 71) (grants (byteAt xs 1) (byteAt xs 2)) (
-    cond (eqb (byteAt xs 0) 82) (revokes (byteAt xs 1) (byteAt xs 2)) (
-    searches (byteAt xs 1) (byteAt xs 2) (take m (skip 3 xs)))))))))
+    revokes (byteAt xs 1) (byteAt xs 2))))))))
 
 -- how many bytes it takes
 unfoldable pub taken : ℕ → List ℕ → ℕ

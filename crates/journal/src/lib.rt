@@ -1,0 +1,4 @@
+// The journal: the form of a command, the reader, and the lines that the program writes.
+pub mod commands;
+pub mod exports;
+pub mod form;
