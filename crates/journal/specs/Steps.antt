@@ -58,3 +58,9 @@ stepAt m bytes at =
 pub record Stepped (m : ℕ) (bytes : List ℕ) (at : ℕ) (s : Step) : Type 0 where
   pub told-right : told m bytes s ≡ next m bytes at
   pub in-place : s ≡ stepAt m bytes at
+
+-- the offset after a step
+unfoldable pub reachedBy : Step → ℕ → ℕ
+reachedBy (Taken c to) at = to
+reachedBy (Refused n) at = at
+reachedBy End at = at

@@ -5,7 +5,7 @@ ghost use mathlib.Core.Path.{_≡_};
 ghost use Prim.Native.Nat.{_+_, _≤_};
 ghost use lib.ListN.{length, drop};
 ghost use Rattle.meaning.specs.Journal.{byteAt, wordAt, taken, next, markAt};
-ghost use Rattle.journal.specs.Steps.{pairCommand, commandAt, Stepped};
+ghost use Rattle.journal.specs.Steps.{pairCommand, commandAt, Stepped, reachedBy};
 
 // A command with its operands. Symbols are told by the offset where they begin in the journal's bytes.
 pub enum Command {
@@ -164,4 +164,15 @@ pub fn next_at(bytes: &[u8], at: usize, m: u8) -> Step
     }
     let behind = at + 1 + operand_bytes(m, byte_at(own, 0));
     Step::Taken(command_at(bytes, at, m), behind)
+}
+
+// The offset reached by a step from another: that behind a command taken; else it stays.
+pub fn reached(step: Step, at: usize) -> usize
+    ensures { λ r. ⌜ r ≡ reachedBy step at ⌝ }
+{
+    match step {
+        Step::Taken(_, to) => to,
+        Step::Refused(_) => at,
+        Step::End => at,
+    }
 }

@@ -2,3 +2,4 @@
 pub mod commands;
 pub mod exports;
 pub mod form;
+pub mod reading;
