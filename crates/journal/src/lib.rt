@@ -2,4 +2,5 @@
 pub mod commands;
 pub mod exports;
 pub mod form;
+pub mod lines;
 pub mod reading;

@@ -113,14 +113,14 @@ next m bytes at =
 
 -- ---- what the program writes, as bytes
 
--- the decimal digits of a number below 10 ^ places
+-- the decimal digits of a number that has at most so many
 unfoldable pub digits : ℕ → ℕ → List ℕ
 digits zero n = []
 digits (suc places) n = cond (ltb n 10) ((48 + n) ∷ []) (digits places (n / 10) ++ ((48 + n % 10) ∷ []))
 
--- no number below 2 ^ 64 has more than 20 digits
+-- n + 1 digits are always enough
 unfoldable pub decimal : ℕ → List ℕ
-decimal n = digits 20 n
+decimal n = digits (suc n) n
 
 -- numbers, a blank before each, and the end of the line
 unfoldable pub fields : List ℕ → List ℕ
