@@ -1,16 +1,17 @@
 -- A step is what the paper has at that offset.
 use Prim.Native.Nat.{ℕ, _+_, _-_, _<_, _≤_}
 use mathlib.Core.Path.{_≡_, refl, sym, ap, ap₂, _∙_}
-use mathlib.Core.Bool.{Bool, true, false, cond}
+use mathlib.Core.Bool.{Bool, true, false, cond, false≢true}
 use mathlib.Core.List.{List}
 use native.Mathlib.Omega.{arith}
 use lib.Dec.{ltb, eqb}
 use lib.ListN.{length, take, drop, length-drop}
 use lib.Seq.{drop-drop, take-all}
-use borrow.Author.Tests.{lt-ltb, le-ltb, eq-eqb, ne-eqb}
-use Rattle.meaning.specs.Journal.{opens, adds, drops, joins, leaves, grants, revokes, searches, byteAt, wordAt, taken, formAt, next, command, ended, refused, command-to}
+use borrow.Author.Tests.{lt-ltb, le-ltb, eq-eqb, ne-eqb, ltb-true, eqb-true}
+use Rattle.meaning.specs.Journal.{opens, adds, drops, joins, leaves, grants, revokes, searches, byteAt, wordAt, operandBytes, taken, formAt, next, command, ended, refused, command-to}
 use Rattle.meaning.specs.Journal.{Command as PaperCommand}
-use Rattle.journal.specs.Steps.{meant, told, pairCommand, commandOf, commandAt, stepAt, Stepped}
+use Rattle.journal.specs.Steps.{meant, told, symbolsEnd, pairCommand, commandOf, commandAt, stepAt, Stepped, reachedBy}
+use Rattle.journal.proofs.Questions.{behind-there}
 use Rattle.journal.specs.declared.commands.Command.{Command}
 use Rattle.journal.specs.declared.commands.Command.the-variants.{Open, Add, Drop, Join, Leave, Grant, Revoke, Search}
 use Rattle.journal.specs.declared.commands.Step.{Step}
@@ -115,3 +116,72 @@ module _ (at : ℕ) (bytes : List ℕ) where
       → pairCommand c x y ≡ commandAt bytes at
   unfolding commandOf
   pair-at {c} e i a d s ex ey = rw (← part-of at bytes, ex, ey, ← e, ne-eqb c 73 i, ne-eqb c 65 a, ne-eqb c 68 d, ne-eqb c 83 s)
+
+-- ---- a command that was taken
+
+isTaken : Step → Bool
+isTaken (Taken c to) = true
+isTaken (Refused n) = false
+isTaken End = false
+
+commandIn : Command → Step → Command
+commandIn other (Taken c to) = c
+commandIn other (Refused n) = other
+commandIn other End = other
+
+-- it is well formed, and the offset behind it lies inside
+pub taken-there : (m : ℕ) (bytes : List ℕ) (at : ℕ) (c : Command) (to : ℕ) → Stepped m bytes at (Taken c to)
+    → (c ≡ commandAt bytes at) × ((to ≡ at + taken m (drop at bytes)) × (to ≤ length bytes))
+unfolding stepAt reachedBy isTaken commandIn
+taken-there m bytes at c to st = go (ltb at (length bytes)) (eqb (formAt m bytes at) 0) refl refl (st .in-place)
+  where
+    go : (more right : Bool) → ltb at (length bytes) ≡ more → eqb (formAt m bytes at) 0 ≡ right
+        → Taken c to ≡ cond more (cond right (Taken (commandAt bytes at) (at + taken m (drop at bytes))) (Refused (formAt m bytes at))) End
+        → (c ≡ commandAt bytes at) × ((to ≡ at + taken m (drop at bytes)) × (to ≤ length bytes))
+    go true true e f p =
+        let reached = ap (λ (s : Step). reachedBy s 0) p in (
+          ap (commandIn c) p,
+          (reached, omega (arith, reached, behind-there m bytes at (ltb-true at (length bytes) e) (eqb-true (formAt m bytes at) 0 f))),
+        )
+    go true false e f p = absurd (false≢true (sym (ap isTaken p)))
+    go false right e f p = absurd (false≢true (sym (ap isTaken p)))
+
+pair-no-symbols : (m c x y : ℕ) → symbolsEnd m (pairCommand c x y) ≡ 0
+unfolding pairCommand symbolsEnd
+pair-no-symbols m c x y = go (eqb c 74) (eqb c 76) (eqb c 71)
+  where
+    go : (j l g : Bool) → symbolsEnd m (cond j (Join x y) (cond l (Leave x y) (cond g (Grant x y) (Revoke x y)))) ≡ 0
+    go true l g = refl
+    go false true g = refl
+    go false false true = refl
+    go false false false = refl
+
+symbols-inside : (m : ℕ) (own : List ℕ) (at : ℕ) → symbolsEnd m (commandOf own at) ≤ at + taken m own
+unfolding commandOf symbolsEnd taken operandBytes
+symbols-inside m own at = go (eqb (byteAt own 0) 73) (eqb (byteAt own 0) 65) (eqb (byteAt own 0) 68) (eqb (byteAt own 0) 83)
+  where
+    go : (i a d s : Bool)
+        → symbolsEnd m (
+        cond i (Open (byteAt own 1) (byteAt own 2) (byteAt own 3) (wordAt own 4)) (
+        cond a (Add (wordAt own 1) (byteAt own 3) (at + 4)) (
+        cond d (Drop (wordAt own 1)) (
+        cond s (Search (byteAt own 1) (byteAt own 2) (at + 3)) (
+        pairCommand (byteAt own 0) (byteAt own 1) (byteAt own 2))))))
+        ≤ at + (1 + cond i 5 (cond a (3 + m) (cond s (2 + m) 2)))
+    go true a d s = omega arith
+    go false true d s = omega arith
+    go false false true s = omega arith
+    go false false false true = omega arith
+    go false false false false = omega (arith, pair-no-symbols m (byteAt own 0) (byteAt own 1) (byteAt own 2))
+
+-- its symbols lie inside too
+pub symbols-there : (m : ℕ) (bytes : List ℕ) (at : ℕ) (c : Command) (to : ℕ) → Stepped m bytes at (Taken c to) → symbolsEnd m c ≤ length bytes
+unfolding commandAt
+symbols-there m bytes at c to st =
+    let there = taken-there m bytes at c to st in
+    omega (arith, ap (symbolsEnd m) (there .0), there .1 .0, there .1 .1, symbols-inside m (drop at bytes) at)
+
+-- the reader has moved on
+pub taken-on : (m : ℕ) (bytes : List ℕ) (at : ℕ) (c : Command) (to : ℕ) → Stepped m bytes at (Taken c to) → at < to
+unfolding taken
+taken-on m bytes at c to st = omega (arith, taken-there m bytes at c to st .1 .0)

@@ -23,6 +23,17 @@ meant m bytes (Grant g c) = grants g c
 meant m bytes (Revoke g c) = revokes g c
 meant m bytes (Search r d s) = searches r d (take m (drop s bytes))
 
+-- where the m symbols of a command end; 0 for a command without symbols
+unfoldable pub symbolsEnd : ℕ → Command → ℕ
+symbolsEnd m (Add p c s) = s + m
+symbolsEnd m (Search r d s) = s + m
+symbolsEnd m (Open b n q t) = 0
+symbolsEnd m (Drop p) = 0
+symbolsEnd m (Join r g) = 0
+symbolsEnd m (Leave r g) = 0
+symbolsEnd m (Grant g c) = 0
+symbolsEnd m (Revoke g c) = 0
+
 -- what a step says
 unfoldable pub told : ℕ → List ℕ → Step → Next
 told m bytes (Taken c to) = command-to (meant m bytes c) to
