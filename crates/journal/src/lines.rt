@@ -54,6 +54,7 @@ fn put_pages(pages: &[u16], out: &mut [u8], at: usize) -> usize
     requires { ⌜ at + 11 * length (now pages) + 1 ≤ length (now out) ⌝ }
     ensures { λ r. ⌜ now (out .exit) ≡ sets (now (out .entry)) at (fields (now (pages .entry))) ⌝ }
     ensures { λ r. ⌜ r ≡ at + length (fields (now (pages .entry))) ⌝ }
+    ensures { λ r. ⌜ r ≤ length (now (out .exit)) ⌝ }
 {
     let mut i = 0;
     let mut to = at;
@@ -71,6 +72,7 @@ pub fn search_line(reader: u32, pages: &[u16], out: &mut [u8]) -> usize
     requires { ⌜ 24 + 11 * length (now pages) ≤ length (now out) ⌝ }
     ensures { λ r. ⌜ now (out .exit) ≡ sets (now (out .entry)) 0 (searchLine reader (now (pages .entry))) ⌝ }
     ensures { λ r. ⌜ r ≡ length (searchLine reader (now (pages .entry))) ⌝ }
+    ensures { λ r. ⌜ r ≤ length (now (out .exit)) ⌝ }
 {
     out[0] = b'S';
     let count = put_field(reader, out, 1);
@@ -83,6 +85,7 @@ pub fn refusal_line(at: u32, number: u32, out: &mut [u8]) -> usize
     requires { ⌜ 24 ≤ length (now out) ⌝ }
     ensures { λ r. ⌜ now (out .exit) ≡ sets (now (out .entry)) 0 (refusalLine at number) ⌝ }
     ensures { λ r. ⌜ r ≡ length (refusalLine at number) ⌝ }
+    ensures { λ r. ⌜ r ≤ length (now (out .exit)) ⌝ }
 {
     out[0] = b'E';
     let second = put_field(at, out, 1);
@@ -96,6 +99,7 @@ pub fn last_line(count: u32, out: &mut [u8]) -> usize
     requires { ⌜ 24 ≤ length (now out) ⌝ }
     ensures { λ r. ⌜ now (out .exit) ≡ sets (now (out .entry)) 0 (lastLine count) ⌝ }
     ensures { λ r. ⌜ r ≡ length (lastLine count) ⌝ }
+    ensures { λ r. ⌜ r ≤ length (now (out .exit)) ⌝ }
 {
     out[0] = b'Z';
     let end = put_field(count, out, 1);

@@ -1,8 +1,9 @@
 -- `last_line` writes the letter, the count and the end of the line.
+use Prim.Native.Nat.{_<_}
 use mathlib.Core.Path.{_∙_}
 use native.Mathlib.Omega.{arith}
 use mathlib.Core.List.{[], _∷_}
-use lib.ListN.{set, length-set}
+use lib.ListN.{length, set, length-set}
 use Rattle.meaning.specs.Journal.{lastLine}
 use Rattle.journal.proofs.Digits.{line-stored, fields-long, end-long}
 use borrow.Author.Needs.{needs}
@@ -15,8 +16,12 @@ slice-write-out c = search needs
 put-field-requires : tie.Need-put-field-requires
 put-field-requires c κs = omega (arith, length-set (c .before .before .args .out .now) 0 90)
 
+-- the offset behind the count lies inside
+end-inside : (c : tie.After-slice-known2) → c .before .before .put-field .result < length (c .before .before .put-field .last .1 .0)
+end-inside c = omega (arith, c .before .before .put-field .ensures .1 .1, c .before .before .put-field .kept .1 .0, length-set (c .before .before .before .before .before .args .out .now) 0 90)
+
 slice-write-out-2 : tie.Need-slice-write-out-2
-slice-write-out-2 c = omega (arith, c .before .before .put-field .ensures .1 .1, c .before .before .put-field .kept .1 .0, length-set (c .before .before .before .before .before .args .out .now) 0 90)
+slice-write-out-2 c = end-inside c
 
 add-result : tie.Need-add-result
 add-result c = search needs
@@ -31,7 +36,7 @@ unfolding lastLine
 returns c =
     let put = c .before .before .put-field in (
       line-stored (set (c .before .before .before .before .before .args .out .now) 0 90) 1 (c .before .before .before .before .before .args .count) (put .ensures .0) (put .ensures .1 .0),
-      omega (arith, put .ensures .1 .0, fields-long (c .before .before .before .before .before .args .count) [], end-long),
+      (omega (arith, put .ensures .1 .0, fields-long (c .before .before .before .before .before .args .count) [], end-long), omega (arith, end-inside c, length-set (put .last .1 .0) (put .result) 10)),
     )
 
 pub last-line-spec : {M : Type 1} → statement M

@@ -77,7 +77,7 @@ returns c =
     let at-loop = c .before .loop in
     let none = ap fields (drop-of-length-le pages {i = at-loop .i} (omega arith)) in (
       ap (sets (at-loop .out) (at-loop .to)) (sym none) ∙ at-loop .inv .1 .0,
-      omega (arith, ap length none, end-long, at-loop .inv .1 .1 .0),
+      (omega (arith, ap length none, end-long, at-loop .inv .1 .1 .0), omega (arith, length-set (at-loop .out) (at-loop .to) 10)),
     )
 
 pub put-pages-spec : {M : Type 1} → statement M

@@ -47,7 +47,7 @@ returns c =
       rest .ensures .0
           ∙ (field-stored (first .last .1 .0) (first .result) (length pages) pages (second .ensures .0) (second .ensures .1 .0)
           ∙ field-stored (set (args .out .now) 0 83) 1 (args .reader) (length pages ∷ pages) (first .ensures .0) (first .ensures .1 .0)),
-      omega (arith, rest .ensures .1, first .ensures .1 .0, second .ensures .1 .0, fields-long (args .reader) (length pages ∷ pages), fields-long (length pages) pages),
+      (omega (arith, rest .ensures .1 .0, first .ensures .1 .0, second .ensures .1 .0, fields-long (args .reader) (length pages ∷ pages), fields-long (length pages) pages), rest .ensures .1 .1),
     )
 
 pub search-line-spec : {M : Type 1} → statement M
