@@ -7,4 +7,5 @@ pub mod Rights
 pub mod Ledger
 pub mod Forest
 pub mod Questions
+pub mod Journal
 pub mod Sums
