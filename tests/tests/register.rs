@@ -171,3 +171,24 @@ fn showing() {
     }
     assert!([0, 5, 6, 7, 8, 9].iter().all(|&n| numbers[n] > 0), "{numbers:?}");
 }
+
+#[test]
+fn table_lengths() {
+    let mut random = Random::new(14);
+    let mut refused = 0;
+    for _ in 0..100_000 {
+        let mut s = settings(&mut random);
+        s.pages = near(&mut random, 1, 65_535);
+        s.nodes = near(&mut random, s.q.clamp(1, 8), 262_144);
+        let got = calls::lengths(s.b, s.m, s.q, s.pages, s.nodes);
+        let within = (1..=8).contains(&s.b) && (1..=64).contains(&s.m) && (1..=8.min(s.m)).contains(&s.q) && (1..=65_535).contains(&s.pages) && (s.q..=262_144).contains(&s.nodes);
+        if within {
+            let [nodes, pages, sketches, working] = lengths(s.m, s.q, s.pages, s.nodes).map(|n| n as u32);
+            assert_eq!(got, (0, [SETTINGS as u32, nodes, pages, sketches, working]), "{s:?}");
+        } else {
+            refused += 1;
+            assert_eq!(got, (4, [0; 5]), "{s:?}");
+        }
+    }
+    assert!(refused > 10_000 && refused < 90_000, "{refused}");
+}
