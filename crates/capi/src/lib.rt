@@ -1,12 +1,44 @@
 // The calls on an index for C: tables as a pointer and a length, the refusal's number as the result. No logic of their own: each
 // contract is the call's. include/vetchdawn.h declares them.
 ghost use mathlib.Core.Path.{_≡_};
+ghost use Prim.Native.Nat.{_≤_};
 ghost use mathlib.Core.List.{[]};
+ghost use lib.Dec.{eqb};
 ghost use Rattle.meaning.specs.Ledger.{join, leave, grant, revoke, show};
 ghost use Rattle.promises.specs.Tables.{tables, showTables};
 ghost use Rattle.promises.specs.Answers.{number};
 ghost use Rattle.promises.specs.Calls.{OpenPromise, settingsGiven, RightsPromise, startShown, lengthShown};
-ghost use Rattle.store.specs.Calls.{AddPromise, DropPromise, SearchPromise};
+ghost use Rattle.store.specs.Calls.{AddPromise, DropPromise, SearchPromise, CheckPromise};
+ghost use Rattle.index.specs.Lengths.{lengthsOf};
+
+#[no_mangle]
+pub extern "C" fn vetch_lengths(
+    b: u32,
+    m: u32,
+    q: u32,
+    page_capacity: u32,
+    node_capacity: u32,
+    settings: &mut u32,
+    nodes: &mut u32,
+    pages: &mut u32,
+    sketches: &mut u32,
+    working: &mut u32,
+) -> u32
+    ensures { λ r. ⌜ r ≡ lengthsOf (settingsGiven b m q «page_capacity» «node_capacity» []) .number ⌝ }
+    ensures { λ r. ⌜ now (settings .exit) ≡ lengthsOf (settingsGiven b m q «page_capacity» «node_capacity» []) .settings ⌝ }
+    ensures { λ r. ⌜ now (nodes .exit) ≡ lengthsOf (settingsGiven b m q «page_capacity» «node_capacity» []) .nodes ⌝ }
+    ensures { λ r. ⌜ now (pages .exit) ≡ lengthsOf (settingsGiven b m q «page_capacity» «node_capacity» []) .pages ⌝ }
+    ensures { λ r. ⌜ now (sketches .exit) ≡ lengthsOf (settingsGiven b m q «page_capacity» «node_capacity» []) .sketches ⌝ }
+    ensures { λ r. ⌜ now (working .exit) ≡ lengthsOf (settingsGiven b m q «page_capacity» «node_capacity» []) .working ⌝ }
+{
+    let needed = index::lengths::needed(b, m, q, page_capacity, node_capacity);
+    *settings = needed.settings;
+    *nodes = needed.nodes;
+    *pages = needed.pages;
+    *sketches = needed.sketches;
+    *working = needed.working;
+    needed.number
+}
 
 #[no_mangle]
 pub extern "C" fn vetch_open(
@@ -144,4 +176,22 @@ pub extern "C" fn vetch_show(
     *start = at.start;
     *length = at.length;
     at.number
+}
+
+// The verdict for C is 1 for yes and 0 for no.
+#[no_mangle]
+pub extern "C" fn vetch_check(
+    settings: &[u32],
+    nodes: &[u32],
+    pages: &[u32],
+    sketches: &[u8],
+    working: &mut [u32],
+    sound: &mut u32,
+) -> u32
+    ensures { λ r. ⌜ CheckPromise (tables (now (settings .entry)) (now (nodes .entry)) (now (pages .entry)) (now (sketches .entry)) (now (working .entry))) r (eqb (now (sound .exit)) 1) (now (working .exit)) ⌝ }
+    ensures { λ r. ⌜ now (sound .exit) ≤ 1 ⌝ }
+{
+    let verdict = check_store::check(settings, nodes, pages, sketches, working);
+    *sound = verdict.sound as u32;
+    verdict.number
 }

@@ -1,3 +1,4 @@
+pub mod Fits
 pub mod Opens
 pub mod Questions
 pub mod RightsCalls

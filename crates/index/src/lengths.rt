@@ -8,11 +8,11 @@ use layout::Header;
 // 0 with the lengths in words, of the sketch table in bytes; or 4 with zeros.
 pub struct Lengths {
     pub number: u32,
-    pub settings: usize,
-    pub nodes: usize,
-    pub pages: usize,
-    pub sketches: usize,
-    pub working: usize,
+    pub settings: u32,
+    pub nodes: u32,
+    pub pages: u32,
+    pub sketches: u32,
+    pub working: u32,
 }
 
 fn out_of_limits() -> Lengths
@@ -41,12 +41,17 @@ pub fn needed(b: u32, m: u32, q: u32, page_capacity: u32, node_capacity: u32) ->
         pages: page_capacity as usize,
         nodes: node_capacity as usize,
     };
+    let settings = layout::settings::LENGTH as u32;
+    let nodes = layout::lengths::nodes_length(h) as u32;
+    let pages = layout::lengths::pages_length(h) as u32;
+    let sketches = layout::lengths::sketches_length(h) as u32;
+    let working = layout::lengths::working_length(h) as u32;
     Lengths {
         number: 0,
-        settings: layout::settings::LENGTH,
-        nodes: layout::lengths::nodes_length(h),
-        pages: layout::lengths::pages_length(h),
-        sketches: layout::lengths::sketches_length(h),
-        working: layout::lengths::working_length(h),
+        settings,
+        nodes,
+        pages,
+        sketches,
+        working,
     }
 }
