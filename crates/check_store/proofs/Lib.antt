@@ -1,4 +1,3 @@
-pub mod Admits
 pub mod Admitted
 pub mod Fits
 pub mod PageSteps

@@ -21,10 +21,10 @@ use Rattle.layout.specs.Settings.{freeAt}
 use Rattle.layout.specs.Working.{mapWords}
 use Rattle.layout.proofs.Sizes.{same-lengths, nodes-mapped}
 use Rattle.promises.specs.Tables.{Tables, given}
+use Rattle.index.specs.Entry.{entry}
 use Rattle.store.specs.Sound.{Sound}
 use Rattle.store.specs.Calls.{workingLeft, CheckPromise}
 use Rattle.trie_room.specs.RowBytes.{rowsOf}
-use Rattle.check_store.specs.Admission.{admission}
 use Rattle.check_store.specs.Pages.{pageFits, testPages}
 use Rattle.check_store.specs.Free.{testFree}
 use Rattle.check_store.specs.Windows.{Passed, passed, onLeft, blockGiven, testWindow, windowsFrom, testWindows}
@@ -60,7 +60,7 @@ module _ (s : Settings) (N P S : List ℕ) (words : ℕ) where
 
 -- ---- refused
 module _ (T : Tables) where
-  pub check-refused : (n : ℕ) → Refused n ≡ admission T → CheckPromise T n false (T .working)
+  pub check-refused : (n : ℕ) → entry T ≡ Refused n → CheckPromise T n false (T .working)
   unfolding workingLeft
   check-refused n e =
       let r = rejected T n e in record {
@@ -72,7 +72,7 @@ module _ (T : Tables) where
       }
 
   -- ---- carried out
-  module _ (h : Header) (e : Shown h ≡ admission T) (words : ℕ) (w : words ≡ mapWords (bare h)) where
+  module _ (h : Header) (e : entry T ≡ Shown h) (words : ℕ) (w : words ≡ mapWords (bare h)) where
     abbrev a : Admitted T h
     a = admitted T h e
 

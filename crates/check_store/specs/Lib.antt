@@ -1,4 +1,3 @@
-pub mod Admission
 pub mod Lent
 pub mod Pages
 pub mod Free

@@ -14,7 +14,6 @@ use trie_check::leaf::Left;
 
 mod free;
 mod pages;
-mod questions;
 mod windows;
 
 // The number of the question that says no, or 0; and whether the store is sound.
@@ -57,7 +56,7 @@ pub fn check(
 ) -> Verdict
     ensures { λ r. ⌜ CheckPromise (tables (now (settings .entry)) (now (nodes .entry)) (now (pages .entry)) (now (sketches .entry)) (now (working .entry))) (r .number) (r .sound) (now (working .exit)) ⌝ }
 {
-    let h = match questions::admit(settings, nodes, pages, sketches, working) {
+    let h = match index::tables::enter(settings, nodes, pages, sketches, working) {
         Opening::Refused(number) => {
             return Verdict {
                 number,

@@ -1,3 +1,4 @@
+pub mod Enters
 pub mod Fits
 pub mod Opens
 pub mod Questions

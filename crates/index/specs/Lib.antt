@@ -1,3 +1,4 @@
+pub mod Entry
 pub mod Lengths
 pub mod Register
 pub mod Show

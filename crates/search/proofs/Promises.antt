@@ -36,8 +36,10 @@ use Rattle.search_laws.specs.Answer.{Answered}
 use Rattle.search_laws.proofs.Marks.{zeroed-onto, zeroed-again}
 use Rattle.search_laws.proofs.Lists.{words, walks, foundIn, list-met, walks-whole, list-all}
 use Rattle.search.specs.Ready.{Fits}
-use Rattle.search.specs.Questions.{tablesAsked, entry, queryAsked}
-use Rattle.search.proofs.Enters.{entry-refused, Entered, entry-shown}
+use Rattle.index.specs.Entry.{tablesAsked, entry}
+use Rattle.index.proofs.Enters.{entry-refused, Entered, entry-shown}
+use Rattle.search.specs.Questions.{queryAsked}
+use Rattle.search.proofs.Enters.{lends}
 use Rattle.search.proofs.Queries.{query-passed}
 use Rattle.search.proofs.Walked.{lent-room}
 
@@ -150,11 +152,11 @@ module _ (T : Tables) (reader radius : ℕ) (x before : List ℕ) where
           let fits : Fits (headerOf (given T)) x = rw (← in-order .header) at (query-passed h reader radius x q .1) in
           let b : Answered (walks T reader radius x) (isHit (testOf T reader radius x)) (words T reader radius x) before n count after =
           rw (g, f, ← in-order .header) at a in
-          let rows : sketchesLength (given T) ≤ length (T .sketches) = rw (same-lengths (given T) h (in-order .header) .sketches) at (in-order .rows) in
-          let room = lent-room (headerOf (given T)) (T .nodes) (T .pages) (T .working) (i .lent) (words T reader radius x) refl in
+          let rows : sketchesLength (given T) ≤ length (T .sketches) = rw (same-lengths (given T) h (in-order .header) .sketches) at (in-order .sketches-long) in
+          let room = lent-room (headerOf (given T)) (T .nodes) (T .pages) (T .working) (lends T (headerOf (given T)) i) (words T reader radius x) refl in
           record {
             early = λ k. absurd (k (early-query ∙ q));
-            sound = λ F s y. answer-sound T reader radius x before n count after b room (i .lent .limits) rows (fits .count) (fits .range) F s;
+            sound = λ F s y. answer-sound T reader radius x before n count after b room (i .limits) rows (fits .count) (fits .range) F s;
             open-list = λ y. answer-open T reader radius x before n count after b room;
             refused = answer-refused T reader radius x before n count after b;
             working-left =

@@ -85,7 +85,7 @@ pub fn search(
 ) -> Found
     ensures { λ r. ⌜ SearchPromise (tables (now (settings .entry)) (now (nodes .entry)) (now (pages .entry)) (now (sketches .entry)) (now (working .entry))) reader radius (now (sketch .entry)) (now (output .entry)) (r .number) (r .count) (now (output .exit)) (now (working .exit)) ⌝ }
 {
-    let h = match questions::enter(settings, nodes, pages, sketches, working) {
+    let h = match index::tables::enter(settings, nodes, pages, sketches, working) {
         Opening::Refused(number) => {
             return Found {
                 number: number,

@@ -7,15 +7,15 @@ use lib.Seq.{length-take-le}
 use Rattle.layout.specs.declared.Header.{Header}
 use Rattle.layout.specs.declared.Opening.the-variants.{Shown}
 use Rattle.promises.specs.Tables.{Tables, tables}
-use Rattle.check_store.specs.Admission.{admission}
+use Rattle.index.specs.Entry.{entry}
 use Rattle.check_store.proofs.Admitted.{Admitted, admitted, header-limits, lent-header, words-most, words-fit, working-long}
 use Rattle.check_store.proofs.Promise.{check-refused, check-done}
 use borrow.Author.Needs.{needs}
 use Rattle.check_store.proofs.check.Statement.{statement}
 use Rattle.check_store.proofs.check.Tie as tie
 
-admit-requires : tie.Need-admit-requires
-admit-requires c κs = search needs
+enter-requires : tie.Need-enter-requires
+enter-requires c κs = search needs
 
 enum-known-number : tie.Need-enum-known-number
 enum-known-number c = search needs
@@ -26,23 +26,23 @@ same-length c = search needs
 returns : tie.Need-returns
 returns c =
     let number = c .before in
-    check-refused _ _ (sym (number .number .given .1) ∙ number .before .before .admit .ensures)
+    check-refused _ _ (sym (number .before .before .enter .ensures) ∙ number .number .given .1)
 
 enum-known-h : tie.Need-enum-known-h
 enum-known-h c = search needs
 
 -- the tables lent, and the header that they show
-abbrev entry : tie.After-known-told2 → tie.Start
-entry k = k .before .before .before .before .before .before .before .before .before .before
+abbrev start : tie.After-known-told2 → tie.Start
+start k = k .before .before .before .before .before .before .before .before .before .before
 
 abbrev lent : tie.After-known-told2 → Tables
-lent k = tables (entry k .args .settings .now) (entry k .args .nodes .now) (entry k .args .pages .now) (entry k .args .sketches .now) (entry k .args .working .now)
+lent k = tables (start k .args .settings .now) (start k .args .nodes .now) (start k .args .pages .now) (start k .args .sketches .now) (start k .args .working .now)
 
 abbrev header : tie.After-known-told2 → Header
 header k = k .before .h .given .0 .0
 
-shows : (k : tie.After-known-told2) → Shown (header k) ≡ admission (lent k)
-shows k = sym (k .before .h .given .1) ∙ k .before .before .before .admit .ensures
+shows : (k : tie.After-known-told2) → entry (lent k) ≡ Shown (header k)
+shows k = sym (k .before .before .before .enter .ensures) ∙ k .before .h .given .1
 
 known : (k : tie.After-known-told2) → Admitted (lent k) (header k)
 known k = admitted (lent k) (header k) (shows k)
@@ -54,12 +54,12 @@ map-words-requires : tie.Need-map-words-requires
 map-words-requires c κs = header-limits _ _ (known (c .before))
 
 -- the map lies in the working table
-inside : (c : tie.After-map-words) → c .map-words .result ≤ length (entry (c .before .before) .args .working .now)
+inside : (c : tie.After-map-words) → c .map-words .result ≤ length (start (c .before .before) .args .working .now)
 inside c =
     let k = known (c .before .before) in
     omega (arith, c .map-words .ensures, words-fit _ _ k, working-long _ _ k)
 
-map-long : (c : tie.After-map-words) → length (take (c .map-words .result) (entry (c .before .before) .args .working .now)) ≡ c .map-words .result
+map-long : (c : tie.After-map-words) → length (take (c .map-words .result) (start (c .before .before) .args .working .now)) ≡ c .map-words .result
 map-long c = length-take-le _ _ (inside c)
 
 slice-relend-prefix-test-store : tie.Need-slice-relend-prefix-test-store
@@ -85,7 +85,7 @@ zero-run-requires c κs =
     let m = t .before .before in
     let k = m .before .before in
     let words = m .map-words .result in
-    let working = entry k .args .working .now in
+    let working = start k .args .working .now in
     omega (
       arith,
       length-append (t .test-store .last .1 .1 .1 .0) (drop words working),
@@ -112,7 +112,7 @@ pub check-spec : {M : Type 1} → statement M
 check-spec =
     tie.close
     (tie.spec
-    admit-requires
+    enter-requires
     enum-known-number
     same-length
     returns

@@ -4,8 +4,9 @@ use borrow.Author.Needs.{needs}
 use Rattle.layout.specs.declared.Header.{Header}
 use Rattle.layout.specs.declared.Opening.the-variants.{Shown}
 use Rattle.promises.specs.Tables.{Tables, tables}
-use Rattle.search.specs.Questions.{entry}
-use Rattle.search.proofs.Enters.{Entered, entry-shown}
+use Rattle.index.specs.Entry.{entry}
+use Rattle.index.proofs.Enters.{Entered, entry-shown}
+use Rattle.search.proofs.Enters.{lends}
 use Rattle.search.proofs.Queries.{query-passed}
 use Rattle.search.proofs.Walked.{lent-room, cleared-lent, cleared-summary}
 use Rattle.search.proofs.Promises.{promise-tables, promise-query, promise-found}
@@ -48,15 +49,15 @@ opened : (k : tie.After-known-told2) → Entered (lent k) (header k)
 opened k = entry-shown (lent k) (header k) (shows k)
 
 map-words-requires : tie.Need-map-words-requires
-map-words-requires c κs = opened c .lent .limits
+map-words-requires c κs = opened c .limits
 
 clear-marks-requires : tie.Need-clear-marks-requires
 clear-marks-requires c κs =
     let k = c .before .before in
-    lent-room _ _ _ _ (opened k .lent) _ (c .before .map-words .ensures)
+    lent-room _ _ _ _ (lends _ _ (opened k)) _ (c .before .map-words .ensures)
 
 query-number-requires : tie.Need-query-number-requires
-query-number-requires c κs = opened (c .before .before .before .before .before) .lent .limits
+query-number-requires c κs = opened (c .before .before .before .before .before) .limits
 
 same-length-2 : tie.Need-same-length-2
 same-length-2 c = search needs
@@ -74,10 +75,11 @@ find-requires c κs =
     let q = t .before in
     let m = q .before .before .before in
     let o = opened (m .before .before .before) in
+    let lent-now = lends _ _ o in
     let words = m .before .before .map-words .ensures in
     let passed = query-passed _ _ _ _ (sym (q .query-number .ensures) ∙ t .if1 .left) in (
-      cleared-lent _ _ _ _ (o .lent) _ words _ (m .clear-marks .ensures),
-      (o .rows, (passed .1, ((o .settings-long, passed .0), (words, cleared-summary _ _ _ _ (o .lent) _ words _ (m .clear-marks .ensures))))),
+      cleared-lent _ _ _ _ lent-now _ words _ (m .clear-marks .ensures),
+      (o .sketches-long, (passed .1, ((o .settings-long, passed .0), (words, cleared-summary _ _ _ _ lent-now _ words _ (m .clear-marks .ensures))))),
     )
 
 same-length-3 : tie.Need-same-length-3

@@ -5,10 +5,10 @@ use Rattle.layout.specs.declared.Header.{Header}
 use Rattle.layout.specs.declared.Opening.the-variants.{Shown}
 use Rattle.layout.specs.Header.{openingOf}
 use Rattle.layout.proofs.Openings.{shown}
 use Rattle.index.proofs.Questions.{fails, holds}
-use Rattle.search.proofs.Enters.{enter-refused, enter-nodes, enter-pages, enter-working, enter-all}
-use Rattle.search.proofs.questions.enter.Statement.{statement}
-use Rattle.search.proofs.questions.enter.Tie as tie
+use Rattle.index.proofs.Enters.{enter-refused, enter-nodes, enter-pages, enter-working, enter-all}
+use Rattle.index.proofs.tables.enter.Statement.{statement}
+use Rattle.index.proofs.tables.enter.Tie as tie
 
 opening-requires : tie.Need-opening-requires
 opening-requires c κs = search needs
