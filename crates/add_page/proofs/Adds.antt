@@ -17,8 +17,8 @@ use Rattle.layout.specs.Lengths.{nodesLength, pagesLength, sketchesLength}
 use Rattle.layout.specs.Pages.{withPage}
 use Rattle.layout.proofs.Rows.{length-with-row}
 use Rattle.layout.proofs.Words.{live-inside, class-inside}
-use Rattle.trie.specs.declared.Span.{Span}
-use Rattle.trie.specs.declared.Span.the-variants.{Enough, Short, Wild}
+use Rattle.trie.specs.declared.span.Span.{Span}
+use Rattle.trie.specs.declared.span.Span.the-variants.{Enough, Short, Wild}
 use Rattle.trie.specs.Tables.{RowTable}
 use Rattle.trie_room.specs.RowBytes.{rowsOf as blockRows}
 use Rattle.trie_room.proofs.RowBytes.{rows-table}

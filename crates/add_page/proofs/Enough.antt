@@ -55,7 +55,7 @@ module _ (s : Settings) (x : List ℕ) (count : length x ≡ s .symbols) (range 
 
   -- `bytes j q` are the packed bytes of page q in block j: the sketch's for the new page p, those of their rows for live pages
   module _ (bytes : ℕ → ℕ → List ℕ) (live : ℕ → Bool) (p : ℕ) (mine : (j : ℕ) → j < s .blocks → bytes j p ≡ bytesOfSketch s j x) where
-    leads : (j : ℕ) (t : Tree) → j < s .blocks → SoundBlock s bytes live j t → Leads (bytes j) p t (bytesOfSketch s j x)
+    pub leads : (j : ℕ) (t : Tree) → j < s .blocks → SoundBlock s bytes live j t → Leads (bytes j) p t (bytesOfSketch s j x)
     unfolding byteAt
     leads j t l b =
         sound-leads (bytes j) (s .bits) (blockLength (s .symbols) (s .blocks) j) p t (bytesOfSketch s j x)

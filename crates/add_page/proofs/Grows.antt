@@ -4,53 +4,32 @@ use native.Mathlib.Omega.{arith}
 use mathlib.Core.Path.{_≡_, refl, ap, _∙_, subst}
 use mathlib.Core.Bool.{Bool, true}
 use mathlib.Core.List.{List, [], _∷_, map}
-use borrow.Author.Tests.{ltb-true}
-use lib.Dec.{ltb}
 use lib.ListN.{length}
 use Rattle.meaning.specs.Lists.{sum}
-use Rattle.meaning.specs.Sketch.{inRange, blockLength}
-use Rattle.meaning.specs.Trie.{Tree, leaf, inner, Children, none, child, insert, nodes}
+use Rattle.meaning.specs.Sketch.{inRange}
+use Rattle.meaning.specs.Trie.{Tree, insert, nodes}
 use Rattle.meaning.specs.Ledger.{Settings}
 use Rattle.meaning.specs.Forest.{blockBytes, bytesOfSketch, eachFrom, totalNodes}
 use Rattle.layout.specs.Lengths.{pagesLength}
 use Rattle.layout.specs.Pages.{nextAt}
-use Rattle.layout.proofs.Tests.{and-left, and-right}
 use Rattle.trie.specs.Heap.{Cells, Heap, nil, page, _⊕_}
 use Rattle.trie.specs.Tables.{RowTable}
 use Rattle.trie.specs.Phys.{Phys, root, tree, first, cells, freeCells, Below, State}
 use Rattle.trie.proofs.Frame.{Less, less, nodes-kept, pages-kept}
-use Rattle.trie.proofs.Abstract.{Shallow, ShallowIn}
 use Rattle.trie.proofs.Spot.{root-below}
-use Rattle.trie.proofs.Grow.{Grown}
-use Rattle.trie.proofs.Insert.{insert-right}
-use Rattle.trie_laws.specs.Sound.{soundTrie, soundFrom}
 use Rattle.trie_laws.specs.Block.{SoundBlock, EachFrom}
 use Rattle.trie_laws.specs.Needed.{sumFrom}
 use Rattle.trie_laws.proofs.Nodes.{insert-nodes}
+use Rattle.trie_insert.proofs.Grow.{Grown}
+use Rattle.trie_insert.proofs.Inserts.{insert-right}
 use Rattle.trie_room.specs.RowBytes.{rowBytes, rowsOf}
 use Rattle.trie_room.proofs.RowBytes.{level-byte}
 use Rattle.store.specs.Sound.{triesCells, Rooted}
 use Rattle.add_page.specs.declared.insert.Inserted.the-variants.{Free}
 use Rattle.add_page.specs.Insert.{Filled, onInsert, insertBlock, insertFrom}
 use Rattle.add_page.specs.Insert.{filled as done}
-use Rattle.add_page.proofs.Bytes.{bytes-length}
-use Rattle.add_page.proofs.Enough.{Roomy, Needs, octets}
+use Rattle.add_page.proofs.Enough.{Roomy, Needs, octets, leads}
 use Rattle.add_page.proofs.Kept.{Kept, block-kept}
-
--- inner nodes of a sound trie are above the packed length
-module _ (bytesOf : ℕ → List ℕ) (b n len : ℕ) where
-  mutual
-    unfolding soundTrie
-
-    pub sound-shallow : (t : Tree) (k : ℕ) → soundTrie bytesOf b n len k t ≡ true → Shallow t len k
-    sound-shallow (leaf ps) k h = tt
-    sound-shallow (inner cs) k h =
-        (ltb-true k len (and-left (ltb k len) (soundFrom bytesOf b n len k 0 cs) h), shallow-in cs k 0 (and-right (ltb k len) (soundFrom bytesOf b n len k 0 cs) h))
-
-    shallow-in : (cs : Children) (k lo : ℕ) → soundFrom bytesOf b n len k lo cs ≡ true → ShallowIn cs len (suc k)
-    shallow-in none k lo h = tt
-    shallow-in (child c t cs) k lo h =
-        (sound-shallow t (suc k) (search (and-left, and-right)), shallow-in cs k (suc c) (search (and-left, and-right)))
 
 -- the page's own links, with what they hold
 abbrev pub spareCells : ℕ → ℕ → (ℕ → ℕ) → ℕ → List Phys → Cells
@@ -104,9 +83,7 @@ module _ (s : Settings) (S x : List ℕ) (count : length x ≡ s .symbols) (rang
   one j t {fs = fs} G l small st r b m =
       rw r at
       (insert-right (bytes j) S (s .thresholds) (bytesOfSketch s j x) (rowsOf s j) (s .nodes) (s .pages) (nextAt (s .pages) j) p (rows j l) small lp
-      (octets s x count range j) (mine j l) (λ k lk q lq. level-byte s j l S k q)
-      t st (bytes-length s j l x count)
-      (sound-shallow (bytes j) (s .bits) (blockLength (s .symbols) (s .blocks) j) (blockBytes s j) (tree t) 0 (b .sound))
+      (λ k lk q lq. level-byte s j l S k q) t st (leads s x count range bytes live p mine j (tree t) l b)
       (omega (arith, insert-nodes (bytes j) (blockBytes s j) (s .thresholds) 0 p (tree t))))
 
   -- the tries of the blocks from j on

@@ -11,9 +11,10 @@ use Rattle.layout.specs.declared.Header.{Header}
 use Rattle.layout.specs.Header.{bare, withThresholds}
 use Rattle.trie.specs.declared.Block.{Block}
 use Rattle.trie.specs.declared.Rows.{Rows}
-use Rattle.trie.specs.declared.Got.{Got}
-use Rattle.trie.specs.declared.Got.the-variants.{Node, Full, Bad}
-use Rattle.trie.specs.Model.{after, insertPage}
+use Rattle.trie.specs.declared.leaf.Got.{Got}
+use Rattle.trie.specs.declared.leaf.Got.the-variants.{Node, Full, Bad}
+use Rattle.trie_insert.specs.Pages.{after}
+use Rattle.trie_insert.specs.Insert.{insertPage}
 use Rattle.trie_room.specs.RowBytes.{rowsOf}
 use Rattle.add_page.specs.declared.insert.Inserted.the-variants.{Free, Stopped}
 use Rattle.add_page.specs.Blocks.{blockOf}

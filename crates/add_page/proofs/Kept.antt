@@ -1,12 +1,12 @@
 -- An insertion, on any tables, changes no word outside the nodes and the links of its block, and no length.
-use Prim.Native.Nat.{ℕ, zero, suc, _+_, _*_, _-_, _/_, _≤_, _<_}
+use Prim.Native.Nat.{ℕ, zero, suc, _+_, _*_, _-_, _≤_, _<_}
 use native.Mathlib.Omega.{arith}
 use native.Mathlib.Nat.{suc-mul, mul-le-mul-right}
 use mathlib.Core.Path.{_≡_, refl, _∙_}
 use mathlib.Core.Bool.{Bool, true, false, cond}
 use mathlib.Core.List.{List}
 use borrow.Author.Tests.{eqb-false, ltb-false}
-use lib.Dec.{ltb, leb, eqb}
+use lib.Dec.{ltb, eqb}
 use lib.ListN.{length, getD, set, take, length-set}
 use lib.ListN.{drop as skip}
 use lib.Seq.{take-set-le, drop-set-lt}
@@ -14,20 +14,26 @@ use Rattle.meaning.specs.Ledger.{Settings}
 use Rattle.meaning.specs.Forest.{bytesOfSketch}
 use Rattle.layout.specs.Lengths.{pagesLength}
 use Rattle.layout.specs.Pages.{nextAt}
-use Rattle.layout.specs.Nodes.{stateAt, headAt}
-use Rattle.trie.specs.declared.Got.the-variants.{Node, Full, Bad}
+use Rattle.layout.specs.Nodes.{stateAt}
 use Rattle.trie.specs.declared.Level.{Level}
-use Rattle.trie.specs.declared.Place.{Place}
-use Rattle.trie.specs.declared.Place.the-variants.{Found, Missing, Broken}
-use Rattle.trie.specs.declared.Reach.{Reach}
-use Rattle.trie.specs.declared.Reach.the-variants.{Leaf, Gap, Lost}
 use Rattle.trie.specs.declared.Rows.{Rows}
-use Rattle.trie.specs.declared.Span.{Span}
-use Rattle.trie.specs.declared.Span.the-variants.{Enough, Short, Wild}
-use Rattle.trie.specs.declared.Target.the-variants.{Ready, NoRoom, Damaged}
-use Rattle.trie.specs.Model.{Inside, Made, made, Pushed, pushed, After, after, Aimed, aimed, linkAt, childAt, byteIn, placeFrom, findPlace, linkLeaf, nodeIn, freshLeaf, madeAt, childLeaf, pushPage, pushNodes, pushPages, putDone, putInto, putLeafM, pageByte, onPut, splitFrom, openLeaf, levelAt, tooLong, splitLeaf, growSpan, growInto, growLeaf, Reached, onward, descend, targetIn, aimMade, aimAt, leafFor, insertAt, insertPage}
+use Rattle.trie.specs.declared.leaf.Got.the-variants.{Node, Full, Bad}
+use Rattle.trie.specs.declared.place.Place.{Place}
+use Rattle.trie.specs.declared.place.Place.the-variants.{Found, Missing, Broken}
+use Rattle.trie.specs.declared.span.Span.{Span}
+use Rattle.trie.specs.declared.span.Span.the-variants.{Enough, Short, Wild}
 use Rattle.trie.specs.Tables.{RowTable}
+use Rattle.trie.specs.Model.{Inside, Made, made, findPlace, linkLeaf, nodeIn, freshLeaf, madeAt, childLeaf, pageByte, levelAt}
+use Rattle.trie.proofs.Places.{find-inside}
 use Rattle.trie.proofs.Bytes.{level-table, byte-small}
+use Rattle.trie_path.specs.declared.Reach.{Reach}
+use Rattle.trie_path.specs.declared.Reach.the-variants.{Leaf, Gap, Broken as Lost}
+use Rattle.trie_path.specs.Descend.{descendTo, Inside as ReachInside}
+use Rattle.trie_path.proofs.Inside.{descend-inside}
+use Rattle.trie_insert.specs.declared.insert.Target.the-variants.{Ready, NoRoom, Damaged}
+use Rattle.trie_insert.specs.Pages.{Pushed, pushed, pushNodes, pushPages, pushPage, After, after, putDone, putInto, putLeafM}
+use Rattle.trie_insert.specs.Split.{onPut, splitFrom, openLeaf, tooLong, splitLeaf, growSpan, growInto, growLeaf}
+use Rattle.trie_insert.specs.Insert.{Aimed, aimed, targetIn, aimMade, aimAt, leafFor, insertAt, insertPage}
 use Rattle.trie_room.specs.RowBytes.{rowsOf}
 use Rattle.add_page.specs.Insert.{Filled, filled, onInsert, insertBlock, insertFrom, insertAll}
 
@@ -76,29 +82,9 @@ module _ (cap : ℕ) where
           let l : free - 1 < cap = omega (arith, eqb-false free 0 e, ltb-false cap free f) in
           (link-kept N s (free - 1) b ls l, omega arith)
 
-  place-inside : (N : List ℕ) (b f s : ℕ) → 0 < cap → s < 10 * cap → Inside cap (placeFrom N cap b s f)
-  unfolding placeFrom
-  place-inside N b zero s some ls = record { slot = omega arith; child = some }
-  place-inside N b (suc f) s some ls =
-      go (eqb (linkAt N s) 0) refl (ltb cap (linkAt N s)) refl (ltb (byteIn N (childAt N s)) b) (eqb (byteIn N (childAt N s)) b)
-      (λ h. place-inside N b f (childAt N s) some h)
-    where
-      go : (t : Bool) → eqb (linkAt N s) 0 ≡ t → (u : Bool) → ltb cap (linkAt N s) ≡ u → (v w : Bool) →
-          (childAt N s < 10 * cap → Inside cap (placeFrom N cap b (childAt N s) f)) →
-          Inside cap (cond t (Missing s) (cond u Broken (cond v (placeFrom N cap b (childAt N s) f) (cond w (Found s (childAt N s)) (Missing s)))))
-      go true e u l v w ih = record { slot = ls; child = some }
-      go false e true l v w ih = record { slot = omega arith; child = some }
-      go false e false l true w ih = ih (omega (arith, eqb-false (linkAt N s) 0 e, ltb-false cap (linkAt N s) l))
-      go false e false l false true ih = record { slot = ls; child = omega (arith, eqb-false (linkAt N s) 0 e, ltb-false cap (linkAt N s) l) }
-      go false e false l false false ih = record { slot = ls; child = some }
-
-  find-inside : (N : List ℕ) (n b : ℕ) → n < cap → b < 256 → Inside cap (findPlace N cap n b)
-  unfolding findPlace
-  find-inside N n b ln lb = place-inside N b 33 (headAt cap n (b / 32)) (omega arith) (omega arith)
-
   child-kept : (N : List ℕ) (n b free : ℕ) → n < cap → b < 256 → KeptM N (childLeaf N cap n b free)
   unfolding childLeaf
-  child-kept N n b free ln lb = go (findPlace N cap n b) (find-inside N n b ln lb)
+  child-kept N n b free ln lb = go (findPlace N cap n b) (find-inside N cap b n ln lb)
     where
       go : (q : Place) → Inside cap q → KeptM N (madeAt N cap b free q)
       go (Found s c) i = (within-none, omega (arith, i .child))
@@ -106,38 +92,18 @@ module _ (cap : ℕ) where
       go Broken i = (within-none, omega arith)
 
   module _ (N Y : List ℕ) (octets : (k : ℕ) → getD Y k 0 < 256) where
-    descend-inside : (f s n k : ℕ) → s < 10 * cap → n < cap → k + f ≡ length Y → Reached cap (length Y) (descend N cap Y s n k f)
-    unfolding descend
-    descend-inside zero s n k ls ln e = go (leb 2 (getD N (stateAt cap n) 0))
-      where
-        go : (t : Bool) → Reached cap (length Y) (cond t (Leaf s n k) Lost)
-        go true = (ls, ln, omega arith)
-        go false = tt
-    descend-inside (suc f) s n k ls ln e =
-        go (leb 2 (getD N (stateAt cap n) 0)) (findPlace N cap n (getD Y k 0)) (find-inside N n (getD Y k 0) ln (octets k))
-        (λ s' c l m. descend-inside f s' c (k + 1) l m (omega arith))
-      where
-        go : (t : Bool) (q : Place) → Inside cap q →
-            ((s' c : ℕ) → s' < 10 * cap → c < cap → Reached cap (length Y) (descend N cap Y s' c (k + 1) f)) →
-            Reached cap (length Y) (cond t (Leaf s n k) (onward (λ s' c. descend N cap Y s' c (k + 1) f) k q))
-        go true q i ih = (ls, ln, omega arith)
-        go false (Found s' c) i ih = ih s' c (i .slot) (i .child)
-        go false (Missing s') i ih = (i .slot, omega arith)
-        go false Broken i ih = tt
-
     aim-kept : (root free : ℕ) → root < cap → KeptA N (leafFor N cap Y root free)
     unfolding leafFor
-    aim-kept root free l =
-        go (descend N cap Y root root 0 (length Y)) (descend-inside (length Y) root root 0 (omega arith) l (omega arith))
+    aim-kept root free l = go (descendTo N cap root Y) (descend-inside N cap Y octets root l)
       where
         fresh : (k : ℕ) (m : Made) → KeptM N m → KeptA N (aimMade k m)
         fresh k (made N' (Node n free)) e = e
         fresh k (made N' Full) e = e
         fresh k (made N' Bad) e = e
 
-        go : (q : Reach) → Reached cap (length Y) q → KeptA N (aimAt N cap Y free q)
-        go (Leaf s n k) i = (within-none, omega arith)
-        go (Gap s k) i = fresh (k + 1) (freshLeaf N cap s (getD Y k 0) free) (fresh-kept N s (getD Y k 0) free (i .0))
+        go : (q : Reach) → ReachInside N cap (length Y) q → KeptA N (aimAt N cap Y free q)
+        go (Leaf n s k) i = (within-none, omega arith)
+        go (Gap n s k) i = fresh (k + 1) (freshLeaf N cap s (getD Y k 0) free) (fresh-kept N s (getD Y k 0) free (i .1))
         go Lost i = (within-none, omega arith)
 
 -- ---- both tables, of cap nodes, and pages inside lo .. hi

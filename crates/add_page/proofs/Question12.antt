@@ -12,7 +12,7 @@ use Rattle.meaning.specs.Trie.{Tree}
 use Rattle.meaning.specs.Ledger.{add}
 use Rattle.meaning.specs.Forest.{forestAfter, totalNodes}
 use Rattle.layout.specs.Settings.{freeAt}
-use Rattle.trie.specs.declared.Span.the-variants.{Enough, Short}
+use Rattle.trie.specs.declared.span.Span.the-variants.{Enough, Short}
 use Rattle.trie.specs.Heap.{Cells, nil, _⊕_}
 use Rattle.trie.proofs.Frame.{Less, less}
 use Rattle.trie.proofs.Spans.{span-right, frees-linked}

@@ -7,8 +7,8 @@ use Rattle.layout.specs.declared.Opening.{Opening}
 use Rattle.layout.specs.declared.Opening.the-variants.{Shown, Refused}
 use Rattle.layout.specs.Settings.{freeAt}
 use Rattle.layout.specs.Pages.{withRow, withPage}
-use Rattle.trie.specs.declared.Span.{Span}
-use Rattle.trie.specs.declared.Span.the-variants.{Enough, Short, Wild}
+use Rattle.trie.specs.declared.span.Span.{Span}
+use Rattle.trie.specs.declared.span.Span.the-variants.{Enough, Short, Wild}
 use Rattle.promises.specs.Tables.{Tables, tables, given}
 use Rattle.add_page.specs.declared.insert.Inserted.the-variants.{Free, Stopped}
 use Rattle.add_page.specs.Admission.{admission}

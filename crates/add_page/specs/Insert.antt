@@ -4,8 +4,9 @@ use mathlib.Core.List.{List}
 use Rattle.meaning.specs.Ledger.{Settings}
 use Rattle.meaning.specs.Forest.{bytesOfSketch}
 use Rattle.layout.specs.Pages.{nextAt}
-use Rattle.trie.specs.declared.Got.the-variants.{Node, Full, Bad}
-use Rattle.trie.specs.Model.{After, after, insertPage}
+use Rattle.trie.specs.declared.leaf.Got.the-variants.{Node, Full, Bad}
+use Rattle.trie_insert.specs.Pages.{After, after}
+use Rattle.trie_insert.specs.Insert.{insertPage}
 use Rattle.trie_room.specs.RowBytes.{rowsOf}
 use Rattle.add_page.specs.declared.insert.Inserted.{Inserted}
 use Rattle.add_page.specs.declared.insert.Inserted.the-variants.{Free, Stopped}

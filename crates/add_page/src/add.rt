@@ -13,7 +13,7 @@ use crate::questions::admit;
 use crate::room::room;
 use layout::Header;
 use layout::Opening;
-use trie::Span;
+use trie::span::Span;
 
 // The page's row, its leaf in each trie, its live word and its class. 14 where a link led outside.
 fn put_page(

@@ -2,13 +2,13 @@
 ghost use mathlib.Core.Path.{_≡_};
 ghost use Prim.Native.Nat.{_<_};
 ghost use Rattle.layout.specs.Header.{withThresholds};
+ghost use Rattle.trie_insert.specs.Pages.{after};
 ghost use Rattle.add_page.specs.Lent.{Fits, Lent};
 ghost use Rattle.add_page.specs.Insert.{filled, insertBlock, insertAll};
-ghost use Rattle.trie.specs.Model.{after};
 use crate::blocks;
 use layout::Header;
-use trie::Got;
-use trie::insert_page;
+use trie::leaf::Got;
+use trie_insert::insert::insert_page;
 use trie_room::rows::rows_of;
 
 // The free link then, or that a link led outside.

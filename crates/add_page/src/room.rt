@@ -6,7 +6,7 @@ ghost use Rattle.add_page.specs.Lent.{Fits, Lent};
 ghost use Rattle.add_page.specs.Room.{blockNeeds, allNeeded, roomOf};
 use crate::blocks;
 use layout::Header;
-use trie::Span;
+use trie::span::Span;
 use trie_room::needed::Needed;
 use trie_room::needed::enough_free;
 use trie_room::needed::nodes_needed;

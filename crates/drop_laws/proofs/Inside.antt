@@ -1,5 +1,5 @@
 -- On any tables a removal writes words of the tries only: the tables keep their lengths, and the words outside stay.
-use Prim.Native.Nat.{ℕ, zero, suc, _+_, _*_, _-_, _/_, _≤_, _<_}
+use Prim.Native.Nat.{ℕ, zero, suc, _+_, _*_, _-_, _≤_, _<_}
 use native.Mathlib.Omega.{arith}
 use mathlib.Core.Path.{_≡_, refl, _∙_}
 use mathlib.Core.Bool.{Bool, true, false, cond}
@@ -10,16 +10,15 @@ use lib.ListN.{length, getD, set, take, length-set}
 use lib.ListN.{drop as skip}
 use lib.Seq.{take-set-le, drop-set-lt}
 use Rattle.meaning.specs.Ledger.{Settings}
-use Rattle.layout.specs.Nodes.{stateAt, headAt, withLink, freeState, innerState, leafState}
+use Rattle.layout.specs.Nodes.{stateAt, withLink, freeState, leafState}
 use Rattle.layout.specs.Pages.{nextAt}
 use Rattle.layout.proofs.Rows.{rows-apart}
 use Rattle.layout.proofs.Words.{link-behind}
-use Rattle.trie.specs.declared.Place.{Place}
-use Rattle.trie.specs.declared.Place.the-variants.{Found, Missing, Broken as NoPlace}
-use Rattle.trie.specs.Model.{Inside, linkAt, childAt, byteIn, placeFrom, findPlace}
+use Rattle.trie.specs.Model.{linkAt}
 use Rattle.trie_path.specs.declared.Reach.{Reach}
 use Rattle.trie_path.specs.declared.Reach.the-variants.{Leaf, Gap, Broken as Lost}
-use Rattle.trie_path.specs.Descend.{onward, atNode, descend, descendTo}
+use Rattle.trie_path.specs.Descend.{descendTo, Inside as ReachInside}
+use Rattle.trie_path.proofs.Inside.{descend-inside}
 use Rattle.trie_room.specs.RowBytes.{rowBytes}
 use Rattle.trie_remove.specs.declared.Taken.the-variants.{First, Inside as Amid, Missing as Absent, Broken as Torn}
 use Rattle.trie_remove.specs.declared.Removed.the-variants.{Done, Broken}
@@ -101,51 +100,6 @@ module _ (cap : ℕ) where
       go false true = put
       go false false = within-then put (free-within M s n free ls ln)
 
--- ---- where bytes lead
-module _ (N : List ℕ) (cap : ℕ) where
-  place-inside : (b f s : ℕ) → s < 10 * cap → Inside cap (placeFrom N cap b s f)
-  unfolding placeFrom
-  place-inside b zero s l = record { slot = omega arith; child = omega arith }
-  place-inside b (suc f) s l =
-      go (eqb (linkAt N s) 0) refl (ltb cap (linkAt N s)) refl (ltb (byteIn N (childAt N s)) b) (eqb (byteIn N (childAt N s)) b) (place-inside b f (childAt N s))
-    where
-      go : (z : Bool) → eqb (linkAt N s) 0 ≡ z → (w : Bool) → ltb cap (linkAt N s) ≡ w → (x y : Bool) →
-          (childAt N s < 10 * cap → Inside cap (placeFrom N cap b (childAt N s) f)) →
-          Inside cap (cond z (Missing s) (cond w NoPlace (cond x (placeFrom N cap b (childAt N s) f) (cond y (Found s (childAt N s)) (Missing s)))))
-      go true e w m x y ih = record { slot = l; child = omega arith }
-      go false e true m x y ih = record { slot = omega arith; child = omega arith }
-      go false e false m true y ih = ih (omega (arith, eqb-false (linkAt N s) 0 e, ltb-false cap (linkAt N s) m))
-      go false e false m false true ih = record { slot = l; child = omega (arith, eqb-false (linkAt N s) 0 e, ltb-false cap (linkAt N s) m) }
-      go false e false m false false ih = record { slot = l; child = omega arith }
-
-  abbrev ReachIn : Reach → Type 0
-  ReachIn (Leaf n s k) = (n < cap) × (s < 10 * cap)
-  ReachIn (Gap n s k) = Unit {0}
-  ReachIn Lost = Unit {0}
-
-  node-in : (n s k : ℕ) (below : Reach) → n < cap → s < 10 * cap → ReachIn below → ReachIn (atNode N cap n s k below)
-  node-in n s k below ln ls h = go (ltb innerState (getD N (stateAt cap n) 0)) (eqb (getD N (stateAt cap n) 0) freeState)
-    where
-      go : (t u : Bool) → ReachIn (cond t (Leaf n s k) (cond u Lost below))
-      go true u = (ln, ls)
-      go false true = tt
-      go false false = h
-
-  module _ (Y : List ℕ) (octets : (k : ℕ) → getD Y k 0 < 256) where
-    descend-in : (f n s k : ℕ) → n < cap → s < 10 * cap → ReachIn (descend N cap Y n s k f)
-    unfolding descend findPlace
-    descend-in zero n s k ln ls = node-in n s k Lost ln ls tt
-    descend-in (suc f) n s k ln ls =
-        node-in n s k (onward (λ c s'. descend N cap Y c s' (k + 1) f) n k (findPlace N cap n (getD Y k 0))) ln ls
-        (go (findPlace N cap n (getD Y k 0)) (place-inside (getD Y k 0) 33 (headAt cap n (getD Y k 0 / 32)) (omega (arith, octets k)))
-        (λ c s' lc ls'. descend-in f c s' (k + 1) lc ls'))
-      where
-        go : (r : Place) → Inside cap r → ((c s' : ℕ) → c < cap → s' < 10 * cap → ReachIn (descend N cap Y c s' (k + 1) f)) →
-            ReachIn (onward (λ c s'. descend N cap Y c s' (k + 1) f) n k r)
-        go (Found s' c) i ih = ih c s' (i .child) (i .slot)
-        go (Missing s') i ih = tt
-        go NoPlace i ih = tt
-
 -- ---- both tables
 abbrev pub GoneIn : ℕ → ℕ → ℕ → List ℕ → List ℕ → Gone → Type 0
 GoneIn cap lo hi N P (gone N' P' r) = Within 0 (10 * cap) N N' × Within lo hi P P'
@@ -166,10 +120,10 @@ module _ (cap lo hi pcap base p : ℕ) (low : lo ≤ base) (high : base + pcap �
       go (took P' Torn) h = (within-same N, h)
 
   page-within : (N P Y : List ℕ) (root free : ℕ) → root < cap → ((k : ℕ) → getD Y k 0 < 256) → GoneIn cap lo hi N P (removePage N P cap pcap base root Y p free)
-  unfolding removePage descendTo
-  page-within N P Y root free lr o = go (descendTo N cap root Y) (descend-in N cap Y o (length Y) root 0 0 lr (omega arith))
+  unfolding removePage
+  page-within N P Y root free lr o = go (descendTo N cap root Y) (descend-inside N cap Y o root lr)
     where
-      go : (r : Reach) → ReachIn N cap r → GoneIn cap lo hi N P (removeReached N P cap pcap base p free r)
+      go : (r : Reach) → ReachInside N cap (length Y) r → GoneIn cap lo hi N P (removeReached N P cap pcap base p free r)
       go (Leaf n s k) h = at-within N P n s k free (h .0) (h .1)
       go (Gap n s k) h = (within-same N, within-same P)
       go Lost h = (within-same N, within-same P)

@@ -34,8 +34,8 @@ fn row_bytes(h: Header, sketches: &[u8], p: usize, j: usize) -> [u8; 64]
     let mut bytes = [0u8; 64];
     let mut k = 0;
     while k < n {
-        let level = trie::level_at(rows, k);
-        bytes[k] = trie::page_byte(sketches, level, block, p) as u8;
+        let level = trie::packed::level_at(rows, k);
+        bytes[k] = trie::packed::page_byte(sketches, level, block, p) as u8;
         k += 1;
     }
     bytes

@@ -1,23 +1,16 @@
 -- The packed byte of a page's symbols.
 use Prim.Native.Nat.{ℕ, zero, suc, _+_, _*_, _-_, _%_, _^_, _<_, _≤_, min}
 use mathlib.Core.Path.{_≡_, refl, _∙_}
-use mathlib.Core.List.{List, _∷_}
-use mathlib.Core.Bool.{Bool, true, false, _&&_, false≢true}
+use mathlib.Core.List.{List}
 use native.Mathlib.Omega.{arith}
-use borrow.Author.Tests.{ltb-true}
-use native.Mathlib.Nat.{mod-lt, mul-le-mul-left, mul-le-mul-right, mul-suc, one-mul, mod-eq-of-lt, le-trans}
+use native.Mathlib.Nat.{mod-lt, mul-le-mul-left, mul-le-mul-right, mul-suc, one-mul, le-trans}
 use lib.Bits.{bitAnd, and-mask}
 use lib.Pow.{pow-pos, pow-mono, pow-add, shl-exact}
-use lib.Dec.{ltb}
-use lib.ListN.{length, getD, take, drop}
-use lib.Seq.{drop-cons}
-use Rattle.meaning.specs.Lists.{all}
-use Rattle.meaning.specs.Sketch.{packByte, inRange}
+use lib.ListN.{length, getD}
 use Rattle.trie.specs.declared.Level.{Level}
 use Rattle.trie.specs.declared.Rows.{Rows}
 use Rattle.trie.specs.Tables.{SketchTable, RowTable}
 use Rattle.trie.specs.Model.{rowByte, pageByte, levelAt}
-use Rattle.trie.proofs.Context.{inside}
 
 pub shifted : (k : ℕ) → k ≤ 8 → 1 * 2 ^ k % 2 ^ 32 ≡ 2 ^ k
 shifted k h = shl-exact 1 k 32 (omega arith) (omega arith) ∙ one-mul (2 ^ k)
@@ -66,24 +59,6 @@ row-done b S at count i v l e =
 
 pub row-last : (b : ℕ) (S : List ℕ) (at count i v : ℕ) → b * count ≤ 8 → i ≤ 0 → v ≡ rowByte b S (at + i) (count - i) → v < 256
 row-last b S at count i v l z e = omega (arith, row-done b S at count i v z e, row-small b S at count l)
-
-and-left : (p q : Bool) → (p && q) ≡ true → p ≡ true
-and-left true q e = refl
-and-left false q e = e
-
-and-right : (p q : Bool) → (p && q) ≡ true → q ≡ true
-and-right true q e = e
-and-right false q e = absurd (false≢true e)
-
--- of symbols in range it is their packed byte
-pub row-pack : (b : ℕ) (S : List ℕ) (i n : ℕ) → i + n ≤ length S → inRange b (take n (drop i S)) ≡ true → rowByte b S i n ≡ packByte b (take n (drop i S))
-unfolding rowByte packByte inRange all
-row-pack b S i zero l h = refl
-row-pack b S i (suc n) l h =
-    let d : drop i S ≡ getD S i 0 ∷ drop (suc i) S = drop-cons S i 0 (omega arith) in
-    let k : (ltb (getD S i 0) (2 ^ b) && inRange b (take n (drop (suc i) S))) ≡ true = rw d at h in
-    let e : getD S i 0 % 2 ^ b ≡ getD S i 0 = mod-eq-of-lt (ltb-true (getD S i 0) (2 ^ b) (and-left _ (inRange b (take n (drop (suc i) S))) k)) in
-    rw (d, e, row-pack b S (suc i) n (omega arith) (and-right (ltb (getD S i 0) (2 ^ b)) _ k)) refl
 
 -- a level's symbols of a page lie in the table
 pub row-in : (pcap p : ℕ) (v : Level) (S : List ℕ) → p < pcap → SketchTable pcap v S → p * v .symbols + v .from + v .count ≤ length S

@@ -6,7 +6,6 @@ use native.Mathlib.Omega.{arith}
 use Rattle.meaning.specs.Trie.{Tree, inner, Children, child, nodes}
 use Rattle.layout.specs.Nodes.{chainWord, stateAt, innerState}
 use Rattle.trie.specs.Heap.{Cells, nil, node, _⊕_}
-use Rattle.trie.specs.Model.{after}
 use Rattle.trie.specs.Phys.{Phys, Buckets, Chain, root, tree, kids, kidsC, freeCells, cells, cellsC, Sound, SoundC, State, innerP, link}
 use Rattle.trie.proofs.Frame.{Less, less, less-right, Same}
 use Rattle.trie.proofs.Abstract.{Kept, Walks}

@@ -1,14 +1,9 @@
 pub mod Frame
 pub mod Abstract
 pub mod Steps
+pub mod Places
 pub mod Spot
 pub mod Context
 pub mod Fresh
-pub mod Push
-pub mod Put
 pub mod Bytes
-pub mod Split
 pub mod Spans
-pub mod Grow
-pub mod Ways
-pub mod Insert

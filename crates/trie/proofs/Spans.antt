@@ -8,11 +8,11 @@ use borrow.Author.Tests.{le-leb, lt-leb}
 use lib.Dec.{leb, leb·suc-suc}
 use native.Mathlib.Decide.{ℕ-discrete}
 use lib.ListN.{length, getD}
-use Rattle.trie.specs.declared.Span.{Span}
-use Rattle.trie.specs.declared.Span.the-variants.{Enough, Short}
-use Rattle.trie.specs.Heap.{hit, pageClaims, Holds}
+use Rattle.trie.specs.declared.span.Span.{Span}
+use Rattle.trie.specs.declared.span.Span.the-variants.{Enough, Short}
+use Rattle.trie.specs.Heap.{Cells, hit, pageClaims, Holds}
 use Rattle.trie.specs.Model.{spanFrom}
-use Rattle.trie.specs.Phys.{first, pageCells, freeCells, Below}
+use Rattle.trie.specs.Phys.{first, pageCells, freeCells, Below, State, leafP}
 use Rattle.trie.proofs.Frame.{hit-other, hit-same}
 use Rattle.trie.proofs.Steps.{span-out, span-end, span-next}
 
@@ -80,3 +80,6 @@ sum-pages base m (p ∷ ps) b =
 pub pages-most : (base pcap : ℕ) (ps : List ℕ) → Below pcap ps → ((a : ℕ) → pageClaims (pageCells base ps) a ≤ 1) → length ps ≤ pcap
 pages-most base pcap ps b h =
     omega (arith, sum-pages base pcap ps b, sum-most pcap (λ a. pageClaims (pageCells base ps) (base + a)) (λ a. h (base + a)))
+
+pub leaf-most : {cap pcap base : ℕ} {N P : List ℕ} {free n : ℕ} {ps fs : List ℕ} {G : Cells} → State cap pcap base N P free (leafP n ps) fs G → length ps ≤ pcap
+leaf-most {pcap} {base} {ps} st = pages-most base pcap ps (st .sound .1) (λ a. omega (arith, st .heap .pages a))

@@ -2,26 +2,30 @@
 use Prim.Native.Nat.{ℕ, zero, suc, _+_, _*_, _-_, _/_, _<_, _≤_}
 use mathlib.Core.Path.{_≡_, refl, ap, _∙_, sym}
 use mathlib.Core.List.{List}
-use mathlib.Core.Bool.{Bool, true, false, cond}
+use mathlib.Core.Bool.{Bool, true, false, false≢true, cond}
 use native.Mathlib.Omega.{arith}
 use borrow.Author.Tests.{ltb-true, ltb-false, eqb-true, eqb-false}
 use lib.Dec.{ltb, eqb}
 use lib.ListN.{getD}
 use Rattle.meaning.specs.Trie.{Tree, Children, child, nodes, nodesIn}
 use Rattle.layout.specs.Nodes.{byteOf, chainWord, headAt}
-use Rattle.trie.specs.declared.Place.{Place}
-use Rattle.trie.specs.declared.Place.the-variants.{Found, Missing}
+use Rattle.trie.specs.declared.place.Place.{Place}
+use Rattle.trie.specs.declared.place.Place.the-variants.{Found, Missing}
 use Rattle.trie.specs.Heap.{Cells, Holds, nil, node, _⊕_}
 use Rattle.trie.specs.Model.{linkAt, placeFrom, findPlace}
 use Rattle.trie.specs.Phys.{Phys, Buckets, Chain, root, tree, kids, kidsC, cells, cellsB, cellsC, Sound, SoundB, SoundC, leafP, innerP, end, bucket, stop, link}
 use Rattle.trie.proofs.Frame.{Same, same-trans, same-right, same-left, same-assoc, same-swap}
-use Rattle.trie.proofs.Abstract.{Skips, Above, Leaves, leaves-next, ShallowIn}
+use Rattle.trie.proofs.Abstract.{Skips, Above, Leaves, leaves-next}
 use Rattle.trie.proofs.Steps.{place-none, place-go, place-found, place-past}
 
 -- whether a chain begins with a byte
 abbrev pub starts : Chain → ℕ → Bool
 starts stop b = false
 starts (link c t ch) b = eqb c b
+
+pub begins : (ch : Chain) (b : ℕ) → starts ch b ≡ true → (u : Phys) × (rest : Chain) × (ch ≡ link b u rest)
+begins stop b e = absurd (false≢true e)
+begins (link c t ch) b e = (t, ch, rw (eqb-true c b e) refl)
 
 -- the first node of a chain
 abbrev pub headC : Chain → ℕ
@@ -45,10 +49,6 @@ chain-count (link c t ch) xs ys cs ds e = child-count c (tree t) (kidsC ch xs) (
 leaves-chain : (ch : Chain) (cs : Children) → Leaves (kidsC ch cs) → Leaves cs
 leaves-chain stop cs z = z
 leaves-chain (link c t ch) cs z = leaves-chain ch cs (leaves-next c (tree t) (kidsC ch cs) z)
-
-shallow-chain : (ch : Chain) (len k : ℕ) (cs : Children) → ShallowIn (kidsC ch cs) len k → ShallowIn cs len k
-shallow-chain stop len k cs z = z
-shallow-chain (link c t ch) len k cs z = shallow-chain ch len k cs (z .1)
 
 module _ (cap pcap base : ℕ) (small : cap ≤ 262144) where
   pub root-below : (t : Phys) → Sound cap pcap t → root t < cap
@@ -75,7 +75,6 @@ module _ (cap pcap base : ℕ) (small : cap ≤ 262144) where
     pub kids : (x : Chain) (cs : Children) → kidsC (put x) cs ≡ before (kidsC x cs)
     pub count : (cs ds : Children) → nodesIn (before cs) + nodesIn ds ≡ nodesIn (before ds) + nodesIn cs
     pub leaves : (cs : Children) → Leaves (before cs) → Leaves cs
-    pub shallow : (len k : ℕ) (cs : Children) → ShallowIn (before cs) len k → ShallowIn cs len k
     pub skip : (F : Children → Children) → Skips b F → (cs : Children) → F (before cs) ≡ before (F cs)
     pub find : (N P : List ℕ) (f : ℕ) → lo ≤ hi → hi < lo + f → Holds (cellsC cap base ch s y) N P → placeFrom N cap b s f ≡ answer (starts tail b) slot (headC tail)
 
@@ -100,7 +99,6 @@ module _ (cap pcap base : ℕ) (small : cap ≤ 262144) where
         kids = λ x cs. refl;
         count = λ cs ds. omega arith;
         leaves = λ cs z. z;
-        shallow = λ len k cs z. z;
         skip = λ F z cs. refl;
         find = f;
       }
@@ -144,7 +142,6 @@ module _ (cap pcap base : ℕ) (small : cap ≤ 262144) where
         kids = λ x cs. ap (child c (tree t)) (r .kids x cs);
         count = λ cs ds. child-count c (tree t) (r .before cs) (r .before ds) cs ds (r .count cs ds);
         leaves = λ cs z. r .leaves cs (leaves-next c (tree t) (r .before cs) z);
-        shallow = λ len k cs z. r .shallow len k cs (z .1);
         skip = λ F z cs. z c (tree t) (r .before cs) k ∙ ap (child c (tree t)) (r .skip F z cs);
         find = λ N P f i j h.
             let w : linkAt N s ≡ root t + 1 = link-word N s y t (g .2) (h .0) in
@@ -196,7 +193,6 @@ module _ (cap pcap base : ℕ) (small : cap ≤ 262144) where
     pub above : Above b later
     pub count : (cs ds : Children) → nodesIn (before cs) + nodesIn ds ≡ nodesIn (before ds) + nodesIn cs
     pub leaves : (cs : Children) → Leaves (before cs) → Leaves cs
-    pub shallow : (len k : ℕ) (cs : Children) → ShallowIn (before cs) len k → ShallowIn cs len k
     pub skip : (F : Children → Children) → Skips b F → (cs : Children) → F (before cs) ≡ before (F cs)
     pub find : (N P : List ℕ) → Holds (cellsB cap base bs n g) N P → findPlace N cap n b ≡ answer (starts tail b) slot (headC tail)
 
@@ -229,7 +225,6 @@ module _ (cap pcap base : ℕ) (small : cap ≤ 262144) where
         kids = λ x. r .kids x (kids bs);
         count = r .count;
         leaves = r .leaves;
-        shallow = r .shallow;
         above = kids-above bs (suc g) b (h .1) (omega arith);
         skip = r .skip;
         find = λ N P z. rw q (r .find N P 33 (omega arith) (omega arith) (z .0));
@@ -253,7 +248,6 @@ module _ (cap pcap base : ℕ) (small : cap ≤ 262144) where
         kids = λ x. ap (kidsC ch) (r .kids x);
         count = λ cs ds. chain-count ch (r .before cs) (r .before ds) cs ds (r .count cs ds);
         leaves = λ cs z. r .leaves cs (leaves-chain ch (r .before cs) z);
-        shallow = λ len k cs z. r .shallow len k cs (shallow-chain ch len k (r .before cs) z);
         above = r .above;
         skip = λ F z cs. skip-chain ch b (32 * g) (32 * g + 32) F z (h .0) (omega arith) (r .before cs) ∙ ap (kidsC ch) (r .skip F z cs);
         find = λ N P z. r .find N P (z .1);

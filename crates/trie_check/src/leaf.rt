@@ -65,8 +65,8 @@ fn is_on_path(
 {
     let mut k = 0;
     while k < depth {
-        let level = trie::level_at(rows, k);
-        if trie::page_byte(sketches, level, block, p) as u8 != path[k] {
+        let level = trie::packed::level_at(rows, k);
+        if trie::packed::page_byte(sketches, level, block, p) as u8 != path[k] {
             return false;
         }
         k += 1;

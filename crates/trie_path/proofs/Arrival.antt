@@ -7,13 +7,12 @@ use mathlib.Core.Path.{_≡_, refl, ap, _∙_, sym, subst}
 use mathlib.Core.Bool.{Bool, true, false}
 use mathlib.Core.List.{List}
 use lib.ListN.{length, getD}
-use Rattle.meaning.specs.Trie.{Tree, leaf, inner, Children, byteAt}
-use Rattle.trie.specs.declared.Place.the-variants.{Found, Missing}
+use Rattle.meaning.specs.Trie.{Tree, inner, Children, byteAt}
+use Rattle.trie.specs.declared.place.Place.the-variants.{Found, Missing}
 use Rattle.trie.specs.Heap.{Cells, Holds, node}
 use Rattle.trie.specs.Model.{findPlace}
 use Rattle.trie.specs.Phys.{Phys, Buckets, Chain, root, tree, kids, cells, State, leafP, innerP, link}
-use Rattle.trie.proofs.Spot.{starts, headC, answer, SpotB, spot}
-use Rattle.trie.proofs.Put.{begins}
+use Rattle.trie.proofs.Spot.{starts, begins, headC, answer, SpotB, spot}
 use Rattle.trie_laws.specs.Path.{hasBelow, hasPath, subtree, pathOf, depth}
 use Rattle.trie_laws.specs.Sound.{soundTrie}
 use Rattle.trie_laws.proofs.Sound.{inner-parts}

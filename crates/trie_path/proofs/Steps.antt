@@ -1,14 +1,14 @@
 -- `descend`, one step at a time. R is what the walk comes to in the end.
-use Prim.Native.Nat.{ℕ, zero, suc, _+_, _*_, _-_, _<_, _≤_}
+use Prim.Native.Nat.{ℕ, zero, suc, _+_, _-_, _<_, _≤_}
 use mathlib.Core.Path.{_≡_}
 use mathlib.Core.List.{List}
 use native.Mathlib.Omega.{arith}
 use borrow.Author.Tests.{le-ltb, lt-ltb, eq-eqb, ne-eqb}
 use lib.ListN.{length, getD}
 use Rattle.layout.specs.Nodes.{stateAt}
-use Rattle.trie.specs.declared.Place.{Place}
-use Rattle.trie.specs.declared.Place.the-variants.{Found, Missing, Broken as NoPlace}
-use Rattle.trie.specs.Model.{findPlace, Inside as PlaceInside}
+use Rattle.trie.specs.declared.place.Place.{Place}
+use Rattle.trie.specs.declared.place.Place.the-variants.{Found, Missing, Broken as NoPlace}
+use Rattle.trie.specs.Model.{findPlace}
 use Rattle.trie_path.specs.declared.Reach.{Reach}
 use Rattle.trie_path.specs.declared.Reach.the-variants.{Leaf, Gap, Broken}
 use Rattle.trie_path.specs.Descend.{onward, atNode, descend}
@@ -45,7 +45,3 @@ module _ (N : List ℕ) (cap : ℕ) (Y : List ℕ) (n s k : ℕ) (R : Reach) whe
 
           pub desc-lost : r ≡ NoPlace → Broken ≡ R
           desc-lost q = rw q at desc-step
-
--- the slot that a match tells
-pub found-slot : (cap : ℕ) (r : Place) (s c : ℕ) → r ≡ Found s c → PlaceInside cap r → s < 10 * cap
-found-slot cap r s c e h = rw e at (h .slot)

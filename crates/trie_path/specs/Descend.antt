@@ -5,8 +5,8 @@ use mathlib.Core.List.{List}
 use lib.Dec.{ltb, eqb}
 use lib.ListN.{length, getD}
 use Rattle.layout.specs.Nodes.{stateAt, freeState, innerState}
-use Rattle.trie.specs.declared.Place.{Place}
-use Rattle.trie.specs.declared.Place.the-variants.{Found, Missing, Broken as NoPlace}
+use Rattle.trie.specs.declared.place.Place.{Place}
+use Rattle.trie.specs.declared.place.Place.the-variants.{Found, Missing, Broken as NoPlace}
 use Rattle.trie.specs.Model.{findPlace}
 use Rattle.trie_path.specs.declared.Reach.{Reach}
 use Rattle.trie_path.specs.declared.Reach.the-variants.{Leaf, Gap, Broken}

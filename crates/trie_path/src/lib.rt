@@ -4,7 +4,8 @@ ghost use Prim.Native.Nat.{_<_};
 ghost use lib.ListN.{length};
 ghost use Rattle.trie.specs.Tables.{NodeTable};
 ghost use Rattle.trie_path.specs.Descend.{descendTo, Inside};
-use trie::Place;
+use trie::place::Place;
+use trie::place::find_place;
 
 // A node, a slot and the node's level: a leaf and the slot that links to it, 0 at the root; or an inner node without a child for the
 // next byte, and the slot where that child belongs.
@@ -35,7 +36,7 @@ pub fn descend_to(nodes: &[u32], cap: usize, root: usize, bytes: &[u8]) -> Reach
         if level >= bytes.len() {
             return Reach::Broken;
         }
-        let place = trie::find_place(nodes, cap, n, bytes[level] as u32);
+        let place = find_place(nodes, cap, n, bytes[level] as u32);
         match place {
             Place::Found(s, child) => {
                 n = child;

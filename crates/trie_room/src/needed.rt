@@ -9,10 +9,10 @@ ghost use Rattle.trie_room.specs.Needs.{distinctBytes, leafNeeds, gapNee
 use trie::Block;
 use trie::Level;
 use trie::Rows;
-use trie::Span;
-use trie::at_least;
-use trie::level_at;
-use trie::page_byte;
+use trie::packed::level_at;
+use trie::packed::page_byte;
+use trie::span::Span;
+use trie::span::at_least;
 use trie_path::Reach;
 use trie_path::descend_to;
 

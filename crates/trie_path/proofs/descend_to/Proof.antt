@@ -5,8 +5,8 @@ use native.Mathlib.Omega.{arith}
 use borrow.Author.Needs.{needs}
 use lib.ListN.{length}
 use Rattle.trie_path.specs.Descend.{descend, descendTo}
-use Rattle.trie_path.proofs.Steps.{desc-leaf, desc-free, desc-out, desc-found, desc-gap, desc-lost, found-slot}
-use Rattle.trie.proofs.Steps.{found-in, missing-in}
+use Rattle.trie_path.proofs.Steps.{desc-leaf, desc-free, desc-out, desc-found, desc-gap, desc-lost}
+use Rattle.trie.proofs.Steps.{found-in, found-slot, missing-in}
 use Rattle.trie_path.proofs.descend_to.Statement.{statement}
 use Rattle.trie_path.proofs.descend_to.Tie as tie
 

@@ -1,0 +1,43 @@
+-- `fresh_leaf` meets its contract.
+use native.Mathlib.Omega.{arith}
+use Rattle.trie.proofs.Steps.{fresh-full, fresh-wild, fresh-made}
+use borrow.Author.Needs.{needs}
+use Rattle.trie.proofs.leaf.fresh_leaf.Statement.{statement}
+use Rattle.trie.proofs.leaf.fresh_leaf.Tie as tie
+
+returns : tie.Need-returns
+returns c = search (fresh-full, arith)
+
+sub-f : tie.Need-sub-f
+sub-f c = search needs
+
+returns-2 : tie.Need-returns-2
+returns-2 c = search (fresh-wild, arith)
+
+mul-next : tie.Need-mul-next
+mul-next c = search needs
+
+slice-read-next : tie.Need-slice-read-next
+slice-read-next c = search needs
+
+link-leaf-requires : tie.Need-link-leaf-requires
+link-leaf-requires c κs = search needs
+
+same-length : tie.Need-same-length
+same-length c = search needs
+
+returns-3 : tie.Need-returns-3
+returns-3 c = search (fresh-made, arith)
+
+pub fresh-leaf-spec : {M : Type 1} → statement M
+fresh-leaf-spec =
+    tie.close
+    (tie.spec
+    returns
+    sub-f
+    returns-2
+    mul-next
+    slice-read-next
+    link-leaf-requires
+    same-length
+    returns-3)

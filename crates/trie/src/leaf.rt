@@ -1,0 +1,66 @@
+// Empty leaves made of free nodes.
+ghost use mathlib.Core.Path.{_≡_};
+ghost use Prim.Native.Nat.{_*_, _<_, _≤_};
+ghost use Rattle.trie.specs.Tables.{NodeTable};
+ghost use Rattle.trie.specs.Model.{linkLeaf, made, freshLeaf, childLeaf, nodeIn};
+use crate::place::LINKS;
+use crate::place::Place;
+use crate::place::find_place;
+use layout::nodes::with_link;
+
+// Node f as an empty leaf with a byte, linked into a slot before what the slot linked to.
+fn link_leaf(nodes: &mut [u32], cap: usize, slot: usize, f: usize, byte: u32)
+    requires { ⌜ NodeTable cap (now nodes) ⌝ }
+    requires { ⌜ slot < 10 * cap ⌝ }
+    requires { ⌜ f < cap ⌝ }
+    requires { ⌜ byte < 256 ⌝ }
+    ensures { λ r. ⌜ now (nodes .exit) ≡ linkLeaf (now (nodes .entry)) cap slot f byte ⌝ }
+{
+    let old = nodes[slot];
+    nodes[f] = old % LINKS + byte * LINKS;
+    nodes[cap + f] = 2;
+    nodes[slot] = with_link(old, (f + 1) as u32);
+}
+
+// A node that was found or made, or that a page was put into, with the first free link then; or why not.
+pub enum Got {
+    Node(usize, u32),
+    Full,
+    Bad,
+}
+
+// The first free node as an empty leaf with a byte, linked into a slot.
+pub fn fresh_leaf(nodes: &mut [u32], cap: usize, slot: usize, byte: u32, free: u32) -> Got
+    requires { ⌜ NodeTable cap (now nodes) ⌝ }
+    requires { ⌜ slot < 10 * cap ⌝ }
+    requires { ⌜ byte < 256 ⌝ }
+    ensures { λ r. ⌜ made (now (nodes .exit)) r ≡ freshLeaf (now (nodes .entry)) cap slot byte free ⌝ }
+    ensures inside { λ r. ⌜ nodeIn r ≤ cap ⌝ }
+{
+    if free == 0 {
+        return Got::Full;
+    }
+    let f = (free as usize) - 1;
+    if f >= cap {
+        return Got::Bad;
+    }
+    let next = nodes[f];
+    link_leaf(nodes, cap, slot, f, byte);
+    Got::Node(f, next)
+}
+
+// The child of a byte, which is made, an empty leaf, where it is missing.
+pub fn child_leaf(nodes: &mut [u32], cap: usize, n: usize, byte: u32, free: u32) -> Got
+    requires { ⌜ NodeTable cap (now nodes) ⌝ }
+    requires { ⌜ n < cap ⌝ }
+    requires { ⌜ byte < 256 ⌝ }
+    ensures { λ r. ⌜ made (now (nodes .exit)) r ≡ childLeaf (now (nodes .entry)) cap n byte free ⌝ }
+    ensures inside { λ r. ⌜ nodeIn r ≤ cap ⌝ }
+{
+    let place = find_place(nodes, cap, n, byte);
+    match place {
+        Place::Found(_, child) => Got::Node(child, free),
+        Place::Missing(slot) => fresh_leaf(nodes, cap, slot, byte, free),
+        Place::Broken => Got::Bad,
+    }
+}

@@ -1,0 +1,3 @@
+pub mod Pages
+pub mod Split
+pub mod Insert

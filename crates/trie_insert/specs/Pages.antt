@@ -1,0 +1,42 @@
+-- A page put into a leaf: N is the node table, of cap nodes, P the page table; the links of the block's pages stand from base on.
+use Prim.Native.Nat.{ℕ, _+_, _-_}
+use mathlib.Core.List.{List}
+use mathlib.Core.Bool.{Bool, true, false, cond}
+use lib.Dec.{ltb}
+use lib.ListN.{getD, set}
+use Rattle.layout.specs.Nodes.{stateAt, leafState}
+use Rattle.trie.specs.declared.leaf.Got.{Got}
+use Rattle.trie.specs.declared.leaf.Got.the-variants.{Node, Full, Bad}
+use Rattle.trie.specs.Model.{Made, made, childLeaf}
+
+-- both tables, and whether the page was put in
+pub data Pushed : Type 0 where
+  pushed : List ℕ → List ℕ → Bool → Pushed
+
+-- page p put first into leaf n
+abbrev pub pushNodes : List ℕ → ℕ → ℕ → ℕ → List ℕ
+pushNodes N cap n p = set N (stateAt cap n) (leafState (p + 1))
+
+abbrev pub pushPages : List ℕ → List ℕ → ℕ → ℕ → ℕ → ℕ → List ℕ
+pushPages N P cap base n p = set P (base + p) (getD N (stateAt cap n) 0 - 2)
+
+unfoldable pub pushPage : List ℕ → List ℕ → ℕ → ℕ → ℕ → ℕ → Pushed
+pushPage N P cap base n p =
+    cond (ltb (getD N (stateAt cap n) 0) 2) (pushed N P false) (pushed (pushNodes N cap n p) (pushPages N P cap base n p) true)
+
+-- both tables and the answer
+pub data After : Type 0 where
+  after : List ℕ → List ℕ → Got → After
+
+abbrev pub putDone : ℕ → ℕ → Pushed → After
+putDone c next (pushed N P true) = after N P (Node c next)
+putDone c next (pushed N P false) = after N P Bad
+
+abbrev pub putInto : List ℕ → ℕ → ℕ → ℕ → Made → After
+putInto P cap base p (made N (Node c next)) = putDone c next (pushPage N P cap base c p)
+putInto P cap base p (made N Full) = after N P Full
+putInto P cap base p (made N Bad) = after N P Bad
+
+-- page p put into the child leaf of byte b of node n
+unfoldable pub putLeafM : List ℕ → List ℕ → ℕ → ℕ → ℕ → ℕ → ℕ → ℕ → After
+putLeafM N P cap base n b p free = putInto P cap base p (childLeaf N cap n b free)

@@ -1,0 +1,54 @@
+-- A leaf split where it is too long: pcap is the capacity of pages, S the sketch table.
+use Prim.Native.Nat.{ℕ, zero, suc, _+_, _-_}
+use mathlib.Core.List.{List}
+use mathlib.Core.Bool.{true, false, cond}
+use lib.Dec.{ltb, eqb}
+use lib.ListN.{getD, set}
+use Rattle.layout.specs.Nodes.{stateAt, innerState}
+use Rattle.trie.specs.declared.Level.{Level}
+use Rattle.trie.specs.declared.Rows.{Rows}
+use Rattle.trie.specs.declared.leaf.Got.the-variants.{Node, Full, Bad}
+use Rattle.trie.specs.declared.span.Span.{Span}
+use Rattle.trie.specs.declared.span.Span.the-variants.{Enough, Short, Wild}
+use Rattle.trie.specs.Model.{pageByte, spanFrom, levelAt}
+use Rattle.trie_insert.specs.Pages.{Pushed, pushed, pushPage, After, after, putLeafM}
+
+abbrev pub onPut : (List ℕ → List ℕ → ℕ → After) → After → After
+onPut go (after N P (Node c free)) = go N P free
+onPut go (after N P Full) = after N P Full
+onPut go (after N P Bad) = after N P Bad
+
+-- the pages of a chain from link l on, each in turn put into the child leaf of its byte, fewer than f
+unfoldable pub splitFrom : List ℕ → Level → ℕ → ℕ → ℕ → ℕ → List ℕ → List ℕ → ℕ → ℕ → ℕ → After
+splitFrom S v cap pcap base n N P l free zero = after N P Bad
+splitFrom S v cap pcap base n N P l free (suc f) =
+    cond (eqb l 0) (after N P (Node n free))
+    (cond (ltb pcap l) (after N P Bad)
+    (onPut (λ N' P' free'. splitFrom S v cap pcap base n N' P' (getD P (base + (l - 1)) 0) free' f)
+    (putLeafM N P cap base n (pageByte S v (l - 1)) (l - 1) free)))
+
+-- leaf n as an inner node
+abbrev pub openLeaf : List ℕ → ℕ → ℕ → List ℕ
+openLeaf N cap n = set N (stateAt cap n) innerState
+
+-- whether the leaf at level k whose first page is at link l is too long; τ are the thresholds
+unfoldable pub tooLong : List ℕ → Rows → ℕ → ℕ → List ℕ → ℕ → ℕ → Span
+tooLong τ r pcap base P k l = cond (ltb k (r .bytes)) (spanFrom P base pcap l (getD τ k 0 + 1)) Short
+
+-- leaf n at level k as an inner node, its pages, from link l on, in leaves below
+unfoldable pub splitLeaf : List ℕ → Rows → ℕ → ℕ → ℕ → List ℕ → List ℕ → ℕ → ℕ → ℕ → ℕ → After
+splitLeaf S r cap pcap base N P k n l free = splitFrom S (levelAt r k) cap pcap base n (openLeaf N cap n) P l free (pcap + 1)
+
+-- page p put into leaf n at level k, which is split where it is too long then
+module _ (S τ : List ℕ) (r : Rows) (cap pcap base : ℕ) where
+  abbrev pub growSpan : List ℕ → List ℕ → ℕ → ℕ → ℕ → ℕ → Span → After
+  growSpan N P k n p free Enough = splitLeaf S r cap pcap base N P k n (p + 1) free
+  growSpan N P k n p free Short = after N P (Node n free)
+  growSpan N P k n p free Wild = after N P Bad
+
+  abbrev pub growInto : ℕ → ℕ → ℕ → ℕ → Pushed → After
+  growInto k n p free (pushed N P false) = after N P Bad
+  growInto k n p free (pushed N P true) = growSpan N P k n p free (tooLong τ r pcap base P k (p + 1))
+
+  unfoldable pub growLeaf : List ℕ → List ℕ → ℕ → ℕ → ℕ → ℕ → After
+  growLeaf N P k n p free = growInto k n p free (pushPage N P cap base n p)

@@ -1,0 +1,56 @@
+// A page put into a leaf.
+ghost use mathlib.Core.Path.{_≡_};
+ghost use Prim.Native.Nat.{_<_};
+ghost use Rattle.trie.specs.Tables.{NodeTable, PageTable};
+ghost use Rattle.trie_insert.specs.Pages.{pushed, pushPage, after, putLeafM};
+use trie::Block;
+use trie::leaf::Got;
+use trie::leaf::child_leaf;
+
+// A page put first into a leaf; false where the node is none.
+pub fn push_page(nodes: &mut [u32], pages: &mut [u32], block: Block, n: usize, p: usize) -> bool
+    requires { ⌜ NodeTable (block .nodes) (now nodes) ⌝ }
+    requires { ⌜ PageTable (block .pages) (block .base) (now pages) ⌝ }
+    requires { ⌜ n < block .nodes ⌝ }
+    requires { ⌜ p < block .pages ⌝ }
+    ensures { λ r. ⌜ pushed (now (nodes .exit)) (now (pages .exit)) r ≡ pushPage (now (nodes .entry)) (now (pages .entry)) (block .nodes) (block .base) n p ⌝ }
+{
+    let leaf = block.nodes + n;
+    let state = nodes[leaf];
+    if state < 2 {
+        return false;
+    }
+    pages[block.base + p] = state - 2;
+    nodes[leaf] = 2 + (p + 1) as u32;
+    true
+}
+
+// A page put into the child leaf of a byte.
+pub fn put_leaf(
+    nodes: &mut [u32],
+    pages: &mut [u32],
+    block: Block,
+    n: usize,
+    byte: u32,
+    p: usize,
+    free: u32,
+) -> Got
+    requires { ⌜ NodeTable (block .nodes) (now nodes) ⌝ }
+    requires { ⌜ PageTable (block .pages) (block .base) (now pages) ⌝ }
+    requires { ⌜ n < block .nodes ⌝ }
+    requires { ⌜ byte < 256 ⌝ }
+    requires { ⌜ p < block .pages ⌝ }
+    ensures { λ r. ⌜ after (now (nodes .exit)) (now (pages .exit)) r ≡ putLeafM (now (nodes .entry)) (now (pages .entry)) (block .nodes) (block .base) n byte p free ⌝ }
+{
+    let got = child_leaf(nodes, block.nodes, n, byte, free);
+    match got {
+        Got::Node(child, next) => {
+            if push_page(nodes, pages, block, child, p) {
+                return Got::Node(child, next);
+            }
+            Got::Bad
+        }
+        Got::Full => Got::Full,
+        Got::Bad => Got::Bad,
+    }
+}

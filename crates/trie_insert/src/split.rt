@@ -1,0 +1,153 @@
+// A leaf that is too long then is split: its pages go into leaves below.
+ghost use mathlib.Core.Path.{_≡_};
+ghost use Prim.Native.Nat.{_+_, _<_, _≤_};
+ghost use lib.ListN.{length};
+ghost use Rattle.trie.specs.Tables.{NodeTable, PageTable, SketchTable, RowTable};
+ghost use Rattle.trie_insert.specs.Pages.{after};
+ghost use Rattle.trie_insert.specs.Split.{splitFrom, openLeaf, tooLong, splitLeaf, growLeaf};
+use crate::pages::push_page;
+use crate::pages::put_leaf;
+use trie::Block;
+use trie::Level;
+use trie::Rows;
+use trie::leaf::Got;
+use trie::packed::level_at;
+use trie::packed::page_byte;
+use trie::span::Span;
+use trie::span::at_least;
+
+// The pages of a chain, each in turn put into the child leaf of its byte; the answer is node n.
+pub fn split_pages(
+    nodes: &mut [u32],
+    pages: &mut [u32],
+    sketches: &[u8],
+    block: Block,
+    level: Level,
+    n: usize,
+    first: u32,
+    free: u32,
+) -> Got
+    requires { ⌜ NodeTable (block .nodes) (now nodes) ⌝ }
+    requires { ⌜ PageTable (block .pages) (block .base) (now pages) ⌝ }
+    requires { ⌜ SketchTable (block .pages) level (now sketches) ⌝ }
+    requires { ⌜ n < block .nodes ⌝ }
+    ensures { λ r. ⌜ after (now (nodes .exit)) (now (pages .exit)) r ≡ splitFrom (now (sketches .entry)) level (block .nodes) (block .pages) (block .base) n (now (nodes .entry)) (now (pages .entry)) first free (block .pages + 1) ⌝ }
+{
+    let mut link = first as usize;
+    let mut next_free = free;
+    let mut left = block.pages + 1;
+    loop {
+        if left == 0 {
+            return Got::Bad;
+        }
+        if link == 0 {
+            return Got::Node(n, next_free);
+        }
+        let p = link - 1;
+        if p >= block.pages {
+            return Got::Bad;
+        }
+        let next = pages[block.base + p] as usize;
+        let byte = page_byte(sketches, level, block, p);
+        let got = put_leaf(nodes, pages, block, n, byte, p, next_free);
+        match got {
+            Got::Node(_, f) => {
+                next_free = f;
+                link = next;
+                left -= 1;
+            }
+            Got::Full => {
+                return Got::Full;
+            }
+            Got::Bad => {
+                return Got::Bad;
+            }
+        }
+    }
+}
+
+// A leaf as an inner node without children. Its pages are loose then.
+pub fn open_leaf(nodes: &mut [u32], cap: usize, n: usize)
+    requires { ⌜ NodeTable cap (now nodes) ⌝ }
+    requires { ⌜ n < cap ⌝ }
+    ensures { λ r. ⌜ now (nodes .exit) ≡ openLeaf (now (nodes .entry)) cap n ⌝ }
+{
+    nodes[cap + n] = 1;
+}
+
+// Whether the leaf at level k whose first page is at a link is too long.
+fn too_long(
+    pages: &[u32],
+    thresholds: &[u32],
+    block: Block,
+    rows: Rows,
+    k: usize,
+    first: u32,
+) -> Span
+    requires { ⌜ PageTable (block .pages) (block .base) (now pages) ⌝ }
+    requires { ⌜ rows .bytes ≤ length (now thresholds) ⌝ }
+    ensures { λ r. ⌜ r ≡ tooLong (now (thresholds .entry)) rows (block .pages) (block .base) (now (pages .entry)) k first ⌝ }
+{
+    if k >= rows.bytes {
+        return Span::Short;
+    }
+    let most = thresholds[k] as usize;
+    at_least(pages, block.base, block.pages, first, most + 1)
+}
+
+// Leaf n at level k as an inner node, its pages in leaves below.
+fn split_leaf(
+    nodes: &mut [u32],
+    pages: &mut [u32],
+    sketches: &[u8],
+    block: Block,
+    rows: Rows,
+    k: usize,
+    n: usize,
+    first: u32,
+    free: u32,
+) -> Got
+    requires { ⌜ NodeTable (block .nodes) (now nodes) ⌝ }
+    requires { ⌜ PageTable (block .pages) (block .base) (now pages) ⌝ }
+    requires { ⌜ RowTable (block .pages) rows (now sketches) ⌝ }
+    requires { ⌜ k < 64 ⌝ }
+    requires { ⌜ n < block .nodes ⌝ }
+    ensures { λ r. ⌜ after (now (nodes .exit)) (now (pages .exit)) r ≡ splitLeaf (now (sketches .entry)) rows (block .nodes) (block .pages) (block .base) (now (nodes .entry)) (now (pages .entry)) k n first free ⌝ }
+{
+    let level = level_at(rows, k);
+    open_leaf(nodes, block.nodes, n);
+    split_pages(nodes, pages, sketches, block, level, n, first, free)
+}
+
+// A page put into leaf n at level k, which is split where it is too long then.
+pub fn grow_leaf(
+    nodes: &mut [u32],
+    pages: &mut [u32],
+    sketches: &[u8],
+    thresholds: &[u32],
+    block: Block,
+    rows: Rows,
+    k: usize,
+    n: usize,
+    p: usize,
+    free: u32,
+) -> Got
+    requires { ⌜ NodeTable (block .nodes) (now nodes) ⌝ }
+    requires { ⌜ PageTable (block .pages) (block .base) (now pages) ⌝ }
+    requires { ⌜ RowTable (block .pages) rows (now sketches) ⌝ }
+    requires { ⌜ rows .bytes ≤ length (now thresholds) ⌝ }
+    requires { ⌜ n < block .nodes ⌝ }
+    requires { ⌜ p < block .pages ⌝ }
+    ensures { λ r. ⌜ after (now (nodes .exit)) (now (pages .exit)) r ≡ growLeaf (now (sketches .entry)) (now (thresholds .entry)) rows (block .nodes) (block .pages) (block .base) (now (nodes .entry)) (now (pages .entry)) k n p free ⌝ }
+{
+    if !push_page(nodes, pages, block, n, p) {
+        return Got::Bad;
+    }
+    let first = (p + 1) as u32;
+    let span = too_long(pages, thresholds, block, rows, k, first);
+    match span {
+        Span::Enough => split_leaf(nodes, pages, sketches, block, rows, k, n, first, free),
+        Span::Short => Got::Node(n, free),
+        Span::Wild => Got::Bad,
+    }
+}
