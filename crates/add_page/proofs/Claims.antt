@@ -9,16 +9,16 @@ use mathlib.Core.List.{List, [], _∷_, map}
 use borrow.Author.Tests.{eq-eqb, ne-eqb, eqb-true, eqb-false}
 use lib.Dec.{eqb}
 use Rattle.meaning.specs.Lists.{count}
-use Rattle.meaning.specs.Trie.{Children}
+use Rattle.meaning.specs.Trie.{Children, pagesIn, pagesAmong}
 use Rattle.layout.specs.Nodes.{headAt, chainAt}
 use Rattle.layout.specs.Pages.{nextAt}
 use Rattle.layout.proofs.Rows.{rows-apart}
 use Rattle.trie.specs.Heap.{hit, pageClaims}
 use Rattle.trie.specs.Phys.{Phys, Buckets, Chain, leafP, innerP, end, bucket, stop, link, root, tree, kids, kidsC, pageCells, noHeads, cells, cellsB, cellsC, Below, Sound, SoundB, SoundC}
 use Rattle.trie.proofs.Frame.{hit-other}
-use Rattle.trie_laws.specs.Sound.{pagesIn, pagesAmong, Stands}
+use Rattle.trie_laws.specs.Sound.{Stands}
 use Rattle.trie_laws.specs.Block.{EachFrom}
-use Rattle.trie_laws.proofs.Lists.{count-append}
+use Rattle.meaning.proofs.Lists.{count-append}
 use Rattle.store.specs.Sound.{triesCells, Rooted}
 
 -- the same page, or the same link

@@ -11,7 +11,7 @@ use Rattle.meaning.specs.Lists.{count}
 use Rattle.layout.specs.Nodes.{stateAt, freeState}
 use Rattle.trie.specs.Heap.{Holds}
 use Rattle.trie.specs.Phys.{first, freeCells, Below}
-use Rattle.trie_laws.proofs.Lists.{and-first, and-second}
+use Rattle.meaning.proofs.Lists.{and-first, and-second}
 use Rattle.trie_check.specs.declared.leaf.Left.the-variants.{Some, Failed}
 use Rattle.trie_check.specs.Leaf.{bare}
 use Rattle.trie_check_laws.proofs.RightTests.{refused, passed}

@@ -19,7 +19,7 @@ use Rattle.trie.specs.Heap.{Holds}
 use Rattle.trie.specs.Phys.{Phys, tree}
 use Rattle.trie_laws.specs.Sound.{Stands}
 use Rattle.trie_laws.specs.Block.{SoundBlock, EachFrom}
-use Rattle.trie_laws.proofs.Lists.{and-first, and-second}
+use Rattle.meaning.proofs.Lists.{and-first, and-second}
 use Rattle.trie_laws.proofs.Pages.{stands-any}
 use Rattle.trie_laws.proofs.Walk.{walk-sound}
 use Rattle.trie_laws.proofs.Agree.{sound-agree}

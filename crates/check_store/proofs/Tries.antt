@@ -17,7 +17,7 @@ use Rattle.layout.specs.Pages.{nextAt, isLive}
 use Rattle.trie.specs.Heap.{Holds}
 use Rattle.trie.specs.Phys.{Phys, root, tree, cells}
 use Rattle.trie.specs.Phys.{Sound as SoundNodes}
-use Rattle.trie_laws.specs.Sound.{pagesIn}
+use Rattle.meaning.specs.Trie.{pagesIn}
 use Rattle.trie_laws.specs.Walk.{soundWalk}
 use Rattle.trie_room.specs.RowBytes.{rowBytes, rowsOf}
 use Rattle.trie_room.proofs.RowBytes.{level-byte}

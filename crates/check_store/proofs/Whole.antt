@@ -22,7 +22,7 @@ use Rattle.sketch_laws.proofs.Lists.{count-same}
 use Rattle.trie.specs.Heap.{Holds}
 use Rattle.trie.specs.Phys.{Phys, tree}
 use Rattle.trie_laws.specs.Block.{SoundBlock, EachFrom}
-use Rattle.trie_laws.proofs.Lists.{and-intro, and-first, and-second}
+use Rattle.meaning.proofs.Lists.{and-intro, and-first, and-second}
 use Rattle.trie_laws.proofs.Pages.{stands-any, stands-all, stands-length}
 use Rattle.trie_laws.proofs.Walk.{walk-sound}
 use Rattle.trie_laws.proofs.Agree.{sound-agree}

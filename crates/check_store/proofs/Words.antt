@@ -14,7 +14,7 @@ use Rattle.layout.specs.Pages.{nextAt}
 use Rattle.trie.specs.Heap.{Holds, nodeClaims, pageClaims, _⊕_}
 use Rattle.trie.specs.Phys.{Phys, tree, cells, freeCells, Below}
 use Rattle.trie.specs.Phys.{Sound as SoundNodes}
-use Rattle.trie_laws.specs.Sound.{pagesIn}
+use Rattle.meaning.specs.Trie.{pagesIn}
 use Rattle.trie_check_laws.specs.Uses.{uses}
 use Rattle.trie_check_laws.proofs.Claims.{owner, trie-words, state-claims, free-words, uses-beyond, used-state, free-zero}
 use Rattle.add_page.proofs.Claims.{no-heads, trie-claims, trie-none}

@@ -12,7 +12,7 @@ use Rattle.meaning.specs.Lists.{all, any, count, sum}
 use Rattle.meaning.specs.Refusal.{firstNo}
 use Rattle.meaning.specs.Sketch.{inRange, pack, packBytes, perByte, packByte, packedLength, symbolsAt, packable, block, blockLength, blockStart}
 use Rattle.meaning.specs.SketchCalls.{sketchLimits}
-use Rattle.meaning.specs.Trie.{Tree, leaf, inner, none, child, byteAt, nodes}
+use Rattle.meaning.specs.Trie.{Tree, leaf, inner, none, child, byteAt, nodes, pagesIn}
 use Rattle.meaning.specs.Ledger.{Settings, drop}
 use Rattle.meaning.specs.Forest.{blockBytes, bytesOfSketch, totalNodes, forestAfter}
 use Rattle.meaning.specs.Questions.{inLimits, asked}
@@ -22,7 +22,7 @@ use Rattle.layout.specs.Pages.{isLive, classOf, rowOf}
 use Rattle.trie.specs.Heap.{Cells, nil, _⊕_}
 use Rattle.trie.specs.Model.{placeFrom, findPlace}
 use Rattle.trie.specs.Phys.{Phys, Buckets, noHeads, leafP, innerP, end, bucket, stop, link}
-use Rattle.trie_laws.specs.Sound.{pagesIn, filled, soundTrie, Stands}
+use Rattle.trie_laws.specs.Sound.{filled, soundTrie, Stands}
 use Rattle.trie_path.specs.Descend.{descend, descendTo}
 use Rattle.trie_room.specs.RowBytes.{reduced, rowBytes}
 use Rattle.trie_remove.specs.declared.Removed.the-variants.{Done}

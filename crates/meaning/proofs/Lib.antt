@@ -1,3 +1,4 @@
+pub mod Lists
 pub mod Sums
 pub mod Stacks
 pub mod Journal

@@ -90,6 +90,16 @@ module _ (bytesOf : ℕ → List ℕ) (len : ℕ) (thresholds : List ℕ) where
         (cond (eqb (byteAt bytesOf k p) c) (child c (insert (suc k) p t) cs) (child c t (insertIn k p cs)))
 
 unfoldable mutual
+  -- the pages of a trie, leaf by leaf
+  pub pagesIn : Tree → List ℕ
+  pagesIn (leaf ps) = ps
+  pagesIn (inner cs) = pagesAmong cs
+
+  pub pagesAmong : Children → List ℕ
+  pagesAmong none = []
+  pagesAmong (child c t cs) = pagesIn t ++ pagesAmong cs
+
+unfoldable mutual
   -- how many nodes a trie has
   pub nodes : Tree → ℕ
   nodes (leaf ps) = 1

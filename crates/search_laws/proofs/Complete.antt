@@ -20,7 +20,7 @@ use Rattle.layout.proofs.Rows.{row-inside, length-row}
 use Rattle.layout.proofs.Tests.{and-left, and-right, and-both}
 use Rattle.rights.specs.Register.{opens}
 use Rattle.sketch_laws.proofs.Walk.{met-somewhere}
-use Rattle.sketch_laws.specs.Paths.{pagesIn as pagesUpon}
+use Rattle.meaning.specs.Trie.{pagesIn as pagesUpon}
 use Rattle.trie.specs.Phys.{tree}
 use Rattle.trie_laws.specs.Block.{SoundBlock}
 use Rattle.trie_laws.proofs.Block.{each-get}
@@ -28,7 +28,7 @@ use Rattle.trie_laws.proofs.Pages.{stands-any}
 use Rattle.promises.specs.Tables.{Tables, given, pageClass, pageRow, isShown}
 use Rattle.hits.proofs.Listed.{wanted}
 use Rattle.store.specs.Sound.{Sound, livePage, pageBytes}
-use Rattle.search_laws.proofs.Paths.{same-pages, sound-path, sound-shallow}
+use Rattle.search_laws.proofs.Paths.{sound-path, sound-shallow}
 use Rattle.search_laws.proofs.Meets.{met-from}
 
 module _ (T : Tables) (F : List Tree) (sound : Sound T F) (limits : HeaderLimits (headerOf (given T)))
@@ -63,7 +63,7 @@ module _ (T : Tables) (F : List Tree) (sound : Sound T F) (limits : HeaderLimits
         length-row (given T .symbols) (T .sketches) p (row-inside (given T .symbols) (given T .pages) (length (T .sketches)) page long)
 
     in-trie : (j : ℕ) → j < given T .blocks → any (eqb p) (pagesUpon (trie j)) ≡ true
-    in-trie j l = rw (same-pages (trie j)) (stands-any (livePage T) (trie j) (block-sound j l .stands) p ∙ live)
+    in-trie j l = stands-any (livePage T) (trie j) (block-sound j l .stands) p ∙ live
 
     pub met-wanted : any (eqb p) (metFrom (given T) radius x 0 F) ≡ true
     unfolding pageBytes bytesOfSketch blockBytes trie

@@ -20,7 +20,7 @@ use Rattle.layout.specs.Working.{mapWords}
 use Rattle.layout.specs.Pages.{isLive}
 use Rattle.layout.proofs.Sizes.{pages-mapped}
 use Rattle.layout.proofs.Tests.{and-left}
-use Rattle.trie_laws.proofs.Lists.{or-second}
+use Rattle.meaning.proofs.Lists.{or-second}
 use Rattle.promises.specs.Tables.{Tables, given, scan}
 use Rattle.hits.specs.Hit.{isHit}
 use Rattle.hits.specs.Marks.{summaryOf, Room, listOf, keptMap}

@@ -16,7 +16,8 @@ use Rattle.layout.specs.declared.Header.{Header}
 use Rattle.layout.specs.Header.{bare}
 use Rattle.layout.specs.Working.{mapWords}
 use Rattle.hits.specs.Marks.{summaryOf, Room, Summarised}
-use Rattle.trie_laws.proofs.Lists.{and-first, and-second, all-more}
+use Rattle.meaning.proofs.Lists.{and-first, and-second}
+use Rattle.trie_laws.proofs.Lists.{all-more}
 use Rattle.walk.specs.Mark.{marked, markAll}
 use Rattle.walk.specs.Walk.{Walked, walked}
 use Rattle.walk_laws.proofs.Marks.{mark-length, summarised-marks}

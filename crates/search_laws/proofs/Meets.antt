@@ -10,11 +10,10 @@ use lib.Dec.{leb, eqb}
 use lib.ListN.{length, getD, length-append}
 use Rattle.meaning.specs.Lists.{any}
 use Rattle.meaning.specs.Sketch.{byteDistance}
-use Rattle.meaning.specs.Trie.{Tree, leaf, inner, Children, none, child, met, metIn}
+use Rattle.meaning.specs.Trie.{Tree, leaf, inner, Children, none, child, met, metIn, pagesIn, pagesAmong}
 use Rattle.meaning.specs.Ledger.{Settings}
 use Rattle.meaning.specs.Forest.{bytesOfSketch, metFrom}
 use Rattle.sketch_laws.proofs.Lists.{in-first, in-second}
-use Rattle.trie_laws.specs.Sound.{pagesIn, pagesAmong}
 use Rattle.trie_laws.proofs.Path.{shift}
 
 cond-most : (t : Bool) (ps : List ℕ) (n : ℕ) → length ps ≤ n → length (cond t ps []) ≤ n

@@ -1,25 +1,12 @@
 -- In a sound trie each page stands on its bytes' path, and inner nodes are above the packed length.
 use Prim.Native.Nat.{ℕ, suc}
-use mathlib.Core.Path.{_≡_, refl, ap₂}
+use mathlib.Core.Path.{_≡_}
 use mathlib.Core.Bool.{true}
-use mathlib.Core.List.{List, _++_}
+use mathlib.Core.List.{List}
 use Rattle.meaning.specs.Trie.{Tree, leaf, inner, Children, none, child}
-use Rattle.sketch_laws.specs.Paths.{pagesIn, pagesUnder, OnPath, OnPathUnder, Shallow, ShallowUnder}
-use Rattle.trie_laws.specs.Sound.{pagesAmong, soundTrie, soundFrom}
-use Rattle.trie_laws.specs.Sound.{pagesIn as pagesOf}
+use Rattle.sketch_laws.specs.Paths.{OnPath, OnPathUnder, Shallow, ShallowUnder}
+use Rattle.trie_laws.specs.Sound.{soundTrie, soundFrom}
 use Rattle.trie_laws.proofs.Sound.{inner-parts, child-parts}
-
--- the pages of a trie, by either definition
-mutual
-  unfolding pagesIn pagesUnder pagesOf pagesAmong
-
-  pub same-pages : (t : Tree) → pagesIn t ≡ pagesOf t
-  same-pages (leaf ps) = refl
-  same-pages (inner cs) = same-under cs
-
-  same-under : (cs : Children) → pagesUnder cs ≡ pagesAmong cs
-  same-under none = refl
-  same-under (child c t cs) = ap₂ _++_ (same-pages t) (same-under cs)
 
 module _ (bytesOf : ℕ → List ℕ) (b n len : ℕ) where
   mutual
@@ -31,7 +18,7 @@ module _ (bytesOf : ℕ → List ℕ) (b n len : ℕ) where
     path-under none k lo h = tt
     path-under (child c t cs) k lo h =
         let parts = child-parts bytesOf b n len k lo c t cs h in
-        (rw (same-pages t) (parts .here .path), sound-path t (suc k) (parts .here .sub), path-under cs k (suc c) (parts .rest))
+        (parts .here .path, sound-path t (suc k) (parts .here .sub), path-under cs k (suc c) (parts .rest))
 
   mutual
     pub sound-shallow : (t : Tree) (k : ℕ) → soundTrie bytesOf b n len k t ≡ true → Shallow len k t

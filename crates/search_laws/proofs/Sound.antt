@@ -23,7 +23,8 @@ use Rattle.trie.specs.Heap.{Holds}
 use Rattle.trie.specs.Phys.{Phys, root, tree, cells}
 use Rattle.trie.specs.Phys.{Sound as SoundNodes}
 use Rattle.trie_laws.specs.Block.{SoundBlock, EachFrom}
-use Rattle.trie_laws.proofs.Lists.{and-intro, all-append, count-upto}
+use Rattle.meaning.proofs.Lists.{and-intro, all-append}
+use Rattle.trie_laws.proofs.Lists.{count-upto}
 use Rattle.trie_laws.proofs.Pages.{stands-length}
 use Rattle.store.specs.Sound.{triesCells, Rooted}
 use Rattle.walk.specs.Mark.{markAll}

@@ -8,9 +8,9 @@ use mathlib.Core.List.{List, [], _∷_}
 use lib.Dec.{eqb}
 use Rattle.meaning.specs.Lists.{all, any, count, from, upto}
 use Rattle.meaning.specs.Sketch.{perByte, packedLength, packByte, packBytes, pack, group, byteDistance}
-use Rattle.meaning.specs.Trie.{Tree, leaf, inner, none, child, fresh, insert, addLeaf, split, putLeaf, byteAt, met, metIn}
+use Rattle.meaning.specs.Trie.{Tree, leaf, inner, none, child, fresh, insert, addLeaf, split, putLeaf, byteAt, met, metIn, pagesIn, pagesAmong}
 use Rattle.sketch_laws.specs.Packed.{sumPairs, packedDistance}
-use Rattle.sketch_laws.specs.Paths.{pagesIn, pagesUnder, OnPath, Shallow}
+use Rattle.sketch_laws.specs.Paths.{OnPath, Shallow}
 use Rattle.sketch_laws.proofs.Walk.{met-near}
 
 abbrev bytes : ℕ → List ℕ
@@ -42,5 +42,5 @@ unfolding met metIn byteDistance count upto from group perByte
 apart = refl
 
 near : any (eqb 0) (met 2 2 grown (bytes 1)) ≡ true
-unfolding any pagesIn pagesUnder packedDistance sumPairs byteDistance count upto from group perByte
+unfolding any pagesIn pagesAmong packedDistance sumPairs byteDistance count upto from group perByte
 near = met-near bytes 2 2 0 0 grown (bytes 1) on-path shallow refl refl (omega arith)

@@ -11,31 +11,7 @@ use lib.Dec.{eqb}
 use lib.ListN.{length, getD}
 use borrow.Author.Tests.{eqb-true, eq-eqb}
 use Rattle.meaning.specs.Lists.{all, any, count, from, upto, sum}
-
-pub not-so : (t : Bool) → (t ≡ true → ⊥) → t ≡ false
-not-so true h = absurd (h refl)
-not-so false h = refl
-
--- ---- a test of two parts
-pub and-intro : (s t : Bool) → s ≡ true → t ≡ true → s && t ≡ true
-and-intro true t h k = k
-and-intro false t h k = absurd (false≢true h)
-
-pub and-first : (s t : Bool) → s && t ≡ true → s ≡ true
-and-first true t h = refl
-and-first false t h = absurd (false≢true h)
-
-pub and-second : (s t : Bool) → s && t ≡ true → t ≡ true
-and-second true t h = h
-and-second false t h = absurd (false≢true h)
-
-pub or-first : (s t : Bool) → s ≡ true → s || t ≡ true
-or-first true t h = refl
-or-first false t h = absurd (false≢true h)
-
-pub or-second : (s t : Bool) → t ≡ true → s || t ≡ true
-or-second true t h = refl
-or-second false t h = h
+use Rattle.meaning.proofs.Lists.{and-intro, and-first, and-second, or-first, or-second, not-so, all-append, any-append, count-append}
 
 pub or-cases : (s t : Bool) → s || t ≡ true → (s ≡ true) ⊎ (t ≡ true)
 or-cases true t h = inl refl
@@ -43,21 +19,6 @@ or-cases false t h = inr h
 
 -- ---- appended lists
 module _ {A : Type 0} (p : A → Bool) where
-  pub all-append : (xs ys : List A) → all p (xs ++ ys) ≡ all p xs && all p ys
-  unfolding all
-  all-append [] ys = refl
-  all-append (x ∷ xs) ys = ap (λ (t : Bool). p x && t) (all-append xs ys) ∙ sym (and-assoc (p x) (all p xs) (all p ys))
-
-  pub any-append : (xs ys : List A) → any p (xs ++ ys) ≡ any p xs || any p ys
-  unfolding any
-  any-append [] ys = refl
-  any-append (x ∷ xs) ys = ap (λ (t : Bool). p x || t) (any-append xs ys) ∙ sym (or-assoc (p x) (any p xs) (any p ys))
-
-  pub count-append : (xs ys : List A) → count p (xs ++ ys) ≡ count p xs + count p ys
-  unfolding count
-  count-append [] ys = omega arith
-  count-append (x ∷ xs) ys = omega (arith, count-append xs ys)
-
   pub count-le : (xs : List A) → count p xs ≤ length xs
   unfolding count
   count-le [] = omega arith

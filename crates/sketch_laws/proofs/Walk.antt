@@ -11,27 +11,27 @@ use lib.Seq.{drop-cons}
 use borrow.Author.Tests.{le-leb, eqb-true}
 use Rattle.meaning.specs.Lists.{all, any}
 use Rattle.meaning.specs.Sketch.{distance, inRange, packedLength, pack, byteDistance, blockLength, block}
-use Rattle.meaning.specs.Trie.{Tree, leaf, inner, Children, none, child, byteAt, met, metIn}
+use Rattle.meaning.specs.Trie.{Tree, leaf, inner, Children, none, child, byteAt, met, metIn, pagesIn, pagesAmong}
 use Rattle.sketch_laws.specs.Packed.{packedDistance}
-use Rattle.sketch_laws.specs.Paths.{pagesIn, pagesUnder, OnPath, OnPathUnder, Shallow, ShallowUnder}
+use Rattle.sketch_laws.specs.Paths.{OnPath, OnPathUnder, Shallow, ShallowUnder}
 use Rattle.sketch_laws.proofs.Prefix.{packed-drop}
 use Rattle.sketch_laws.proofs.Blocks.{block-packed, near-packed}
 use Rattle.sketch_laws.proofs.Lists.{in-both, in-cond, all-in}
 
 -- ---- what is met is in the trie
 mutual
-  unfolding met metIn pagesIn pagesUnder any
+  unfolding met metIn pagesIn pagesAmong any
 
   pub met-in : (b r p : ℕ) (t : Tree) (ys : List ℕ) → any (eqb p) (met b r t ys) ≡ true → any (eqb p) (pagesIn t) ≡ true
   met-in b r p (leaf ps) ys h = h
   met-in b r p (inner cs) ys h = met-under b r p cs ys h
 
-  pub met-under : (b r p : ℕ) (cs : Children) (ys : List ℕ) → any (eqb p) (metIn b r cs ys) ≡ true → any (eqb p) (pagesUnder cs) ≡ true
+  pub met-under : (b r p : ℕ) (cs : Children) (ys : List ℕ) → any (eqb p) (metIn b r cs ys) ≡ true → any (eqb p) (pagesAmong cs) ≡ true
   met-under b r p none ys h = h
   met-under b r p (child c t cs) [] h = absurd (false≢true h)
   met-under b r p (child c t cs) (y ∷ ys) h =
       let d : ℕ = byteDistance b (bitXor c y) in
-      in-both p (cond (leb d r) (met b (r - d) t ys) []) (metIn b r cs (y ∷ ys)) (pagesIn t) (pagesUnder cs)
+      in-both p (cond (leb d r) (met b (r - d) t ys) []) (metIn b r cs (y ∷ ys)) (pagesIn t) (pagesAmong cs)
       (λ g. met-in b (r - d) p t ys (in-cond p (leb d r) (met b (r - d) t ys) g))
       (met-under b r p cs (y ∷ ys))
       h
@@ -48,7 +48,7 @@ module _ (bytesOf : ℕ → List ℕ) where
       rw path at (rw (packed-drop b k (bytesOf p) ys (omega arith) l) at n)
 
   mutual
-    unfolding met metIn pagesIn pagesUnder any
+    unfolding met metIn pagesIn pagesAmong any
 
     pub met-near : (b r k p : ℕ) (t : Tree) (ys : List ℕ) → OnPath bytesOf k t → Shallow (length ys) k t → length (bytesOf p) ≡ length ys
         → any (eqb p) (pagesIn t) ≡ true → packedDistance b (drop k (bytesOf p)) (drop k ys) ≤ r → any (eqb p) (met b r t (drop k ys)) ≡ true
@@ -56,7 +56,7 @@ module _ (bytesOf : ℕ → List ℕ) where
     met-near b r k p (inner cs) ys o w e i n = met-near-under b r k p cs ys o (w .0) (w .1) e i n
 
     pub met-near-under : (b r k p : ℕ) (cs : Children) (ys : List ℕ) → OnPathUnder bytesOf k cs → k < length ys → ShallowUnder (length ys) k cs
-        → length (bytesOf p) ≡ length ys → any (eqb p) (pagesUnder cs) ≡ true → packedDistance b (drop k (bytesOf p)) (drop k ys) ≤ r
+        → length (bytesOf p) ≡ length ys → any (eqb p) (pagesAmong cs) ≡ true → packedDistance b (drop k (bytesOf p)) (drop k ys) ≤ r
         → any (eqb p) (metIn b r cs (drop k ys)) ≡ true
     met-near-under b r k p none ys o l w e i n = absurd (false≢true i)
     met-near-under b r k p (child c t cs) ys o l w e i n =
@@ -64,7 +64,7 @@ module _ (bytesOf : ℕ → List ℕ) where
         let rest : List ℕ = drop (suc k) ys in
         let d : ℕ = byteDistance b (bitXor c y) in
         rw (drop-cons ys k 0 l)
-        (in-both p (pagesIn t) (pagesUnder cs) (cond (leb d r) (met b (r - d) t rest) []) (metIn b r cs (y ∷ rest))
+        (in-both p (pagesIn t) (pagesAmong cs) (cond (leb d r) (met b (r - d) t rest) []) (metIn b r cs (y ∷ rest))
         (λ g.
         let near : d + packedDistance b (drop (suc k) (bytesOf p)) rest ≤ r = near-below b r k c p (pagesIn t) ys l e (o .0) g n in
         rw (le-leb d r (omega arith)) (met-near b (r - d) (suc k) p t ys (o .1) (w .0) e g (omega arith)))

@@ -2,20 +2,10 @@
 use Prim.Native.Nat.{ℕ, suc, _<_}
 use mathlib.Core.Path.{_≡_}
 use mathlib.Core.Bool.{true}
-use mathlib.Core.List.{List, [], _++_}
+use mathlib.Core.List.{List}
 use lib.Dec.{eqb}
 use Rattle.meaning.specs.Lists.{all}
-use Rattle.meaning.specs.Trie.{Tree, leaf, inner, Children, none, child, byteAt}
-
-unfoldable mutual
-  -- all pages of a trie
-  pub pagesIn : Tree → List ℕ
-  pagesIn (leaf ps) = ps
-  pagesIn (inner cs) = pagesUnder cs
-
-  pub pagesUnder : Children → List ℕ
-  pagesUnder none = []
-  pagesUnder (child c t cs) = pagesIn t ++ pagesUnder cs
+use Rattle.meaning.specs.Trie.{Tree, leaf, inner, Children, none, child, byteAt, pagesIn}
 
 -- Over the packed bytes of each page; the root of the trie is at level k.
 module _ (bytesOf : ℕ → List ℕ) where

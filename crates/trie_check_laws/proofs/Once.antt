@@ -8,13 +8,14 @@ use lib.Dec.{ltb, eqb}
 use lib.ListN.{length}
 use borrow.Author.Tests.{eqb-true, ltb-true, lt-ltb}
 use Rattle.meaning.specs.Lists.{all, any, count, from, upto}
-use Rattle.meaning.specs.Trie.{Children, child, byteAt}
+use Rattle.meaning.specs.Trie.{Children, child, byteAt, pagesIn, pagesAmong}
 use Rattle.layout.specs.Nodes.{headAt}
 use Rattle.layout.specs.Pages.{isLive}
 use Rattle.trie.specs.Heap.{Holds}
 use Rattle.trie.specs.Phys.{Phys, leafP, innerP, Buckets, end, bucket, Chain, stop, link, root, tree, kids, kidsC, pageCells, cells, cellsB, cellsC, Below, Sound, SoundB, SoundC}
-use Rattle.trie_laws.specs.Sound.{pagesIn, pagesAmong, soundTrie, soundFrom, Stands}
-use Rattle.trie_laws.proofs.Lists.{Truth, holds, fails, truth, less, same, more, compared, and-intro, not-so, count-append, any-count, any-none, all-append, all-each}
+use Rattle.trie_laws.specs.Sound.{soundTrie, soundFrom, Stands}
+use Rattle.meaning.proofs.Lists.{and-intro, not-so, count-append, all-append}
+use Rattle.trie_laws.proofs.Lists.{Truth, holds, fails, truth, less, same, more, compared, any-count, any-none, all-each}
 use Rattle.trie_laws.proofs.Sound.{inner-parts, child-parts}
 use Rattle.trie_laws.proofs.Walk.{walk-sound}
 use Rattle.trie_laws.proofs.Distinct.{distinct-once, distinct-count}

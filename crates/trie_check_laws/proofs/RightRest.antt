@@ -10,15 +10,15 @@ use lib.ListN.{length, getD}
 use borrow.Author.Tests.{leb-true, le-leb, lt-ltb}
 use Rattle.meaning.specs.Lists.{all}
 use Rattle.meaning.specs.Sketch.{packable}
-use Rattle.meaning.specs.Trie.{Tree, inner, Children, none, child, nodes, nodesIn}
+use Rattle.meaning.specs.Trie.{Tree, inner, Children, none, child, nodes, nodesIn, pagesIn, pagesAmong}
 use Rattle.layout.specs.Nodes.{chainWord, stateAt, headAt, innerState}
 use Rattle.layout.specs.Pages.{isLive}
 use Rattle.trie.specs.Heap.{Holds}
 use Rattle.trie.specs.Phys.{Phys, innerP, Buckets, end, bucket, Chain, stop, link, root, tree, kids, kidsC, cells, cellsB, Sound, SoundB, SoundC}
 use Rattle.trie.proofs.Fresh.{linkC, afterC, chain-head}
-use Rattle.trie_laws.specs.Sound.{pagesIn, pagesAmong, filled}
+use Rattle.trie_laws.specs.Sound.{filled}
 use Rattle.trie_laws.specs.Walk.{soundWalk, walkFrom}
-use Rattle.trie_laws.proofs.Lists.{and-intro, and-first, and-second, all-append}
+use Rattle.meaning.proofs.Lists.{and-intro, and-first, and-second, all-append}
 use Rattle.trie_check.specs.declared.frame.Frame.{Frame}
 use Rattle.trie_check.specs.Frame.{entered, pastChild, nextChain}
 use Rattle.trie_check.specs.Trie.{Given}

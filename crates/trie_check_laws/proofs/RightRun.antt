@@ -5,10 +5,9 @@ use mathlib.Core.Path.{_≡_, refl, subst}
 use mathlib.Core.List.{List, [], _∷_}
 use lib.ListN.{length, set, take, length-append}
 use lib.Seq.{take-set-le}
-use Rattle.meaning.specs.Trie.{nodes, nodesIn}
+use Rattle.meaning.specs.Trie.{nodes, nodesIn, pagesIn, pagesAmong}
 use Rattle.words.specs.Bits.{flag}
 use Rattle.trie.specs.Phys.{Phys, end, bucket, stop, link, tree}
-use Rattle.trie_laws.specs.Sound.{pagesIn, pagesAmong}
 use Rattle.trie_check.specs.declared.frame.Frame.{Frame}
 use Rattle.trie_check.specs.Frame.{pastChild, nextChain}
 use Rattle.trie_check.specs.Trie.{Given}

@@ -10,11 +10,11 @@ use lib.ListN.{length, getD, set, take, replicate, length-set, length-replicate}
 use lib.Seq.{take-suc-set}
 use borrow.Author.Tests.{eqb-true, eqb-false, ltb-true}
 use Rattle.meaning.specs.Lists.{all}
-use Rattle.meaning.specs.Trie.{leaf, inner, nodes, nodesIn}
+use Rattle.meaning.specs.Trie.{leaf, inner, nodes, nodesIn, pagesIn, pagesAmong}
 use Rattle.words.specs.Bits.{flag}
 use Rattle.layout.specs.Nodes.{leafState, innerState, stateAt}
 use Rattle.trie.specs.Phys.{Phys, leafP, innerP, bucket, tree, first}
-use Rattle.trie_laws.specs.Sound.{pagesIn, pagesAmong, filled}
+use Rattle.trie_laws.specs.Sound.{filled}
 use Rattle.trie_laws.specs.Path.{follows}
 use Rattle.trie_laws.specs.Walk.{soundWalk}
 use Rattle.trie_check.specs.declared.frame.Frame.{Frame}

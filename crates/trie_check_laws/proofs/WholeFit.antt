@@ -9,12 +9,12 @@ use lib.ListN.{length, length-append}
 use borrow.Author.Tests.{ltb-true}
 use Rattle.meaning.specs.Lists.{all}
 use Rattle.meaning.specs.Sketch.{packable}
-use Rattle.meaning.specs.Trie.{Children, child, nodes, nodesIn}
+use Rattle.meaning.specs.Trie.{Children, child, nodes, nodesIn, pagesIn, pagesAmong}
 use Rattle.trie.specs.Phys.{Phys, leafP, innerP, Buckets, end, bucket, Chain, stop, link, tree, kids, kidsC, SoundB}
-use Rattle.trie_laws.specs.Sound.{pagesIn, pagesAmong, filled}
+use Rattle.trie_laws.specs.Sound.{filled}
 use Rattle.trie_laws.specs.Path.{follows}
 use Rattle.trie_laws.specs.Walk.{soundWalk, walkFrom}
-use Rattle.trie_laws.proofs.Lists.{all-append, and-first, and-second}
+use Rattle.meaning.proofs.Lists.{all-append, and-first, and-second}
 
 -- ---- counts
 abbrev mutual

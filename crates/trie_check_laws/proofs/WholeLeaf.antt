@@ -19,7 +19,7 @@ use Rattle.trie.specs.Heap.{Holds}
 use Rattle.trie.specs.Phys.{leafP, innerP, Buckets, first, noHeads, pageCells, cells, Below}
 use Rattle.trie.specs.Model.{pageByte, levelAt}
 use Rattle.trie_laws.specs.Path.{follows}
-use Rattle.trie_laws.proofs.Lists.{and-intro, and-first, and-second}
+use Rattle.meaning.proofs.Lists.{and-intro, and-first, and-second}
 use Rattle.trie_check.specs.declared.leaf.Kind.the-variants.{Inner, Leaf}
 use Rattle.trie_check.specs.declared.leaf.Left.the-variants.{Some}
 use Rattle.trie_check.specs.Leaf.{bare, kindOf, onPath, testLeaf}

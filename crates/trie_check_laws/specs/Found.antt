@@ -5,14 +5,13 @@ use mathlib.Core.Bool.{Bool, true, cond}
 use mathlib.Core.List.{List, []}
 use lib.ListN.{length}
 use Rattle.meaning.specs.Lists.{all}
-use Rattle.meaning.specs.Trie.{nodes, byteAt}
+use Rattle.meaning.specs.Trie.{nodes, byteAt, pagesIn}
 use Rattle.words.specs.Bits.{flag}
 use Rattle.layout.specs.Pages.{isLive}
 use Rattle.trie.specs.Heap.{Holds}
 use Rattle.trie.specs.Phys.{Phys, root, tree, cells}
 use Rattle.trie.specs.Phys.{Sound as SoundNodes}
 use Rattle.trie.specs.Model.{pageByte, levelAt}
-use Rattle.trie_laws.specs.Sound.{pagesIn}
 use Rattle.trie_laws.specs.Walk.{soundWalk}
 use Rattle.trie_check.specs.Trie.{Given}
 use Rattle.trie_check_laws.specs.Uses.{uses}

@@ -7,10 +7,11 @@ use lib.Dec.{eqb}
 use lib.ListN.{getD}
 use borrow.Author.Tests.{eqb-true, eq-eqb}
 use Rattle.meaning.specs.Lists.{all, any}
-use Rattle.meaning.specs.Trie.{Tree, leaf, inner, Children, none, child, putLeaf, byteAt, split, remove, removeIn, addLeaf, insert, insertIn}
-use Rattle.trie_laws.specs.Sound.{pagesIn, pagesAmong, Agree, packs, soundTrie, soundFrom}
+use Rattle.meaning.specs.Trie.{Tree, leaf, inner, Children, none, child, putLeaf, byteAt, split, remove, removeIn, addLeaf, insert, insertIn, pagesIn, pagesAmong}
+use Rattle.trie_laws.specs.Sound.{Agree, packs, soundTrie, soundFrom}
 use Rattle.trie_laws.specs.Needed.{distinct, splitNodes, needed, neededIn, frees, freesIn}
-use Rattle.trie_laws.proofs.Lists.{holds, fails, truth, or-first, or-second, any-append, all-agree}
+use Rattle.meaning.proofs.Lists.{or-first, or-second, any-append}
+use Rattle.trie_laws.proofs.Lists.{holds, fails, truth, all-agree}
 
 module _ (f g : ℕ → List ℕ) where
   byte-agree : (k p : ℕ) → f p ≡ g p → byteAt f k p ≡ byteAt g k p

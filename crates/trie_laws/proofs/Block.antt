@@ -10,10 +10,10 @@ use lib.ListN.{length, getD, replicate}
 use borrow.Author.Tests.{eq-eqb}
 use Rattle.meaning.specs.Lists.{count}
 use Rattle.meaning.specs.Sketch.{blockLength}
-use Rattle.meaning.specs.Trie.{Tree, fresh, insert, remove}
+use Rattle.meaning.specs.Trie.{Tree, fresh, insert, remove, pagesIn}
 use Rattle.meaning.specs.Ledger.{Settings}
 use Rattle.meaning.specs.Forest.{blockBytes, eachFrom}
-use Rattle.trie_laws.specs.Sound.{pagesIn, Stands, withPage, withoutPage}
+use Rattle.trie_laws.specs.Sound.{Stands, withPage, withoutPage}
 use Rattle.trie_laws.specs.Block.{packsIn, SoundBlock, EachFrom}
 use Rattle.trie_laws.proofs.Path.{shift}
 use Rattle.trie_laws.proofs.Pages.{stands-any, stands-all, insert-stands, remove-stands}

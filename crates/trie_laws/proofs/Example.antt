@@ -5,8 +5,8 @@ use mathlib.Core.Bool.{true}
 use mathlib.Core.List.{List, [], _∷_}
 use Rattle.meaning.specs.Lists.{all, from, upto}
 use Rattle.meaning.specs.Sketch.{perByte, symbolsAt, packable}
-use Rattle.meaning.specs.Trie.{Tree, leaf, inner, none, child, fresh, without, push, putLeaf, prune, byteAt, split, remove, addLeaf, insert}
-use Rattle.trie_laws.specs.Sound.{pagesIn, filled, packs, soundTrie}
+use Rattle.meaning.specs.Trie.{Tree, leaf, inner, none, child, fresh, without, push, putLeaf, prune, byteAt, split, remove, addLeaf, insert, pagesIn}
+use Rattle.trie_laws.specs.Sound.{filled, packs, soundTrie}
 use Rattle.trie_laws.specs.Needed.{distinctFrom, distinct, splits, splitNodes, needed, frees}
 use Rattle.trie_laws.specs.Path.{kid, below, subtree, pathOf, depth}
 

@@ -9,10 +9,11 @@ use lib.ListN.{length}
 use borrow.Author.Tests.{eq-eqb}
 use Rattle.meaning.specs.Lists.{all}
 use Rattle.meaning.specs.Sketch.{packedLength, packable, allPackable}
-use Rattle.meaning.specs.Trie.{Tree, leaf, inner, Children, none, child, fresh, push, putLeaf, prune, byteAt, split, remove, removeIn, addLeaf, insert, insertIn}
-use Rattle.trie_laws.specs.Sound.{pagesIn, pagesAmong, filled, packs, soundTrie, soundFrom}
+use Rattle.meaning.specs.Trie.{Tree, leaf, inner, Children, none, child, fresh, push, putLeaf, prune, byteAt, split, remove, removeIn, addLeaf, insert, insertIn, pagesIn, pagesAmong}
+use Rattle.trie_laws.specs.Sound.{filled, packs, soundTrie, soundFrom}
 use Rattle.trie_laws.specs.Needed.{splits}
-use Rattle.trie_laws.proofs.Lists.{less, same, more, compared, holds, fails, truth, and-intro, and-first, and-second, or-second, all-append, all-more, upto-all}
+use Rattle.meaning.proofs.Lists.{and-intro, and-first, and-second, or-second, all-append}
+use Rattle.trie_laws.proofs.Lists.{less, same, more, compared, holds, fails, truth, all-more, upto-all}
 use Rattle.trie_laws.proofs.Leaf.{splits-level, add-splits, add-stays}
 use Rattle.trie_laws.proofs.Sound.{SoundBelow, inner-parts, inner-whole, child-parts, lower, sound-last, sound-before, sound-instead, sound-behind}
 use Rattle.trie_laws.proofs.Pages.{insert-all, remove-all}

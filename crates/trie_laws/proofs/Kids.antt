@@ -7,11 +7,12 @@ use mathlib.Core.List.{List, [], _∷_}
 use lib.Dec.{ltb, eqb}
 use borrow.Author.Tests.{eqb-true, le-ltb, eq-eqb}
 use Rattle.meaning.specs.Lists.{count}
-use Rattle.meaning.specs.Trie.{Tree, leaf, inner, Children, none, child, push, putLeaf, prune, byteAt, remove, removeIn, addLeaf, insert, insertIn, nodes, nodesIn}
-use Rattle.trie_laws.specs.Sound.{pagesIn, pagesAmong, filled, soundFrom}
+use Rattle.meaning.specs.Trie.{Tree, leaf, inner, Children, none, child, push, putLeaf, prune, byteAt, remove, removeIn, addLeaf, insert, insertIn, nodes, nodesIn, pagesIn, pagesAmong}
+use Rattle.trie_laws.specs.Sound.{filled, soundFrom}
 use Rattle.trie_laws.specs.Needed.{splitNodes, needed, neededIn, frees, freesIn}
 use Rattle.trie_laws.specs.Path.{has, kid, setKid, dropKid, putKid, pruneKid}
-use Rattle.trie_laws.proofs.Lists.{less, same, more, compared, holds, fails, truth, count-append}
+use Rattle.meaning.proofs.Lists.{count-append}
+use Rattle.trie_laws.proofs.Lists.{less, same, more, compared, holds, fails, truth}
 use Rattle.trie_laws.proofs.Sound.{SoundBelow, child-parts}
 
 irreflexive : (b : ℕ) → ltb b b ≡ false

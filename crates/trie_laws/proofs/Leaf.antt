@@ -7,7 +7,7 @@ use lib.ListN.{length}
 use borrow.Author.Tests.{ltb-true}
 use Rattle.meaning.specs.Trie.{leaf, inner, none, split, addLeaf}
 use Rattle.trie_laws.specs.Needed.{splits}
-use Rattle.trie_laws.proofs.Lists.{and-first}
+use Rattle.meaning.proofs.Lists.{and-first}
 
 -- only below the packed length
 pub splits-level : (len : ℕ) (thresholds : List ℕ) (k size : ℕ) → splits len thresholds k size ≡ true → k < len

@@ -8,27 +8,7 @@ use mathlib.Core.List.{List, [], _∷_, _++_}
 use lib.Dec.{ltb, eqb}
 use borrow.Author.Tests.{ltb-true, ltb-false, eqb-true, eqb-false, lt-ltb, le-ltb, eq-eqb, ne-eqb}
 use Rattle.meaning.specs.Lists.{all, any, count, from, upto}
-
--- ---- a test of two parts
-pub and-intro : (s t : Bool) → s ≡ true → t ≡ true → s && t ≡ true
-and-intro true t h k = k
-and-intro false t h k = absurd (false≢true h)
-
-pub and-first : (s t : Bool) → s && t ≡ true → s ≡ true
-and-first true t h = refl
-and-first false t h = absurd (false≢true h)
-
-pub and-second : (s t : Bool) → s && t ≡ true → t ≡ true
-and-second true t h = h
-and-second false t h = absurd (false≢true h)
-
-pub or-first : (s t : Bool) → s ≡ true → s || t ≡ true
-or-first true t h = refl
-or-first false t h = absurd (false≢true h)
-
-pub or-second : (s t : Bool) → t ≡ true → s || t ≡ true
-or-second true t h = refl
-or-second false t h = h
+use Rattle.meaning.proofs.Lists.{and-intro, and-first, and-second, or-first, or-second}
 
 pub or-none : (s t : Bool) → s || t ≡ false → (s ≡ false) × (t ≡ false)
 or-none true t h = absurd (true≢false h)
@@ -42,10 +22,6 @@ pub data Truth (q : Bool) : Type 0 where
 pub truth : (q : Bool) → Truth q
 truth true = holds refl
 truth false = fails refl
-
-pub not-so : (q : Bool) → (q ≡ true → ⊥) → q ≡ false
-not-so true h = absurd (h refl)
-not-so false h = refl
 
 pub eqb-comm : (a b : ℕ) → eqb a b ≡ eqb b a
 eqb-comm a b = elim (truth (eqb a b)) [
@@ -80,23 +56,8 @@ compared b c = go (ltb b c) (eqb b c) refl refl
         let n : b ≡ c → ⊥ = eqb-false b c q in
         more (omega arith) (record { lt = p; gt = lt-ltb c b (omega arith); eq = q; qe = ne-eqb c b (omega arith) })
 
--- ---- appended lists
+-- ---- lists by counting
 module _ {A : Type 0} (p : A → Bool) where
-  pub all-append : (xs ys : List A) → all p (xs ++ ys) ≡ all p xs && all p ys
-  unfolding all
-  all-append [] ys = refl
-  all-append (x ∷ xs) ys = ap (λ (t : Bool). p x && t) (all-append xs ys) ∙ sym (and-assoc (p x) (all p xs) (all p ys))
-
-  pub any-append : (xs ys : List A) → any p (xs ++ ys) ≡ any p xs || any p ys
-  unfolding any
-  any-append [] ys = refl
-  any-append (x ∷ xs) ys = ap (λ (t : Bool). p x || t) (any-append xs ys) ∙ sym (or-assoc (p x) (any p xs) (any p ys))
-
-  pub count-append : (xs ys : List A) → count p (xs ++ ys) ≡ count p xs + count p ys
-  unfolding count
-  count-append [] ys = omega arith
-  count-append (x ∷ xs) ys = omega (arith, count-append xs ys)
-
   -- one test by counting
   pub any-count : (xs : List A) → any p xs ≡ ltb 0 (count p xs)
   unfolding any count

@@ -9,11 +9,12 @@ use lib.Dec.{ltb, eqb}
 use lib.ListN.{length}
 use borrow.Author.Tests.{eqb-true, lt-ltb, ne-eqb}
 use Rattle.meaning.specs.Lists.{all, any, count, upto}
-use Rattle.meaning.specs.Trie.{Tree, leaf, inner, Children, none, child, without, push, putLeaf, prune, byteAt, split, remove, removeIn, addLeaf, insert, insertIn}
-use Rattle.trie_laws.specs.Sound.{pagesIn, pagesAmong, soundTrie, soundFrom, Stands, withPage, withoutPage}
+use Rattle.meaning.specs.Trie.{Tree, leaf, inner, Children, none, child, without, push, putLeaf, prune, byteAt, split, remove, removeIn, addLeaf, insert, insertIn, pagesIn, pagesAmong}
+use Rattle.trie_laws.specs.Sound.{soundTrie, soundFrom, Stands, withPage, withoutPage}
 use Rattle.trie_laws.specs.Needed.{splits}
 use Rattle.trie_laws.specs.Path.{isLeaf, leaves}
-use Rattle.trie_laws.proofs.Lists.{less, same, more, compared, holds, fails, truth, and-first, and-second, or-none, not-so, eqb-comm, any-append, count-append, any-count, all-count, count-none, all-any, each-all}
+use Rattle.meaning.proofs.Lists.{and-first, and-second, not-so, any-append, count-append}
+use Rattle.trie_laws.proofs.Lists.{less, same, more, compared, holds, fails, truth, or-none, eqb-comm, any-count, all-count, count-none, all-any, each-all}
 use Rattle.trie_laws.proofs.Distinct.{distinct-once, distinct-count}
 use Rattle.trie_laws.proofs.Leaf.{add-splits, add-stays}
 use Rattle.trie_laws.proofs.Sound.{inner-parts, child-parts}

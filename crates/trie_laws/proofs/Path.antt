@@ -6,11 +6,11 @@ use mathlib.Core.Path.{_≡_, refl, sym, ap, _∙_}
 use mathlib.Core.Bool.{Bool, true, false, false≢true}
 use mathlib.Core.List.{List, [], _∷_}
 use Rattle.meaning.specs.Lists.{count}
-use Rattle.meaning.specs.Trie.{Tree, leaf, inner, Children, without, byteAt, remove, addLeaf, insert, nodes}
-use Rattle.trie_laws.specs.Sound.{pagesIn, filled}
+use Rattle.meaning.specs.Trie.{Tree, leaf, inner, Children, without, byteAt, remove, addLeaf, insert, nodes, pagesIn}
+use Rattle.trie_laws.specs.Sound.{filled}
 use Rattle.trie_laws.specs.Needed.{splitNodes, needed, frees}
 use Rattle.trie_laws.specs.Path.{has, kid, dropKid, putKid, pruneKid, hasBelow, below, setBelow, hasPath, subtree, replace, pathOf}
-use Rattle.trie_laws.proofs.Lists.{and-first, and-second}
+use Rattle.meaning.proofs.Lists.{and-first, and-second}
 use Rattle.trie_laws.proofs.Kids.{has-set, kid-set, set-set, set-same, set-nodes, set-count, insert-there, insert-gap, needed-there, needed-gap, remove-there, frees-there}
 
 -- ---- one step

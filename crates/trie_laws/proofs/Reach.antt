@@ -9,10 +9,11 @@ use lib.Dec.{ltb, eqb}
 use lib.ListN.{length}
 use borrow.Author.Tests.{eqb-true, eq-eqb, ltb-true, ltb-false, ne-eqb}
 use Rattle.meaning.specs.Lists.{all, any, count}
-use Rattle.meaning.specs.Trie.{Tree, leaf, inner, Children, none, child, fresh, byteAt, nodes, nodesIn}
-use Rattle.trie_laws.specs.Sound.{pagesIn, pagesAmong, soundTrie, soundFrom}
+use Rattle.meaning.specs.Trie.{Tree, leaf, inner, Children, none, child, fresh, byteAt, nodes, nodesIn, pagesIn, pagesAmong}
+use Rattle.trie_laws.specs.Sound.{soundTrie, soundFrom}
 use Rattle.trie_laws.specs.Path.{has, kid, hasBelow, below, hasPath, subtree, pathOf, follows, depth, depthIn}
-use Rattle.trie_laws.proofs.Lists.{holds, fails, truth, eqb-comm, and-intro, and-first, and-second, any-append, any-count, any-none, count-append, all-append, all-both, all-true}
+use Rattle.meaning.proofs.Lists.{and-intro, and-first, and-second, any-append, count-append, all-append}
+use Rattle.trie_laws.proofs.Lists.{holds, fails, truth, eqb-comm, any-count, any-none, all-both, all-true}
 use Rattle.trie_laws.proofs.Sound.{SoundBelow, inner-parts, child-parts}
 use Rattle.trie_laws.proofs.Pages.{off-byte, off-bytes}
 use Rattle.trie_laws.proofs.Kids.{drop-nodes, drop-count, kid-sound}

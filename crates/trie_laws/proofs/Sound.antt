@@ -8,9 +8,9 @@ use lib.Dec.{ltb, eqb}
 use borrow.Author.Tests.{ltb-true, lt-ltb, leb-true, le-leb}
 use Rattle.meaning.specs.Lists.{all}
 use Rattle.meaning.specs.Sketch.{packable}
-use Rattle.meaning.specs.Trie.{Tree, inner, Children, none, child, byteAt}
-use Rattle.trie_laws.specs.Sound.{pagesIn, filled, soundTrie, soundFrom}
-use Rattle.trie_laws.proofs.Lists.{and-intro, and-first, and-second}
+use Rattle.meaning.specs.Trie.{Tree, inner, Children, none, child, byteAt, pagesIn}
+use Rattle.trie_laws.specs.Sound.{filled, soundTrie, soundFrom}
+use Rattle.meaning.proofs.Lists.{and-intro, and-first, and-second}
 
 module _ (bytesOf : ℕ → List ℕ) (b n len k : ℕ) where
   -- an inner node

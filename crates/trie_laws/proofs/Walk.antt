@@ -9,11 +9,12 @@ use lib.Dec.{ltb, leb, eqb}
 use lib.ListN.{length, length-append}
 use Rattle.meaning.specs.Lists.{all}
 use Rattle.meaning.specs.Sketch.{packable}
-use Rattle.meaning.specs.Trie.{Tree, leaf, inner, Children, none, child, byteAt}
-use Rattle.trie_laws.specs.Sound.{pagesIn, pagesAmong, filled, soundTrie, soundFrom}
+use Rattle.meaning.specs.Trie.{Tree, leaf, inner, Children, none, child, byteAt, pagesIn, pagesAmong}
+use Rattle.trie_laws.specs.Sound.{filled, soundTrie, soundFrom}
 use Rattle.trie_laws.specs.Path.{follows}
 use Rattle.trie_laws.specs.Walk.{soundWalk, walkFrom}
-use Rattle.trie_laws.proofs.Lists.{all-append, all-true}
+use Rattle.meaning.proofs.Lists.{all-append}
+use Rattle.trie_laws.proofs.Lists.{all-true}
 use Rattle.trie_laws.proofs.Path.{shift}
 
 -- a path with one byte more

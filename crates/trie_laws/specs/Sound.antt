@@ -1,22 +1,12 @@
--- What it is for a trie to be sound (document 01, "A store is sound if .."), as one test; and the pages that stand in it.
+-- What it is for a trie to be sound (document 01, "A store is sound if .."), as one test; and which pages stand in it.
 use Prim.Native.Nat.{ℕ, suc}
 use mathlib.Core.Path.{_≡_}
 use mathlib.Core.Bool.{Bool, true, false, cond, _&&_}
-use mathlib.Core.List.{List, [], _∷_, _++_}
+use mathlib.Core.List.{List, [], _∷_}
 use lib.Dec.{ltb, leb, eqb}
 use Rattle.meaning.specs.Lists.{all, any, count, upto}
 use Rattle.meaning.specs.Sketch.{packable}
-use Rattle.meaning.specs.Trie.{Tree, leaf, inner, Children, none, child, byteAt}
-
-unfoldable mutual
-  -- all pages, leaf by leaf
-  pub pagesIn : Tree → List ℕ
-  pagesIn (leaf ps) = ps
-  pagesIn (inner cs) = pagesAmong cs
-
-  pub pagesAmong : Children → List ℕ
-  pagesAmong none = []
-  pagesAmong (child c t cs) = pagesIn t ++ pagesAmong cs
+use Rattle.meaning.specs.Trie.{Tree, leaf, inner, Children, none, child, byteAt, pagesIn}
 
 -- not an empty leaf
 unfoldable pub filled : Tree → Bool

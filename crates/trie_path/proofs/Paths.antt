@@ -7,7 +7,8 @@ use mathlib.Core.List.{List}
 use lib.Dec.{ltb}
 use Rattle.meaning.specs.Trie.{Tree, leaf, inner, Children, none, child, byteAt}
 use Rattle.trie_laws.specs.Path.{has, kid, hasBelow, below, setBelow, hasPath, subtree, replace, pathOf, depth, depthIn}
-use Rattle.trie_laws.proofs.Lists.{holds, fails, truth, and-intro}
+use Rattle.meaning.proofs.Lists.{and-intro}
+use Rattle.trie_laws.proofs.Lists.{holds, fails, truth}
 use Rattle.trie_laws.proofs.Path.{path-parts, shift}
 
 module _ (bytesOf : ℕ → List ℕ) (p : ℕ) where

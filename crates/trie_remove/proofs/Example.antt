@@ -9,12 +9,13 @@ use lib.Dec.{eqb, lit<, lit≤}
 use lib.ListN.{getD, replicate}
 use Rattle.meaning.specs.Lists.{all, any, count}
 use Rattle.meaning.specs.Sketch.{perByte, symbolsAt, packable}
-use Rattle.meaning.specs.Trie.{byteAt}
+use Rattle.meaning.specs.Trie.{byteAt, pagesIn}
 use Rattle.trie.specs.Heap.{Cells, hit, nodeClaims, pageClaims, nil, node, page, _⊕_}
 use Rattle.trie.specs.Model.{placeFrom, findPlace}
 use Rattle.trie.specs.Phys.{Phys, Buckets, tree, noHeads, cells, State, leafP, innerP, end, bucket, stop, link}
-use Rattle.trie_laws.specs.Sound.{pagesIn, filled, soundTrie}
-use Rattle.trie_laws.proofs.Lists.{holds, fails, truth, eqb-comm, and-first, and-second, any-none, count-append}
+use Rattle.trie_laws.specs.Sound.{filled, soundTrie}
+use Rattle.meaning.proofs.Lists.{and-first, and-second, count-append}
+use Rattle.trie_laws.proofs.Lists.{holds, fails, truth, eqb-comm, any-none}
 use Rattle.trie_path.specs.Descend.{descend, descendTo}
 use Rattle.trie_path.proofs.Arrival.{Leads, sound-leads}
 use Rattle.trie_remove.specs.declared.Removed.the-variants.{Done}

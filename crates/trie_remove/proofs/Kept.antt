@@ -10,7 +10,8 @@ use lib.ListN.{getD}
 use Rattle.meaning.specs.Lists.{any}
 use Rattle.trie.specs.Heap.{Cells, hit, nodeClaims, pageClaims, Heap, node, page, _⊕_}
 use Rattle.trie.specs.Phys.{Phys, root, tree, freeCells, cells, State}
-use Rattle.trie_laws.specs.Sound.{pagesIn, soundTrie}
+use Rattle.meaning.specs.Trie.{pagesIn}
+use Rattle.trie_laws.specs.Sound.{soundTrie}
 use Rattle.trie_laws.proofs.Lists.{holds, fails, truth}
 use Rattle.trie_path.proofs.Arrival.{Leads}
 use Rattle.trie_remove.specs.Remove.{removePage}

@@ -8,12 +8,12 @@ use mathlib.Core.List.{List, [], _∷_}
 use lib.Dec.{eqb}
 use lib.ListN.{length, length-set}
 use Rattle.meaning.specs.Lists.{any}
-use Rattle.meaning.specs.Trie.{Children, leaf, inner, without, byteAt, remove}
+use Rattle.meaning.specs.Trie.{Children, leaf, inner, without, byteAt, remove, pagesIn}
 use Rattle.trie.specs.Heap.{Cells, page, _⊕_}
 use Rattle.trie.specs.Phys.{Phys, Chain, root, tree, kids, first, SoundC, State, leafP, innerP, link}
 use Rattle.trie.proofs.Frame.{same-swap}
 use Rattle.trie.proofs.Context.{enter, beside}
-use Rattle.trie_laws.specs.Sound.{pagesIn, filled, soundTrie}
+use Rattle.trie_laws.specs.Sound.{filled, soundTrie}
 use Rattle.trie_laws.specs.Needed.{frees}
 use Rattle.trie_laws.specs.Path.{has, kid, subtree, replace, pathOf, depth}
 use Rattle.trie_laws.proofs.Path.{remove-at-leaf, frees-at-leaf, remove-at-last, frees-at-last}

@@ -13,7 +13,8 @@ use Rattle.trie.specs.Heap.{Cells, hit, pageClaims, Heap, page, _⊕_}
 use Rattle.trie.specs.Tables.{PageTable}
 use Rattle.trie.specs.Phys.{first, pageCells, Below}
 use Rattle.trie.proofs.Frame.{Less, less, page-write}
-use Rattle.trie_laws.proofs.Lists.{holds, fails, truth, and-intro, eqb-comm}
+use Rattle.meaning.proofs.Lists.{and-intro}
+use Rattle.trie_laws.proofs.Lists.{holds, fails, truth, eqb-comm}
 use Rattle.trie_laws.proofs.Distinct.{distinct-once, distinct-below}
 use Rattle.trie_remove.specs.declared.Taken.{Taken}
 use Rattle.trie_remove.specs.declared.Taken.the-variants.{First, Inside, Missing, Broken}

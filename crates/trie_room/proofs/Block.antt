@@ -9,7 +9,7 @@ use lib.Dec.{ltb, leb, eqb}
 use lib.ListN.{length, getD}
 use borrow.Author.Tests.{ltb-true, lt-ltb, le-ltb, leb-true, leb-false}
 use Rattle.meaning.specs.Lists.{any, count}
-use Rattle.meaning.specs.Trie.{byteAt}
+use Rattle.meaning.specs.Trie.{byteAt, pagesIn}
 use Rattle.meaning.specs.Ledger.{Settings}
 use Rattle.layout.specs.Nodes.{stateAt}
 use Rattle.trie.specs.declared.Rows.{Rows}
@@ -18,7 +18,7 @@ use Rattle.trie.specs.Model.{pageByte, spanFrom, levelAt}
 use Rattle.trie.specs.Phys.{Phys, root, tree, kids, first, Below, State, leafP}
 use Rattle.trie.proofs.Context.{enter}
 use Rattle.trie.proofs.Spans.{Linked, spanOf, span-right, pages-linked, frees-linked, leaf-most}
-use Rattle.trie_laws.specs.Sound.{pagesIn, Agree}
+use Rattle.trie_laws.specs.Sound.{Agree}
 use Rattle.trie_laws.specs.Path.{pathOf}
 use Rattle.trie_laws.specs.Needed.{distinct, splits, splitNodes, needed}
 use Rattle.trie_laws.proofs.Lists.{any-count}

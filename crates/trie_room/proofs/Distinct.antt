@@ -14,7 +14,7 @@ use Rattle.trie.specs.Model.{pageByte}
 use Rattle.trie.specs.Phys.{first, Below}
 use Rattle.trie.proofs.Spans.{Linked}
 use Rattle.trie_laws.specs.Needed.{distinct}
-use Rattle.trie_laws.proofs.Lists.{or-first, or-second}
+use Rattle.meaning.proofs.Lists.{or-first, or-second}
 use Rattle.trie_room.specs.declared.needed.Needed.the-variants.{Nodes}
 use Rattle.trie_room.specs.Chains.{whole, ahead, chainFrom}
 use Rattle.trie_room.specs.Needs.{distinctBytes}

@@ -24,7 +24,7 @@ use Rattle.sketch.proofs.Lists.{window}
 use Rattle.sketch.proofs.BlockEnds.{block-ends}
 use Rattle.sketch.proofs.Width.{z-most, z-fits}
 use Rattle.sketch_laws.proofs.Packing.{pack-at, packed-most, range-of}
-use Rattle.sketch_laws.proofs.Lists.{and-first, and-second}
+use Rattle.meaning.proofs.Lists.{and-first, and-second}
 use Rattle.trie.specs.Tables.{RowTable}
 use Rattle.trie.specs.Model.{rowByte, pageByte, levelAt}
 use Rattle.trie_room.specs.RowBytes.{reduced, rowBytes, rowsOf}

@@ -9,8 +9,7 @@ use lib.ListN.{length, getD}
 use borrow.Author.Tests.{ltb-false, eqb-false, lt-ltb}
 use Rattle.meaning.specs.Lists.{all}
 use Rattle.layout.specs.Nodes.{stateAt, freeState, innerState}
-use Rattle.sketch_laws.proofs.Lists.{all-append}
-use Rattle.trie_laws.proofs.Lists.{and-intro}
+use Rattle.meaning.proofs.Lists.{all-append, and-intro}
 use Rattle.walk.specs.declared.mark.Left.the-variants.{Some, Broken}
 use Rattle.walk.specs.declared.frame.Frame.{Frame}
 use Rattle.walk.specs.declared.frame.Step.{Step}

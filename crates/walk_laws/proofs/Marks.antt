@@ -10,7 +10,7 @@ use borrow.Author.Tests.{ltb-true}
 use Rattle.meaning.specs.Lists.{all, any}
 use Rattle.words.specs.Bits.{flag, withFlag}
 use Rattle.words.proofs.Flags.{flag-with, flag-with-apart}
-use Rattle.trie_laws.proofs.Lists.{and-first, and-second}
+use Rattle.meaning.proofs.Lists.{and-first, and-second}
 use Rattle.hits.specs.Marks.{Room, Summarised}
 use Rattle.hits.proofs.Summary.{summarised-mark}
 use Rattle.walk.specs.Mark.{marked, markAll}

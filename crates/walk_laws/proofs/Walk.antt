@@ -11,11 +11,10 @@ use borrow.Author.Tests.{lt-ltb}
 use Rattle.meaning.specs.Lists.{all}
 use Rattle.meaning.specs.Sketch.{perByte, byteDistance}
 use Rattle.meaning.specs.Trie.{Children, met, metIn, nodes}
-use Rattle.sketch_laws.proofs.Lists.{all-append}
+use Rattle.meaning.proofs.Lists.{all-append, and-intro}
 use Rattle.trie.specs.Heap.{Holds}
 use Rattle.trie.specs.Phys.{Phys, leafP, innerP, Buckets, end, bucket, Chain, stop, link, root, tree, kids, kidsC, cells, Below, Sound, SoundB, SoundC}
 use Rattle.trie_laws.specs.Sound.{soundTrie}
-use Rattle.trie_laws.proofs.Lists.{and-intro}
 use Rattle.walk.specs.Mark.{markAll}
 use Rattle.walk.specs.Walk.{Given, walked, walkFrom}
 use Rattle.walk_laws.proofs.Fit.{fit}
