@@ -6,7 +6,9 @@ use libc::STDOUT_FILENO;
 ghost use Prim.Native.Nat.{_<_, _≤_};
 ghost use mathlib.Core.Path.{_≡_};
 ghost use mathlib.Core.Bool.{true};
-ghost use lib.ListN.{length};
+ghost use lib.ListN.{length, replicate};
+ghost use Rattle.promises.specs.Tables.{tables};
+ghost use Rattle.promises.specs.Calls.{OpenPromise, settingsGiven};
 ghost use Rattle.vetchdawn.specs.Turns.{Onward};
 
 // Where a command leaves the program: the offset reached, m, and whether it goes on.
@@ -32,32 +34,156 @@ fn write_last(count: usize)
     io::write_all(STDOUT_FILENO, &line[..n]);
 }
 
-// The number of symbols after a command.
-fn symbols_after(command: Command, m: u8) -> u8 {
+// The capacities of the program's tables.
+const PAGES: u32 = 512;
+
+const NODES: u32 = 1024;
+
+// Sets up the index, with one threshold for all levels.
+fn open_levels(
+    settings: &mut [u32],
+    nodes: &mut [u32],
+    pages: &mut [u32],
+    sketches: &[u8],
+    working: &[u32],
+    b: u32,
+    m: u8,
+    q: u32,
+    threshold: u16,
+) -> u32
+    ensures { λ r. ⌜ OpenPromise (settingsGiven b m q 512 1024 (replicate 64 threshold)) (tables (now (settings .entry)) (now (nodes .entry)) (now (pages .entry)) (now (sketches .entry)) (now (working .entry))) r (now (settings .exit)) (now (nodes .exit)) (now (pages .exit)) ⌝ }
+{
+    let thresholds = [threshold; 64];
+    index::open::open(
+        settings,
+        nodes,
+        pages,
+        sketches,
+        working,
+        b,
+        m as u32,
+        q,
+        PAGES,
+        NODES,
+        &thresholds,
+    )
+}
+
+// What a command came to: the number of its refusal or 0, and m afterwards.
+struct Outcome {
+    number: u32,
+    m: u8,
+}
+
+// Carries a command out.
+fn execute(
+    settings: &mut [u32],
+    nodes: &mut [u32],
+    pages: &mut [u32],
+    sketches: &mut [u8],
+    working: &mut [u32],
+    found: &mut [u16],
+    bytes: &[u8],
+    m: u8,
+    command: Command,
+) -> Outcome {
     match command {
         Command::Open {
-            b: _,
+            b,
             m: n,
-            q: _,
-            threshold: _,
-        } => n,
-        _ => m,
+            q,
+            threshold,
+        } => {
+            let number = open_levels(
+                settings,
+                nodes,
+                pages,
+                sketches,
+                working,
+                b,
+                n,
+                q,
+                threshold,
+            );
+            Outcome { number, m: n }
+        }
+        Command::Join { reader, group } => {
+            let number = index::register::join(settings, reader, group);
+            Outcome { number, m }
+        }
+        Command::Leave { reader, group } => {
+            let number = index::register::leave(settings, reader, group);
+            Outcome { number, m }
+        }
+        Command::Grant { group, class } => {
+            let number = index::register::grant(settings, group, class);
+            Outcome { number, m }
+        }
+        Command::Revoke { group, class } => {
+            let number = index::register::revoke(settings, group, class);
+            Outcome { number, m }
+        }
+        Command::Add {
+            page: _,
+            class: _,
+            symbols: _,
+        } => Outcome { number: 0, m },
+        Command::Drop { page: _ } => Outcome { number: 0, m },
+        Command::Search {
+            reader: _,
+            radius: _,
+            symbols: _,
+        } => Outcome { number: 0, m },
     }
 }
 
 // One command.
-fn take_turn(bytes: &[u8], at: usize, m: u8) -> Turn
+fn take_turn(
+    settings: &mut [u32],
+    nodes: &mut [u32],
+    pages: &mut [u32],
+    sketches: &mut [u8],
+    working: &mut [u32],
+    found: &mut [u16],
+    bytes: &[u8],
+    at: usize,
+    m: u8,
+) -> Turn
     requires { ⌜ at ≤ length (now bytes) ⌝ }
     requires { ⌜ length (now bytes) ≤ 65536 ⌝ }
     ensures { λ r. ⌜ Onward (now (bytes .entry)) at (r .at) (r .going) ⌝ }
 {
     let step = journal::reading::read(bytes, at, m);
     match step {
-        Step::Taken(command, to) => Turn {
-            at: to,
-            m: symbols_after(command, m),
-            going: true,
-        },
+        Step::Taken(command, to) => {
+            let outcome = execute(
+                settings,
+                nodes,
+                pages,
+                sketches,
+                working,
+                found,
+                bytes,
+                m,
+                command,
+            );
+            let number = outcome.number;
+            if number != 0 {
+                write_refusal(at, number);
+                if number <= 4 {
+                    return Turn {
+                        at,
+                        m,
+                        going: false,
+                    };
+                }
+            }
+            Turn {
+                at: to,
+                m: outcome.m,
+                going: true,
+            }
+        }
         Step::Refused(number) => {
             write_refusal(at, number);
             Turn {
@@ -74,8 +200,16 @@ fn take_turn(bytes: &[u8], at: usize, m: u8) -> Turn
     }
 }
 
-// All commands, as far as they go. The offset reached is given.
-fn run(bytes: &[u8]) -> usize
+// All commands, as far as they go, on lent tables. The offset reached is given.
+fn run_on(
+    settings: &mut [u32],
+    nodes: &mut [u32],
+    pages: &mut [u32],
+    sketches: &mut [u8],
+    working: &mut [u32],
+    found: &mut [u16],
+    bytes: &[u8],
+) -> usize
     requires { ⌜ length (now bytes) ≤ 65536 ⌝ }
     ensures { λ r. ⌜ r ≤ 65536 ⌝ }
 {
@@ -83,12 +217,44 @@ fn run(bytes: &[u8]) -> usize
     let mut m: u8 = 0;
     let mut going = true;
     while going {
-        let t = take_turn(bytes, at, m);
+        let t = take_turn(
+            settings,
+            nodes,
+            pages,
+            sketches,
+            working,
+            found,
+            bytes,
+            at,
+            m,
+        );
         at = t.at;
         m = t.m;
         going = t.going;
     }
     at
+}
+
+// The program's tables.
+fn run(bytes: &[u8]) -> usize
+    requires { ⌜ length (now bytes) ≤ 65536 ⌝ }
+    ensures { λ r. ⌜ r ≤ 65536 ⌝ }
+{
+    let mut settings = [0u32; 391];
+    let mut nodes = [0u32; 10240];
+    let mut pages = [0u32; 5120];
+    let mut sketches = [0u8; 32768];
+    let mut working = [0u32; 17];
+    let mut found = [0u16; 512];
+    run_on(
+        &mut settings,
+        &mut nodes,
+        &mut pages,
+        &mut sketches,
+        &mut working,
+        &mut found,
+        bytes,
+    )
 }
 
 fn main() {
