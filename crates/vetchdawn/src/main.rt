@@ -9,7 +9,9 @@ ghost use mathlib.Core.Bool.{true};
 ghost use lib.ListN.{length, replicate};
 ghost use Rattle.promises.specs.Tables.{tables};
 ghost use Rattle.promises.specs.Calls.{OpenPromise, settingsGiven};
-ghost use Rattle.vetchdawn.specs.Turns.{Onward};
+ghost use Rattle.vetchdawn.specs.Turns.{Onward, Carried, answer};
+ghost use Rattle.meaning.specs.Journal.{callOf};
+ghost use Rattle.journal.specs.Steps.{meant};
 
 // Where a command leaves the program: the offset reached, m, and whether it goes on.
 struct Turn {
@@ -69,9 +71,10 @@ fn open_levels(
     )
 }
 
-// What a command came to: the number of its refusal or 0, and m afterwards.
+// What a command came to: the number of its refusal or 0, the count of a search, and m afterwards.
 struct Outcome {
     number: u32,
+    count: u32,
     m: u8,
 }
 
@@ -86,7 +89,9 @@ fn execute(
     bytes: &[u8],
     m: u8,
     command: Command,
-) -> Outcome {
+) -> Outcome
+    ensures { λ r. ⌜ Carried (callOf 512 1024 (now (found .entry)) (meant m (now (bytes .entry)) command)) (tables (now (settings .entry)) (now (nodes .entry)) (now (pages .entry)) (now (sketches .entry)) (now (working .entry))) (answer (r .number) (r .count) (now (found .exit))) (tables (now (settings .exit)) (now (nodes .exit)) (now (pages .exit)) (now (sketches .exit)) (now (working .exit))) ⌝ }
+{
     match command {
         Command::Open {
             b,
@@ -105,35 +110,67 @@ fn execute(
                 q,
                 threshold,
             );
-            Outcome { number, m: n }
+            Outcome {
+                number,
+                count: 0,
+                m: n,
+            }
         }
         Command::Join { reader, group } => {
             let number = index::register::join(settings, reader, group);
-            Outcome { number, m }
+            Outcome {
+                number,
+                count: 0,
+                m,
+            }
         }
         Command::Leave { reader, group } => {
             let number = index::register::leave(settings, reader, group);
-            Outcome { number, m }
+            Outcome {
+                number,
+                count: 0,
+                m,
+            }
         }
         Command::Grant { group, class } => {
             let number = index::register::grant(settings, group, class);
-            Outcome { number, m }
+            Outcome {
+                number,
+                count: 0,
+                m,
+            }
         }
         Command::Revoke { group, class } => {
             let number = index::register::revoke(settings, group, class);
-            Outcome { number, m }
+            Outcome {
+                number,
+                count: 0,
+                m,
+            }
         }
         Command::Add {
             page: _,
             class: _,
             symbols: _,
-        } => Outcome { number: 0, m },
-        Command::Drop { page: _ } => Outcome { number: 0, m },
+        } => Outcome {
+            number: 0,
+            count: 0,
+            m,
+        },
+        Command::Drop { page: _ } => Outcome {
+            number: 0,
+            count: 0,
+            m,
+        },
         Command::Search {
             reader: _,
             radius: _,
             symbols: _,
-        } => Outcome { number: 0, m },
+        } => Outcome {
+            number: 0,
+            count: 0,
+            m,
+        },
     }
 }
 
