@@ -3,7 +3,7 @@ use crate::form::form;
 use crate::form::operand_bytes;
 ghost use mathlib.Core.Path.{_≡_};
 ghost use Prim.Native.Nat.{_+_, _≤_};
-ghost use lib.ListN.{length, drop};
+ghost use lib.ListN.{length, take, drop};
 ghost use Rattle.meaning.specs.Journal.{byteAt, wordAt, taken, next, markAt};
 ghost use Rattle.journal.specs.Steps.{pairCommand, commandAt, Stepped, reachedBy};
 
@@ -80,6 +80,15 @@ pub fn word_at(bytes: &[u8], k: usize) -> u16
     let low = byte_at(bytes, k) as u16;
     let high = byte_at(bytes, k + 1) as u16;
     low + 256 * high
+}
+
+// The m symbols that begin at an offset.
+pub fn symbols_at(bytes: &[u8], at: usize, m: u8) -> &[u8]
+    requires { ⌜ at + m ≤ length (now bytes) ⌝ }
+    ensures { λ r. ⌜ now r ≡ take m (drop at (now (bytes .entry))) ⌝ }
+{
+    let end = at + m as usize;
+    &bytes[at..end]
 }
 
 // J, L, G or R with its two operands.
