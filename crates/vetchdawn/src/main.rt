@@ -11,7 +11,7 @@ ghost use Rattle.promises.specs.Tables.{tables};
 ghost use Rattle.promises.specs.Calls.{OpenPromise, settingsGiven};
 ghost use Rattle.vetchdawn.specs.Turns.{Onward, Carried, answer};
 ghost use Rattle.meaning.specs.Journal.{callOf};
-ghost use Rattle.journal.specs.Steps.{meant};
+ghost use Rattle.journal.specs.Steps.{meant, symbolsEnd};
 
 // Where a command leaves the program: the offset reached, m, and whether it goes on.
 struct Turn {
@@ -78,6 +78,11 @@ struct Outcome {
     m: u8,
 }
 
+// Stands in for a call on a sketch.
+fn stand_in(x: &[u8]) -> u32 {
+    0
+}
+
 // Carries a command out.
 fn execute(
     settings: &mut [u32],
@@ -90,6 +95,7 @@ fn execute(
     m: u8,
     command: Command,
 ) -> Outcome
+    requires { ⌜ symbolsEnd m command ≤ length (now bytes) ⌝ }
     ensures { λ r. ⌜ Carried (callOf 512 1024 (now (found .entry)) (meant m (now (bytes .entry)) command)) (tables (now (settings .entry)) (now (nodes .entry)) (now (pages .entry)) (now (sketches .entry)) (now (working .entry))) (answer (r .number) (r .count) (now (found .exit))) (tables (now (settings .exit)) (now (nodes .exit)) (now (pages .exit)) (now (sketches .exit)) (now (working .exit))) ⌝ }
 {
     match command {
@@ -151,12 +157,15 @@ fn execute(
         Command::Add {
             page: _,
             class: _,
-            symbols: _,
-        } => Outcome {
-            number: 0,
-            count: 0,
-            m,
-        },
+            symbols,
+        } => {
+            let x = journal::commands::symbols_at(bytes, symbols, m);
+            Outcome {
+                number: stand_in(x),
+                count: 0,
+                m,
+            }
+        }
         Command::Drop { page: _ } => Outcome {
             number: 0,
             count: 0,

@@ -1,7 +1,8 @@
 -- `execute` makes the call of the command: each case is the call's own promise.
-use mathlib.Core.Path.{refl}
+use mathlib.Core.Path.{refl, ap}
+use native.Mathlib.Omega.{arith}
 use Rattle.meaning.specs.Journal.{callOf}
-use Rattle.journal.specs.Steps.{meant}
+use Rattle.journal.specs.Steps.{meant, symbolsEnd}
 use borrow.Author.Needs.{needs}
 use Rattle.vetchdawn.proofs.execute.Statement.{statement}
 use Rattle.vetchdawn.proofs.execute.Tie as tie
@@ -36,14 +37,21 @@ enum-known-command-5 c = search needs
 revoke-requires : tie.Need-revoke-requires
 revoke-requires c κs = search needs
 
+enum-known-command-6 : tie.Need-enum-known-command-6
+enum-known-command-6 c = search needs
+
+symbols-at-requires : tie.Need-symbols-at-requires
+unfolding symbolsEnd
+symbols-at-requires c κs = omega (arith, c .before .before .before .before .before .before .before .before .before .before .pre, ap (symbolsEnd (c .before .before .before .before .before .before .before .before .before .before .args .m)) (c .before .command6 .given .1))
+
+stand-in-requires : tie.Need-stand-in-requires
+stand-in-requires c κs = search needs
+
 enum-told : tie.Need-enum-told
 enum-told c = search needs
 
 enum-told-2 : tie.Need-enum-told-2
 enum-told-2 c = search needs
-
-enum-told-3 : tie.Need-enum-told-3
-enum-told-3 c = search needs
 
 same-length : tie.Need-same-length
 same-length c = search needs
@@ -94,15 +102,15 @@ returns-5 c = rw (c .before .before .before .before .before .command5 .given .1)
 
 returns-6 : tie.Need-returns-6
 unfolding callOf meant
-returns-6 c = rw (c .enum-told .given .1) tt
+returns-6 c = rw (c .before .before .before .command6 .given .1) tt
 
 returns-7 : tie.Need-returns-7
 unfolding callOf meant
-returns-7 c = rw (c .enum-told2 .given .1) tt
+returns-7 c = rw (c .enum-told .given .1) tt
 
 returns-8 : tie.Need-returns-8
 unfolding callOf meant
-returns-8 c = rw (c .enum-told3 .given .1) tt
+returns-8 c = rw (c .enum-told2 .given .1) tt
 
 pub execute-spec : {M : Type 1} → statement M
 execute-spec =
@@ -118,9 +126,11 @@ execute-spec =
     grant-requires
     enum-known-command-5
     revoke-requires
+    enum-known-command-6
+    symbols-at-requires
+    stand-in-requires
     enum-told
     enum-told-2
-    enum-told-3
     same-length
     same-length-2
     same-length-3

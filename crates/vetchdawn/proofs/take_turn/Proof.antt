@@ -8,7 +8,7 @@ use Rattle.journal.specs.Steps.{Stepped}
 use Rattle.journal.specs.declared.commands.Command.{Command}
 use Rattle.journal.specs.declared.commands.Step.{Step}
 use Rattle.journal.specs.declared.commands.Step.the-variants.{Taken}
-use Rattle.journal.proofs.Steps.{taken-there, taken-on}
+use Rattle.journal.proofs.Steps.{taken-there, symbols-there, taken-on}
 use Rattle.vetchdawn.specs.Turns.{Onward}
 use borrow.Author.Needs.{needs}
 use Rattle.vetchdawn.proofs.take_turn.Statement.{statement}
@@ -30,7 +30,10 @@ enum-known-step : tie.Need-enum-known-step
 enum-known-step c = search needs
 
 execute-requires : tie.Need-execute-requires
-execute-requires c κs = search needs
+execute-requires c κs =
+    let args = c .before .before .before .before .before .before .before .before .before .before .before .before .before .before .before .before .before .args in
+    let given = c .before .before .before .before .before .before .before .step .given in
+    symbols-there (args .m) (args .bytes .now) (args .at) (given .0 .0) (given .0 .1 .0) (moved-to (args .m) (args .bytes .now) (args .at) (given .1) (c .before .before .before .before .before .before .before .before .before .read .ensures))
 
 write-refusal-requires : tie.Need-write-refusal-requires
 write-refusal-requires c κs = search needs
