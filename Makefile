@@ -11,7 +11,7 @@ test:
 	@.ci/run
 
 # what the proved crates offer to C, as archives
-ARCHIVES = sketch capi
+ARCHIVES = sketch capi journal
 archives:
 	@mkdir -p target
 	@for name in $(ARCHIVES); do rt staticlib $$name > target/staticlib.log 2>&1 || { cat target/staticlib.log; exit 1; }; done

@@ -20,6 +20,7 @@ mod c {
         pub fn vetch_measure(b: u32, m: u32, x: *const u8, x_len: usize, y: *const u8, y_len: usize, distance: *mut u32) -> u32;
         pub fn vetch_pack(b: u32, m: u32, x: *const u8, x_len: usize, out: *mut u8, out_len: usize, length: *mut u32) -> u32;
         pub fn vetch_unpack(b: u32, m: u32, bytes: *const u8, bytes_len: usize, out: *mut u8, out_len: usize, length: *mut u32) -> u32;
+        pub fn vetch_form(m: u8, first: u8, bytes: *const u8, bytes_len: usize) -> u32;
     }
 }
 
@@ -88,4 +89,9 @@ pub fn show(t: &Tables, reader: u32, page: u32) -> Result<(usize, usize), u32> {
     }
     assert_eq!((start, length), (0, 0), "a refusal gives 0 and 0");
     Err(number)
+}
+
+/// The form of the command at the beginning of the bytes.
+pub fn form(m: u8, first: u8, bytes: &[u8]) -> u32 {
+    unsafe { c::vetch_form(m, first, bytes.as_ptr(), bytes.len()) }
 }

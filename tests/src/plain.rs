@@ -115,3 +115,22 @@ pub fn unpack_to(b: u32, m: u32, bytes: &[u8], out: &mut [u8]) -> Answer<usize> 
     }
     Ok(m as usize)
 }
+
+/// Questions 1 to 3 of the command at the beginning of the bytes.
+pub fn form(m: u8, first: bool, bytes: &[u8]) -> u32 {
+    let m = usize::from(m);
+    let operands = match bytes.first() {
+        Some(b'I') => 5,
+        Some(b'A') => 3 + m,
+        Some(b'S') => 2 + m,
+        Some(b'D' | b'J' | b'L' | b'G' | b'R') => 2,
+        _ => return 1,
+    };
+    if (bytes[0] == b'I') != first {
+        return 2;
+    }
+    if bytes.len() <= operands {
+        return 3;
+    }
+    0
+}
