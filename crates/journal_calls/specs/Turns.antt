@@ -1,0 +1,100 @@
+-- A turn of the program: what stands at the offset is read and, where it is a command, carried out on the tables.
+use Prim.Native.Nat.{ℕ, _≤_}
+use mathlib.Core.Path.{_≡_}
+use mathlib.Core.Bool.{Bool, true, false, cond, not}
+use mathlib.Core.List.{List, []}
+use lib.Dec.{eqb}
+use lib.ListN.{length, take}
+use Rattle.meaning.specs.Journal.{Command, opens, adds, drops, joins, leaves, grants, revokes, searches, callOf, next, ended, refused, command-to, searchLine, refusalLine}
+use Rattle.meaning.specs.Ledger.{Call}
+use Rattle.promises.specs.Tables.{Tables}
+use Rattle.history.specs.Relation.{Answer, Promised}
+
+-- the call that a command makes: there are 512 pages and 1,024 nodes, and `found` is the output of searches
+abbrev pub made : List ℕ → Command → Call
+made found c = callOf 512 1024 found c
+
+-- a number, a count and the output afterwards
+abbrev pub answer : ℕ → ℕ → List ℕ → Answer
+answer number count list = record { number = number; count = count; list = list; yes = true }
+
+-- the output of searches after a command
+unfoldable pub foundAfter : Command → List ℕ → List ℕ → List ℕ
+foundAfter (opens b m q t) list found = found
+foundAfter (adds p c x) list found = found
+foundAfter (drops p) list found = found
+foundAfter (joins r g) list found = found
+foundAfter (leaves r g) list found = found
+foundAfter (grants g c) list found = found
+foundAfter (revokes g c) list found = found
+foundAfter (searches r d x) list found = list
+
+-- m after a command: I gives it
+unfoldable pub symbolsAfter : Command → ℕ → ℕ
+symbolsAfter (opens b m′ q t) m = m′
+symbolsAfter (adds p c x) m = m
+symbolsAfter (drops p) m = m
+symbolsAfter (joins r g) m = m
+symbolsAfter (leaves r g) m = m
+symbolsAfter (grants g c) m = m
+symbolsAfter (revokes g c) m = m
+symbolsAfter (searches r d x) m = m
+
+-- what an accepted command writes
+unfoldable pub listing : Command → Answer → List ℕ
+listing (opens b m q t) a = []
+listing (adds p c x) a = []
+listing (drops p) a = []
+listing (joins r g) a = []
+listing (leaves r g) a = []
+listing (grants g c) a = []
+listing (revokes g c) a = []
+listing (searches r d x) a = searchLine r (take (a .count) (a .list))
+
+-- what a command at an offset writes: a refused one its E line
+unfoldable pub lineOf : ℕ → Command → Answer → List ℕ
+lineOf at c a = cond (eqb (a .number) 0) (listing c a) (refusalLine at (a .number))
+
+-- after 4 the program stops; 1 to 3 are no call's
+unfoldable pub goesOn : ℕ → Bool
+goesOn number = not (eqb number 4)
+
+-- a command, carried out on the tables T with this output
+pub record Executed (c : Command) (T : Tables) (found : List ℕ) (number count : ℕ) (T′ : Tables) (found′ : List ℕ) : Type 0 where
+  pub promised : Promised (made found c) T (answer number count found′) T′
+  pub output : found′ ≡ foundAfter c found′ found
+  -- an accepted search has its list inside the output
+  pub inside : number ≡ 0 → count ≤ length found′
+
+-- where the program stands: its tables, the output of searches, the offset reached, and m
+pub record State : Type 0 where
+  pub tables : Tables
+  pub found : List ℕ
+  pub at : ℕ
+  pub symbols : ℕ
+
+abbrev pub state : Tables → List ℕ → ℕ → ℕ → State
+state T found at m = record { tables = T; found = found; at = at; symbols = m }
+
+-- it stops where it stands, and writes this line
+pub record Stopped (s : State) (written line : List ℕ) (going : Bool) (s′ : State) : Type 0 where
+  pub wrote : line ≡ written
+  pub stops : going ≡ false
+  pub stays : s′ ≡ s
+
+-- it carries out a command, behind which the offset is `to`: the call that the command makes gives the answer a
+pub record Carried (s : State) (c : Command) (to : ℕ) (a : Answer) (line : List ℕ) (going : Bool) (s′ : State) : Type 0 where
+  pub promised : Promised (made (s .found) c) (s .tables) a (s′ .tables)
+  pub output : s′ .found ≡ foundAfter c (a .list) (s .found)
+  pub wrote : line ≡ lineOf (s .at) c a
+  pub goes : going ≡ goesOn (a .number)
+  pub reached : s′ .at ≡ cond (goesOn (a .number)) to (s .at)
+  pub counts : s′ .symbols ≡ symbolsAfter c (s .symbols)
+
+-- a turn over the bytes of a journal, by what stands at the offset: the line written, whether the program goes on, and where it then stands
+pub data Turned (bytes : List ℕ) (s : State) (line : List ℕ) (going : Bool) (s′ : State) : Type 0 where
+  ends : next (s .symbols) bytes (s .at) ≡ ended → Stopped s [] line going s′ → Turned bytes s line going s′
+  -- 1 to 3: no call
+  refuses : (n : ℕ) → next (s .symbols) bytes (s .at) ≡ refused n → Stopped s (refusalLine (s .at) n) line going s′ → Turned bytes s line going s′
+  carries : (c : Command) (to : ℕ) (a : Answer) → next (s .symbols) bytes (s .at) ≡ command-to c to → Carried s c to a line going s′
+      → Turned bytes s line going s′

@@ -1,0 +1,98 @@
+// One turn of the program: what stands at the offset is read, carried out, and told in a line.
+ghost use Prim.Native.Nat.{_+_, _*_, _≤_};
+ghost use mathlib.Core.Path.{_≡_};
+ghost use mathlib.Core.Bool.{cond};
+ghost use lib.ListN.{length, take};
+ghost use lib.Seq.{sets};
+ghost use Rattle.promises.specs.Tables.{tables};
+ghost use Rattle.journal_calls.specs.Turns.{goesOn, state, Turned};
+use crate::commands::execute;
+use crate::lines::command_line;
+use crate::lines::symbols_after;
+use journal::commands::Step;
+use journal::lines::refusal_line;
+use journal::reading::read;
+
+// Settings, capacities or the count of thresholds are out of the limits.
+const LIMITS: u32 = 4;
+
+// Where a turn leaves the program: the offset reached, m, whether it goes on, and the length of the line to be written.
+pub struct Turn {
+    pub at: usize,
+    pub m: u8,
+    pub going: bool,
+    pub length: usize,
+}
+
+// After 4 it stops.
+fn goes_on(number: u32) -> bool
+    ensures { λ r. ⌜ r ≡ goesOn number ⌝ }
+{
+    number != LIMITS
+}
+
+// The offset behind a command that does not stop it.
+fn offset_after(going: bool, to: usize, at: usize) -> usize
+    ensures { λ r. ⌜ r ≡ cond going to at ⌝ }
+{
+    if going { to } else { at }
+}
+
+// One turn. The line is put at the beginning of a lent buffer.
+pub fn take_turn(
+    settings: &mut [u32],
+    nodes: &mut [u32],
+    pages: &mut [u32],
+    sketches: &mut [u8],
+    working: &mut [u32],
+    found: &mut [u16],
+    bytes: &[u8],
+    at: usize,
+    m: u8,
+    line: &mut [u8],
+) -> Turn
+    requires { ⌜ at ≤ 65536 ⌝ }
+    requires { ⌜ length (now found) ≤ 65535 ⌝ }
+    requires { ⌜ 24 + 11 * length (now found) ≤ length (now line) ⌝ }
+    ensures { λ r. ⌜ Turned (now (bytes .entry)) (state (tables (now (settings .entry)) (now (nodes .entry)) (now (pages .entry)) (now (sketches .entry)) (now (working .entry))) (now (found .entry)) at m) (take (r .length) (now (line .exit))) (r .going) (state (tables (now (settings .exit)) (now (nodes .exit)) (now (pages .exit)) (now (sketches .exit)) (now (working .exit))) (now (found .exit)) (r .at) (r .m)) ⌝ }
+    ensures { λ r. ⌜ now (line .exit) ≡ sets (now (line .entry)) 0 (take (r .length) (now (line .exit))) ⌝ }
+    ensures { λ r. ⌜ r .length ≤ length (now (line .exit)) ⌝ }
+{
+    let step = read(bytes, at, m);
+    match step {
+        Step::Taken(command, to) => {
+            let outcome = execute(
+                settings,
+                nodes,
+                pages,
+                sketches,
+                working,
+                found,
+                bytes,
+                m,
+                command,
+            );
+            let number = outcome.number;
+            let length = command_line(command, number, outcome.count, at as u32, found, line);
+            let going = goes_on(number);
+            Turn {
+                at: offset_after(going, to, at),
+                m: symbols_after(command, m),
+                going,
+                length,
+            }
+        }
+        Step::Refused(number) => Turn {
+            at,
+            m,
+            going: false,
+            length: refusal_line(at as u32, number, line),
+        },
+        Step::End => Turn {
+            at,
+            m,
+            going: false,
+            length: 0,
+        },
+    }
+}
