@@ -78,7 +78,9 @@ fn sketch(random: &mut Random, sketches: &Sketches) -> Vec<u8> {
 fn journal(random: &mut Random) -> Vec<u8> {
     let (mut bytes, b, m) = opening(random);
     let (b, m) = (b.clamp(1, 8), m.clamp(1, 64));
-    let centres = 1 + random.below(12) as usize;
+    // now and then sketches so unlike each other that the nodes run out
+    let wide = random.below(40) == 0;
+    let centres = if wide { 400 } else { 1 + random.below(12) as usize };
     let sketches = Sketches::new(random, b, m, centres);
     for (reader, group) in [(0, 1), (1, 2), (2, 1)] {
         bytes.extend([b'J', reader, group]);
@@ -86,8 +88,8 @@ fn journal(random: &mut Random) -> Vec<u8> {
     for class in 0..6 {
         bytes.extend([b'G', 1 + class % 2, class]);
     }
-    let pages = [4, 40, 520][random.below(3) as usize];
-    let length = if random.below(40) == 0 { 70_000 } else { 20 + random.below(4_000) as usize };
+    let pages = if wide { 520 } else { [4, 40, 520][random.below(3) as usize] };
+    let length = if wide || random.below(40) == 0 { 70_000 } else { 20 + random.below(4_000) as usize };
     while bytes.len() < length {
         command(random, &mut bytes, &sketches, pages);
         match random.below(3_000) {

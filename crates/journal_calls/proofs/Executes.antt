@@ -8,15 +8,15 @@ use native.Mathlib.Omega.{arith}
 use lib.Dec.{leb, eqb}
 use lib.ListN.{length, replicate}
 use borrow.Author.Tests.{leb-true, eqb-true, eqb-false}
-use Rattle.meaning.specs.Ledger.{Call, join, leave, grant, revoke}
+use Rattle.meaning.specs.Ledger.{join, leave, grant, revoke}
 use Rattle.meaning.specs.Journal.{opens, adds, drops, joins, leaves, grants, revokes, searches, callOf}
 use Rattle.promises.specs.Tables.{Tables, withSettings}
 use Rattle.promises.specs.Calls.{OpenPromise, RightsPromise, settingsGiven}
 use Rattle.store.specs.Calls.{AddPromise, DropPromise, SearchPromise, Lists, earlyNumber, listedOf}
-use Rattle.history.specs.Relation.{toStore, withOpening, withWorking, Registers}
+use Rattle.history.specs.Relation.{toStore, withOpening, withWorking}
 use Rattle.history.proofs.Lists.{passed}
 use Rattle.history.proofs.Contracts.{leftStore}
-use Rattle.journal_calls.specs.Turns.{answer, foundAfter, Executed}
+use Rattle.journal_calls.specs.Turns.{foundAfter, Executed}
 
 -- a call that gives a number alone
 module _ (T : Tables) (found : List ℕ) (r : ℕ) {n k : ℕ} (e : n ≡ r) (z : k ≡ 0) where

@@ -15,8 +15,8 @@ use Rattle.promises.specs.Tables.{Tables}
 use Rattle.history.specs.Relation.{Answer, Promised}
 use Rattle.history.specs.History.{History, event, Claim}
 use Rattle.history.proofs.Main.{theorem}
-use Rattle.journal_calls.specs.Turns.{State, state, made, goesOn, Carried, Turned, ends, refuses, carries}
-use Rattle.journal_calls.specs.Runs.{events, Run, begins, turns, opened, Roomy}
+use Rattle.journal_calls.specs.Turns.{State, state, made, goesOn, Carried, ends, refuses, carries}
+use Rattle.journal_calls.specs.Runs.{Run, begins, turns, opened, Roomy}
 use Rattle.journal_calls.proofs.Reading.{first-opens}
 use Rattle.journal_calls.proofs.Fits.{opens-or-4}
 use Rattle.journal_calls.proofs.Turns.{turn-none, turn-called, turn-begun}

@@ -2,11 +2,11 @@
 use Prim.Native.Nat.{ℕ, _+_, _≤_}
 use mathlib.Core.Path.{_≡_, refl, sym, ap, _∙_}
 use mathlib.Core.Bool.{Bool, false, cond}
-use mathlib.Core.List.{List, [], _++_}
+use mathlib.Core.List.{List, []}
 use native.Mathlib.Omega.{arith}
 use lib.ListN.{length, take, drop}
 use lib.Seq.{sets, sets-eq, length-sets, take-at}
-use Rattle.meaning.specs.Journal.{ended, refused, command-to, next, refusalLine}
+use Rattle.meaning.specs.Journal.{refusalLine}
 use Rattle.promises.specs.Tables.{Tables}
 use Rattle.journal.specs.Steps.{meant, told, Stepped}
 use Rattle.journal.specs.declared.commands.Command.{Command}

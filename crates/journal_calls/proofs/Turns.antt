@@ -1,12 +1,11 @@
 -- A turn is a step of a history, or none.
 use Prim.Native.Nat.{ℕ, _<_, _≤_}
-use mathlib.Core.Path.{_≡_, refl, sym, ap, _∙_}
+use mathlib.Core.Path.{_≡_, sym, ap, _∙_}
 use mathlib.Core.Bool.{Bool, true, false, cond, false≢true}
 use mathlib.Core.List.{List, [], _∷_}
-use native.Mathlib.Omega.{arith}
 use lib.ListN.{length}
 use Rattle.meaning.specs.Ledger.{Event}
-use Rattle.meaning.specs.Journal.{Command, opens, callOf, next, command-to}
+use Rattle.meaning.specs.Journal.{Command, opens, callOf}
 use Rattle.promises.specs.Tables.{Tables}
 use Rattle.history.specs.Relation.{Answer, Promised}
 use Rattle.history.specs.History.{History, begun, called, event}

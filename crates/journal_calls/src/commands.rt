@@ -14,9 +14,9 @@ use journal::commands::Command;
 use journal::commands::symbols_at;
 
 // The capacities of the program's tables.
-pub const PAGES: u32 = 512;
+const PAGES: u32 = 512;
 
-pub const NODES: u32 = 1024;
+const NODES: u32 = 1024;
 
 // What a command came to: the number of its refusal or 0, and the count of a search.
 pub struct Outcome {

@@ -1,5 +1,4 @@
 -- `symbols_after` gives m: I's, or as it was.
-use mathlib.Core.Path.{ap}
 use borrow.Author.Needs.{needs}
 use Rattle.journal.specs.Steps.{meant}
 use Rattle.journal_calls.specs.Turns.{symbolsAfter}
