@@ -34,7 +34,7 @@ fuzz: archives
 
 bench: archives
 	@$(CARGO) build --quiet $(TESTS) --bins
-	@for name in sketches tries search; do target/rust/release/bench_$$name | tee docs/bench/$$name.txt; done
+	@for name in sketches tries nodes search; do target/rust/release/bench_$$name | tee docs/bench/$$name.txt; done
 	@$(MAKE) --no-print-directory plot
 
 plot:
