@@ -1,4 +1,5 @@
-//! The header and the archive as a C program uses them: examples/server.c, without a warning and without an error under valgrind.
+//! The header and the archive as installed, and as a C program uses them: examples/server.c, without a warning and without an error
+//! under valgrind.
 use std::path::{Path, PathBuf};
 use std::process::Command;
 
@@ -22,15 +23,28 @@ fn done(command: &mut Command) -> String {
     String::from_utf8(output.stdout).unwrap()
 }
 
+/// What `make install` puts below a folder, by pkg-config's own file.
+fn installed() -> PathBuf {
+    let folder = Path::new(env!("CARGO_TARGET_TMPDIR")).join("installed");
+    done(Command::new("make").arg("--no-print-directory").arg("install").arg(format!("PREFIX={}", folder.display())).current_dir(root()));
+    assert!(folder.join("bin/vetchdawn").is_file());
+    let text = std::fs::read_to_string(folder.join("lib/pkgconfig/vetchdawn.pc")).unwrap();
+    assert!(text.contains(&format!("prefix={}\n", folder.display())) && text.contains("-lvetchdawn"));
+    folder
+}
+
 #[test]
 fn server_in_c() {
+    let folder = installed();
     let built = Path::new(env!("CARGO_TARGET_TMPDIR")).join("server");
     done(
         Command::new("cc")
             .args(["-std=c99", "-pedantic", "-O2", "-Wall", "-Wextra", "-Werror", "-I"])
-            .arg(root().join("include"))
+            .arg(folder.join("include"))
             .arg(root().join("examples/server.c"))
-            .arg(root().join("target/staticlib/libvetchdawn.a"))
+            .arg("-L")
+            .arg(folder.join("lib"))
+            .arg("-lvetchdawn")
             .arg("-o")
             .arg(&built),
     );
