@@ -7,23 +7,28 @@ JOURNAL = crates/vetchdawn/stdin
 .PHONY: run test program archives check-rust fuzz bench plot install
 
 run: program
-	@target/bin/vetchdawn < $(JOURNAL)
+	@$(PROGRAM) < $(JOURNAL)
 
 test:
 	@.ci/run
 
-program:
+SOURCES := crates.txt $(shell find crates -name '*.rt' -o -name '*.antt')
+PROGRAM = target/bin/vetchdawn
+program: $(PROGRAM)
+$(PROGRAM): $(SOURCES)
 	@mkdir -p target
 	@rt check vetchdawn > target/program.log 2>&1 || { cat target/program.log; exit 1; }
+	@touch $@
 
 # what the proved crates offer to C, each as an archive, and all of it in one
 ARCHIVES = sketch journal capi
 LIBRARY = target/staticlib/libvetchdawn.a
-archives:
+archives: $(LIBRARY)
+$(LIBRARY): $(SOURCES)
 	@mkdir -p target
 	@for name in $(ARCHIVES); do rt staticlib $$name > target/staticlib.log 2>&1 || { cat target/staticlib.log; exit 1; }; done
-	@rm -f $(LIBRARY)
-	@{ echo create $(LIBRARY); for name in $(ARCHIVES); do echo addlib target/staticlib/lib$$name.a; done; echo save; } | ar -M
+	@rm -f $@
+	@{ echo create $@; for name in $(ARCHIVES); do echo addlib target/staticlib/lib$$name.a; done; echo save; } | ar -M
 
 check-rust: program archives
 	@$(CARGO) test $(TESTS)
@@ -42,7 +47,7 @@ plot:
 
 install: program archives
 	@install -d $(DESTDIR)$(PREFIX)/bin $(DESTDIR)$(PREFIX)/include $(DESTDIR)$(PREFIX)/lib/pkgconfig
-	@install -m 755 target/bin/vetchdawn $(DESTDIR)$(PREFIX)/bin/
+	@install -m 755 $(PROGRAM) $(DESTDIR)$(PREFIX)/bin/
 	@install -m 644 include/vetchdawn.h $(DESTDIR)$(PREFIX)/include/
 	@install -m 644 $(LIBRARY) $(DESTDIR)$(PREFIX)/lib/
 	@sed 's|@PREFIX@|$(PREFIX)|' vetchdawn.pc.in > $(DESTDIR)$(PREFIX)/lib/pkgconfig/vetchdawn.pc
