@@ -169,3 +169,41 @@ fn form_of_a_command() {
     }
     assert!(numbers.iter().all(|&n| n > 5_000), "{numbers:?}");
 }
+
+/// An opening with b 2, m 4, q 2 and threshold 1.
+const OPEN: [u8; 6] = [b'I', 2, 4, 2, 1, 0];
+
+#[test]
+fn stored_examples() {
+    let after = |rest: &[u8]| [&OPEN[..], rest].concat();
+    let cases: Vec<(Vec<u8>, &str)> = vec![
+        (vec![], "Z 0\n"),
+        // 1, 2 and 3 stop the program where the command stands
+        (vec![b'T'], "E 0 1\nZ 0\n"),
+        (vec![b'J', 1, 1], "E 0 2\nZ 0\n"),
+        (vec![b'J'], "E 0 2\nZ 0\n"),
+        (OPEN[..5].to_vec(), "E 0 3\nZ 0\n"),
+        (OPEN.to_vec(), "Z 6\n"),
+        (after(b"I"), "E 6 2\nZ 6\n"),
+        (after(&OPEN), "E 6 2\nZ 6\n"),
+        (after(&[0, b'J', 1, 1]), "E 6 1\nZ 6\n"),
+        (after(&[b'A', 1, 0, 3, 0, 1, 2]), "E 6 3\nZ 6\n"),
+        // 4 too; 7 and up do not
+        (vec![b'I', 9, 4, 2, 1, 0, b'J', 1, 1], "E 0 4\nZ 0\n"),
+        (vec![b'I', 2, 4, 5, 1, 0], "E 0 4\nZ 0\n"),
+        (after(&[b'J', 1, 32, b'J', 1, 31]), "E 6 7\nZ 12\n"),
+        (after(&[b'D', 0, 2, b'D', 255, 1]), "E 6 8\nE 9 9\nZ 12\n"),
+        (after(&[b'A', 1, 0, 64, 0, 1, 2, 3]), "E 6 7\nZ 14\n"),
+        (after(&[b'A', 1, 0, 3, 0, 1, 2, 4]), "E 6 11\nZ 14\n"),
+        (after(&[b'A', 1, 0, 3, 0, 1, 2, 3, b'A', 1, 0, 3, 0, 1, 2, 3]), "E 14 9\nZ 22\n"),
+        (after(&[b'S', 0, 65, 0, 1, 2, 3]), "E 6 7\nZ 13\n"),
+        (after(&[b'S', 255, 64, 0, 1, 2, 3]), "S 255 0\nZ 13\n"),
+        // block distances 1 and 2 are within radius 3; a page added, closed and opened again
+        (after(&[b'J', 0, 0, b'G', 0, 9, b'A', 0, 1, 9, 1, 1, 0, 0, b'S', 0, 3, 0, 1, 1, 1]), "S 0 1 256\nZ 27\n"),
+        (after(&[b'J', 0, 0, b'G', 0, 9, b'A', 0, 1, 9, 1, 0, 0, 0, b'S', 0, 3, 0, 1, 1, 1]), "S 0 0\nZ 27\n"),
+    ];
+    for (bytes, want) in cases {
+        assert_eq!(printed(&bytes), want, "{bytes:?}");
+        assert_eq!(run(&bytes), want, "{bytes:?}");
+    }
+}
