@@ -1,7 +1,7 @@
 -- The walk over one block's trie, on tables that hold a sound one: it marks exactly what is met, all of it below the page capacity.
 use Prim.Native.Nat.{ℕ, suc, _+_, _-_, _*_, _^_, _≤_, _<_}
 use native.Mathlib.Omega.{arith}
-use mathlib.Core.Path.{_≡_, refl, _∙_}
+use mathlib.Core.Path.{_≡_, refl, ap, _∙_}
 use mathlib.Core.Bool.{Bool, true, false, cond}
 use mathlib.Core.List.{List, [], _∷_, _++_}
 use lib.Dec.{ltb, leb}
@@ -17,8 +17,11 @@ use Rattle.trie.specs.Phys.{Phys, leafP, innerP, Buckets, end, bucket, Chain, s
 use Rattle.trie_laws.specs.Sound.{soundTrie}
 use Rattle.walk.specs.Mark.{markAll}
 use Rattle.walk.specs.Walk.{Given, walked, walkFrom}
+use Rattle.walk_laws.specs.Near.{near, nearNodes}
+use Rattle.walk_laws.specs.Trail.{trailFrom}
 use Rattle.walk_laws.proofs.Fit.{fit}
-use Rattle.walk_laws.proofs.Right.{right, steps-nodes}
+use Rattle.walk_laws.proofs.Near.{near-count}
+use Rattle.walk_laws.proofs.Right.{right, right-trail, steps-nodes}
 
 -- ---- on tables that hold a sound trie
 pub walk-right : (w : Given) (bytesOf : ℕ → List ℕ) (n : ℕ) (t : Phys) (radius : ℕ) (map : List ℕ) → w .cap ≤ 262144
@@ -30,6 +33,26 @@ pub walk-right : (w : Given) (bytesOf : ℕ → List ℕ) (n : ℕ) (t : Phys) (
 walk-right w bytesOf n t radius map small query h s sound few pages =
     right w small query t radius map h s (fit bytesOf (w .b) n (length (w .bytes)) t 0 sound)
     (omega (arith, steps-nodes (w .cap) (w .pcap) t s)) pages
+
+-- it goes through exactly the nodes whose path is within the radius
+pub walk-trail : (w : Given) (bytesOf : ℕ → List ℕ) (n : ℕ) (t : Phys) (radius : ℕ) (map : List ℕ) → w .cap ≤ 262144
+    → ((k : ℕ) → getD (w .bytes) k 0 < 2 ^ (w .b * perByte (w .b)))
+    → Holds (cells (w .cap) (w .next) t) (w .nodes) (w .pages) → Sound (w .cap) (w .pcap) t
+    → soundTrie bytesOf (w .b) n (length (w .bytes)) 0 (tree t) ≡ true
+    → nodes (tree t) ≤ w .cap → length (met (w .b) radius (tree t) (w .bytes)) ≤ w .pcap
+    → trailFrom w (root t) radius map ≡ near (w .b) radius t (w .bytes)
+walk-trail w bytesOf n t radius map small query h s sound few pages =
+    right-trail w small query t radius map h s (fit bytesOf (w .b) n (length (w .bytes)) t 0 sound)
+    (omega (arith, steps-nodes (w .cap) (w .pcap) t s)) pages
+
+pub walk-count : (w : Given) (bytesOf : ℕ → List ℕ) (n : ℕ) (t : Phys) (radius : ℕ) (map : List ℕ) → w .cap ≤ 262144
+    → ((k : ℕ) → getD (w .bytes) k 0 < 2 ^ (w .b * perByte (w .b)))
+    → Holds (cells (w .cap) (w .next) t) (w .nodes) (w .pages) → Sound (w .cap) (w .pcap) t
+    → soundTrie bytesOf (w .b) n (length (w .bytes)) 0 (tree t) ≡ true
+    → nodes (tree t) ≤ w .cap → length (met (w .b) radius (tree t) (w .bytes)) ≤ w .pcap
+    → length (trailFrom w (root t) radius map) ≡ nearNodes (w .b) radius (tree t) (w .bytes)
+walk-count w bytesOf n t radius map small query h s sound few pages =
+    ap length (walk-trail w bytesOf n t radius map small query h s sound few pages) ∙ near-count (w .b) t radius (w .bytes)
 
 -- what is met is below the page capacity
 pub below-all : (pcap : ℕ) (ps : List ℕ) → Below pcap ps → all (λ p. ltb p pcap) ps ≡ true
