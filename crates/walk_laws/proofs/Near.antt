@@ -1,25 +1,26 @@
--- The nodes within a radius: how many they are, by their paths, and at most one a level at radius 0.
+-- The nodes within a radius: how many they are, by their paths, of which each stands once, and at most one a level at radius 0.
 use Prim.Native.Nat.{ℕ, suc, _+_, _-_, _*_, _^_, _≤_, _<_}
 use native.Mathlib.Omega.{arith}
 use native.Mathlib.Decide.{ℕ-discrete}
 use mathlib.Core.Path.{_≡_, refl, sym, ap, ap₂, _∙_}
-use mathlib.Core.Bool.{Bool, true, false, cond}
+use mathlib.Core.Bool.{Bool, true, false, cond, _&&_}
 use mathlib.Core.List.{List, [], _∷_, _++_, map}
-use lib.Dec.{leb}
+use lib.Dec.{eqb, leb}
 use lib.Bits.{bitXor}
-use lib.ListN.{length, getD, take, length-append}
-use borrow.Author.Tests.{leb-true, leb-false, le-leb, lt-leb}
+use lib.ListN.{length, getD, take, length-append, length-map}
+use borrow.Author.Tests.{leb-true, leb-false, le-leb, lt-leb, ne-eqb}
 use Rattle.meaning.specs.Lists.{count}
 use Rattle.meaning.specs.Sketch.{perByte, byteDistance}
-use Rattle.meaning.specs.Trie.{Tree, leaf, inner, Children, none, child}
+use Rattle.meaning.specs.Trie.{Tree, leaf, inner, Children, none, child, nodes, nodesIn}
 use Rattle.meaning.proofs.Lists.{count-append}
 use Rattle.sketch_laws.specs.Packed.{sumPairs, packedDistance}
 use Rattle.sketch_laws.specs.Paths.{Shallow, ShallowUnder}
 use Rattle.trie.specs.Phys.{Phys, leafP, innerP, Buckets, end, bucket, Chain, stop, link, tree, kids, kidsC}
 use Rattle.trie_laws.specs.Sound.{soundTrie, soundFrom}
-use Rattle.trie_laws.proofs.Lists.{count-none}
+use Rattle.trie_laws.specs.Path.{has, kid, hasBelow, below, hasPath}
+use Rattle.trie_laws.proofs.Lists.{less, same, more, compared, count-none}
 use Rattle.trie_laws.proofs.Sound.{SoundChild, inner-parts, child-parts}
-use Rattle.walk_laws.specs.Near.{near, nearB, nearC, nearNodes, nearNodesIn, pathsIn, pathsAmong, pathNear}
+use Rattle.walk_laws.specs.Near.{near, nearB, nearC, nearNodes, nearNodesIn, pathsIn, pathsAmong, pathNear, samePath}
 use Rattle.walk_laws.proofs.Apart.{counted, apart}
 use Rattle.walk_laws.proofs.Fit.{packable-below}
 
@@ -58,6 +59,25 @@ module _ (b : ℕ) where
           cond-length (leb d r) (near b (r - d) t ys) (nearNodes b (r - d) (tree t) ys) (near-count t (r - d) ys),
           count-chain ch cs r (y ∷ ys),
         )
+
+  -- at most all
+  cond-le : (q : Bool) (m n : ℕ) → m ≤ n → cond q m 0 ≤ n
+  cond-le true m n l = l
+  cond-le false m n l = omega arith
+
+  mutual
+    unfolding nearNodes nearNodesIn nodes nodesIn
+
+    pub near-le : (t : Tree) (r : ℕ) (ys : List ℕ) → nearNodes b r t ys ≤ nodes t
+    near-le (leaf ps) r ys = omega arith
+    near-le (inner cs) r ys = omega (arith, near-le-in cs r ys)
+
+    near-le-in : (cs : Children) (r : ℕ) (ys : List ℕ) → nearNodesIn b r cs ys ≤ nodesIn cs
+    near-le-in none r ys = omega arith
+    near-le-in (child c t cs) r [] = omega arith
+    near-le-in (child c t cs) r (y ∷ ys) =
+        let d : ℕ = byteDistance b (bitXor c y) in
+        omega (arith, cond-le (leb d r) (nearNodes b (r - d) t ys) (nodes t) (near-le t (r - d) ys), near-le-in cs r (y ∷ ys))
 
 -- ---- by their paths
 count-map : {A B : Type 0} (p : B → Bool) (q : A → Bool) (f : A → B) → ((x : A) → p (f x) ≡ q x) → (xs : List A) → count p (map f xs) ≡ count q xs
@@ -123,6 +143,91 @@ module _ (b : ℕ) where
   -- they are exactly those whose path is within r of the query's bytes on it
   pub near-path : (t : Tree) (r : ℕ) (ys : List ℕ) → Shallow (length ys) 0 t → nearNodes b r t ys ≡ count (pathNear b r ys) (pathsIn t)
   near-path t r ys s = paths-at t (length ys) 0 r ys (omega arith) s
+
+-- ---- the paths: one for each node, in a sound trie each once
+mutual
+  unfolding pathsIn pathsAmong nodes nodesIn
+
+  pub paths-nodes : (t : Tree) → length (pathsIn t) ≡ nodes t
+  paths-nodes (leaf ps) = refl
+  paths-nodes (inner cs) = ap suc (paths-among cs)
+
+  paths-among : (cs : Children) → length (pathsAmong cs) ≡ nodesIn cs
+  paths-among none = refl
+  paths-among (child c t cs) =
+      omega
+      (arith, length-append (map (λ zs. c ∷ zs) (pathsIn t)) (pathsAmong cs), length-map (pathsIn t) (λ (zs : List ℕ). c ∷ zs), paths-nodes t, paths-among cs)
+
+head-paths : (z c : ℕ) (zs : List ℕ) (ps : List (List ℕ))
+    → count (samePath (z ∷ zs)) (map (λ xs. c ∷ xs) ps) ≡ cond (eqb z c) (count (samePath zs) ps) 0
+unfolding samePath
+head-paths z c zs ps = go (eqb z c) refl
+  where
+    go : (q : Bool) → eqb z c ≡ q → count (samePath (z ∷ zs)) (map (λ xs. c ∷ xs) ps) ≡ cond q (count (samePath zs) ps) 0
+    go true e = count-map (samePath (z ∷ zs)) (samePath zs) (λ xs. c ∷ xs) (λ xs. rw e refl) ps
+    go false e =
+        count-map (samePath (z ∷ zs)) (λ xs. false) (λ xs. c ∷ xs) (λ xs. rw e refl) ps ∙ count-none (λ xs. false) ps (λ xs. refl)
+
+-- a child's path is not the root's
+none-empty : (cs : Children) → count (samePath []) (pathsAmong cs) ≡ 0
+unfolding pathsAmong samePath count
+none-empty none = refl
+none-empty (child c t cs) =
+    omega (
+      arith,
+      count-append (samePath []) (map (λ zs. c ∷ zs) (pathsIn t)) (pathsAmong cs),
+      count-map (samePath []) (λ xs. false) (λ xs. c ∷ xs) (λ xs. refl) (pathsIn t),
+      count-none (λ (xs : List ℕ). false) (pathsIn t) (λ xs. refl),
+      none-empty cs,
+    )
+
+split-paths : (z c : ℕ) (zs : List ℕ) (t : Tree) (cs : Children)
+    → count (samePath (z ∷ zs)) (pathsAmong (child c t cs)) ≡ cond (eqb z c) (count (samePath zs) (pathsIn t)) 0 + count (samePath (z ∷ zs)) (pathsAmong cs)
+unfolding pathsAmong
+split-paths z c zs t cs =
+    count-append (samePath (z ∷ zs)) (map (λ xs. c ∷ xs) (pathsIn t)) (pathsAmong cs)
+    ∙ ap (λ m. m + count (samePath (z ∷ zs)) (pathsAmong cs)) (head-paths z c zs (pathsIn t))
+
+module _ (bytesOf : ℕ → List ℕ) (b n len : ℕ) where
+  once-past : (cs : Children) (k lo z : ℕ) (zs : List ℕ) → soundFrom bytesOf b n len k lo cs ≡ true → z < lo
+      → count (samePath (z ∷ zs)) (pathsAmong cs) ≡ 0
+  unfolding pathsAmong count
+  once-past none k lo z zs h l = refl
+  once-past (child c t cs) k lo z zs h l =
+      let s = child-parts bytesOf b n len k lo c t cs h in
+      let up : lo ≤ c = s .rising in
+      split-paths z c zs t cs
+      ∙ rw (ne-eqb z c (omega arith)) (omega (arith, once-past cs k (suc c) z zs (s .rest) (omega arith)))
+
+  once-child : (c : ℕ) (t : Tree) (cs : Children) (k z : ℕ) (zs : List ℕ) → soundFrom bytesOf b n len k (suc c) cs ≡ true
+      → count (samePath zs) (pathsIn t) ≡ cond (hasPath zs t) 1 0
+      → count (samePath (z ∷ zs)) (pathsAmong cs) ≡ cond (has z cs && hasPath zs (kid z cs)) 1 0
+      → count (samePath (z ∷ zs)) (pathsAmong (child c t cs)) ≡ cond (has z (child c t cs) && hasPath zs (kid z (child c t cs))) 1 0
+  unfolding has kid
+  once-child c t cs k z zs s here rest =
+      split-paths z c zs t cs
+      ∙ elim (compared z c) [
+        | less l q ↦ rw (q .eq, q .gt, q .qe) (omega (arith, once-past cs k (suc c) z zs s (omega arith)))
+        | same l q ↦ rw (q .eq, q .gt, q .qe) (omega (arith, here, once-past cs k (suc c) z zs s (omega arith)))
+        | more l q ↦ rw (q .eq, q .gt) (omega (arith, rest))
+      ]
+
+  mutual
+    unfolding pathsIn pathsAmong samePath count hasPath hasBelow below has kid
+
+    pub paths-once : (t : Tree) (k : ℕ) (zs : List ℕ) → soundTrie bytesOf b n len k t ≡ true
+        → count (samePath zs) (pathsIn t) ≡ cond (hasPath zs t) 1 0
+    paths-once (leaf ps) k [] h = refl
+    paths-once (leaf ps) k (z ∷ zs) h = refl
+    paths-once (inner cs) k [] h = omega (arith, none-empty cs)
+    paths-once (inner cs) k (z ∷ zs) h = omega (arith, once-among cs k 0 z zs (inner-parts bytesOf b n len k cs h .kids))
+
+    once-among : (cs : Children) (k lo z : ℕ) (zs : List ℕ) → soundFrom bytesOf b n len k lo cs ≡ true
+        → count (samePath (z ∷ zs)) (pathsAmong cs) ≡ cond (has z cs && hasPath zs (kid z cs)) 1 0
+    once-among none k lo z zs h = refl
+    once-among (child c t cs) k lo z zs h =
+        let s = child-parts bytesOf b n len k lo c t cs h in
+        once-child c t cs k z zs (s .rest) (paths-once t (suc k) zs (s .here .sub)) (once-among cs k (suc c) z zs (s .rest))
 
 -- ---- at radius 0
 module _ (bytesOf : ℕ → List ℕ) (b n len : ℕ) where

@@ -20,7 +20,7 @@ use Rattle.walk.specs.Walk.{Given, walked, walkFrom}
 use Rattle.walk_laws.specs.Near.{near, nearNodes}
 use Rattle.walk_laws.specs.Trail.{trailFrom}
 use Rattle.walk_laws.proofs.Fit.{fit}
-use Rattle.walk_laws.proofs.Near.{near-count}
+use Rattle.walk_laws.proofs.Near.{near-count, near-zero}
 use Rattle.walk_laws.proofs.Right.{right, right-trail, steps-nodes}
 
 -- ---- on tables that hold a sound trie
@@ -53,6 +53,20 @@ pub walk-count : (w : Given) (bytesOf : ℕ → List ℕ) (n : ℕ) (t : Phys) (
     → length (trailFrom w (root t) radius map) ≡ nearNodes (w .b) radius (tree t) (w .bytes)
 walk-count w bytesOf n t radius map small query h s sound few pages =
     ap length (walk-trail w bytesOf n t radius map small query h s sound few pages) ∙ near-count (w .b) t radius (w .bytes)
+
+-- at radius 0 at most the packed length and the root
+pub walk-zero : (w : Given) (bytesOf : ℕ → List ℕ) (n : ℕ) (t : Phys) (map : List ℕ) → w .cap ≤ 262144
+    → ((k : ℕ) → getD (w .bytes) k 0 < 2 ^ (w .b * perByte (w .b)))
+    → Holds (cells (w .cap) (w .next) t) (w .nodes) (w .pages) → Sound (w .cap) (w .pcap) t
+    → soundTrie bytesOf (w .b) n (length (w .bytes)) 0 (tree t) ≡ true
+    → nodes (tree t) ≤ w .cap → length (met (w .b) 0 (tree t) (w .bytes)) ≤ w .pcap
+    → length (trailFrom w (root t) 0 map) ≤ length (w .bytes) + 1
+walk-zero w bytesOf n t map small query h s sound few pages =
+    omega (
+      arith,
+      walk-count w bytesOf n t 0 map small query h s sound few pages,
+      near-zero bytesOf (w .b) n (length (w .bytes)) (tree t) 0 (w .bytes) query sound,
+    )
 
 -- what is met is below the page capacity
 pub below-all : (pcap : ℕ) (ps : List ℕ) → Below pcap ps → all (λ p. ltb p pcap) ps ≡ true

@@ -1,8 +1,8 @@
 -- The nodes of a trie whose path is within a radius of the query's bytes.
 use Prim.Native.Nat.{ℕ, suc, _+_, _-_}
-use mathlib.Core.Bool.{Bool, cond}
+use mathlib.Core.Bool.{Bool, true, false, cond, _&&_}
 use mathlib.Core.List.{List, [], _∷_, _++_, map}
-use lib.Dec.{leb}
+use lib.Dec.{leb, eqb}
 use lib.Bits.{bitXor}
 use lib.ListN.{length, take}
 use Rattle.meaning.specs.Sketch.{byteDistance}
@@ -51,3 +51,10 @@ unfoldable mutual
 -- the path zs differs from the query's symbols on it in at most r
 abbrev pub pathNear : ℕ → ℕ → List ℕ → List ℕ → Bool
 pathNear b r ys zs = leb (packedDistance b zs (take (length zs) ys)) r
+
+-- two paths are the same
+unfoldable pub samePath : List ℕ → List ℕ → Bool
+samePath [] [] = true
+samePath [] (z ∷ zs) = false
+samePath (y ∷ ys) [] = false
+samePath (y ∷ ys) (z ∷ zs) = eqb y z && samePath ys zs
