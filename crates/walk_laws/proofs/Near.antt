@@ -2,9 +2,9 @@
 use Prim.Native.Nat.{ℕ, suc, _+_, _-_, _*_, _^_, _≤_, _<_}
 use native.Mathlib.Omega.{arith}
 use native.Mathlib.Decide.{ℕ-discrete}
-use mathlib.Core.Path.{_≡_, refl, sym, ap, ap₂, _∙_}
+use mathlib.Core.Path.{_≡_, refl, ap, ap₂, _∙_}
 use mathlib.Core.Bool.{Bool, true, false, cond, _&&_}
-use mathlib.Core.List.{List, [], _∷_, _++_, map}
+use mathlib.Core.List.{List, [], _∷_, map}
 use lib.Dec.{eqb, leb}
 use lib.Bits.{bitXor}
 use lib.ListN.{length, getD, take, length-append, length-map}
@@ -14,7 +14,6 @@ use Rattle.meaning.specs.Sketch.{perByte, byteDistance}
 use Rattle.meaning.specs.Trie.{Tree, leaf, inner, Children, none, child, nodes, nodesIn}
 use Rattle.meaning.proofs.Lists.{count-append}
 use Rattle.sketch_laws.specs.Packed.{sumPairs, packedDistance}
-use Rattle.sketch_laws.specs.Paths.{Shallow, ShallowUnder}
 use Rattle.trie.specs.Phys.{Phys, leafP, innerP, Buckets, end, bucket, Chain, stop, link, tree, kids, kidsC}
 use Rattle.trie_laws.specs.Sound.{soundTrie, soundFrom}
 use Rattle.trie_laws.specs.Path.{has, kid, hasBelow, below, hasPath}
@@ -117,32 +116,36 @@ module _ (b : ℕ) where
   unfolding packedDistance sumPairs
   root-near r ys = le-leb 0 r (omega arith)
 
+module _ (bytesOf : ℕ → List ℕ) (b n len : ℕ) where
   mutual
     unfolding nearNodes nearNodesIn pathsIn pathsAmong count
 
-    paths-at : (t : Tree) (len k r : ℕ) (ys : List ℕ) → k + length ys ≡ len → Shallow len k t
+    paths-at : (t : Tree) (k r : ℕ) (ys : List ℕ) → k + length ys ≡ len → soundTrie bytesOf b n len k t ≡ true
         → nearNodes b r t ys ≡ count (pathNear b r ys) (pathsIn t)
-    paths-at (leaf ps) len k r ys e s = omega (arith, counted (pathNear b r ys []) (root-near r ys))
-    paths-at (inner cs) len k r ys e s =
-        omega (arith, counted (pathNear b r ys []) (root-near r ys), paths-under cs len k r ys e (s .0) (s .1))
+    paths-at (leaf ps) k r ys e h = omega (arith, counted (pathNear b r ys []) (root-near b r ys))
+    paths-at (inner cs) k r ys e h =
+        let s = inner-parts bytesOf b n len k cs h in
+        omega (arith, counted (pathNear b r ys []) (root-near b r ys), paths-under cs k 0 r ys e (s .level) (s .kids))
 
-    paths-under : (cs : Children) (len k r : ℕ) (ys : List ℕ) → k + length ys ≡ len → k < len → ShallowUnder len k cs
+    paths-under : (cs : Children) (k lo r : ℕ) (ys : List ℕ) → k + length ys ≡ len → k < len → soundFrom bytesOf b n len k lo cs ≡ true
         → nearNodesIn b r cs ys ≡ count (pathNear b r ys) (pathsAmong cs)
-    paths-under none len k r ys e l s = refl
-    paths-under (child c t cs) len k r [] e l s = absurd (omega arith)
-    paths-under (child c t cs) len k r (y ∷ ys) e l s =
+    paths-under none k lo r ys e l h = refl
+    paths-under (child c t cs) k lo r [] e l h = absurd (omega arith)
+    paths-under (child c t cs) k lo r (y ∷ ys) e l h =
         let d : ℕ = byteDistance b (bitXor c y) in
+        let s = child-parts bytesOf b n len k lo c t cs h in
         omega (
           arith,
           count-append (pathNear b r (y ∷ ys)) (map (λ zs. c ∷ zs) (pathsIn t)) (pathsAmong cs),
-          child-paths c y r ys (pathsIn t),
-          ap (λ n. cond (leb d r) n 0) (paths-at t len (suc k) (r - d) ys (omega arith) (s .0)),
-          paths-under cs len k r (y ∷ ys) e l (s .1),
+          child-paths b c y r ys (pathsIn t),
+          ap (λ m. cond (leb d r) m 0) (paths-at t (suc k) (r - d) ys (omega arith) (s .here .sub)),
+          paths-under cs k (suc c) r (y ∷ ys) e l (s .rest),
         )
 
-  -- they are exactly those whose path is within r of the query's bytes on it
-  pub near-path : (t : Tree) (r : ℕ) (ys : List ℕ) → Shallow (length ys) 0 t → nearNodes b r t ys ≡ count (pathNear b r ys) (pathsIn t)
-  near-path t r ys s = paths-at t (length ys) 0 r ys (omega arith) s
+-- they are exactly those whose path is within r of the query's bytes on it
+pub near-path : (bytesOf : ℕ → List ℕ) (b n : ℕ) (t : Tree) (r : ℕ) (ys : List ℕ) → soundTrie bytesOf b n (length ys) 0 t ≡ true
+    → nearNodes b r t ys ≡ count (pathNear b r ys) (pathsIn t)
+near-path bytesOf b n t r ys h = paths-at bytesOf b n (length ys) t 0 r ys (omega arith) h
 
 -- ---- the paths: one for each node, in a sound trie each once
 mutual
