@@ -15,7 +15,7 @@ use Rattle.sketch_laws.proofs.Lists.{count-suc}
 use Rattle.sketch_laws.proofs.ByteDistance.{byte-distance}
 use Rattle.sketch_laws.proofs.Packing.{byte-groups}
 
-counted : (t : Bool) → t ≡ true → _≡_ {A = ℕ} (cond t 1 0) 1
+pub counted : (t : Bool) → t ≡ true → _≡_ {A = ℕ} (cond t 1 0) 1
 counted true e = refl
 counted false e = absurd (false≢true e)
 

@@ -1,5 +1,5 @@
 -- An example: two leaves below a root, at distances 2 and 0 from the query's byte. So what the law asks can be met.
-use Prim.Native.Nat.{ℕ, zero, suc, _*_, _^_, _<_}
+use Prim.Native.Nat.{ℕ, zero, suc, _+_, _*_, _^_, _<_}
 use native.Mathlib.Omega.{arith}
 use mathlib.Core.Path.{_≡_, refl, ap, _∙_}
 use mathlib.Core.Bool.{true}
@@ -12,8 +12,10 @@ use Rattle.trie.specs.Heap.{Holds}
 use Rattle.trie.specs.Phys.{Phys, leafP, innerP, end, bucket, stop, link, tree, cells, noHeads, Sound}
 use Rattle.walk.specs.Walk.{Given, given, walked, walkFrom}
 use Rattle.walk.specs.Mark.{markAll}
+use Rattle.walk_laws.specs.Near.{near, nearB, nearC, nearNodes, nearNodesIn, pathsIn, pathsAmong}
+use Rattle.walk_laws.specs.Trail.{trailFrom}
 use Rattle.walk_laws.proofs.Fit.{Fit}
-use Rattle.walk_laws.proofs.Right.{right}
+use Rattle.walk_laws.proofs.Right.{right, right-trail}
 
 abbrev nodeTable : List ℕ
 nodeTable =
@@ -74,3 +76,27 @@ example map =
 pub example-near : (map : List ℕ) → walkFrom w 0 1 map ≡ walked (markAll map 1 (7 ∷ [])) true
 example-near map =
     right w (omega arith) query t 1 map holds sound fits (omega arith) (rw met-one (omega arith)) ∙ ap (λ ps. walked (markAll map 1 ps) true) met-one
+
+-- ---- the nodes gone through: the root and both leaves within 2, without the first leaf within 1
+near-two : near 2 2 t (228 ∷ []) ≡ 0 ∷ 1 ∷ 2 ∷ []
+unfolding near nearB nearC byteDistance count upto from perByte group
+near-two = refl
+
+near-one : near 2 1 t (228 ∷ []) ≡ 0 ∷ 2 ∷ []
+unfolding near nearB nearC byteDistance count upto from perByte group
+near-one = refl
+
+pub example-trail : (map : List ℕ) → trailFrom w 0 2 map ≡ 0 ∷ 1 ∷ 2 ∷ []
+example-trail map = right-trail w (omega arith) query t 2 map holds sound fits (omega arith) (rw met-two (omega arith)) ∙ near-two
+
+pub example-trail-near : (map : List ℕ) → trailFrom w 0 1 map ≡ 0 ∷ 2 ∷ []
+example-trail-near map = right-trail w (omega arith) query t 1 map holds sound fits (omega arith) (rw met-one (omega arith)) ∙ near-one
+
+-- their paths; at radius 0 the packed length and the root
+paths : pathsIn (tree t) ≡ [] ∷ (180 ∷ []) ∷ (228 ∷ []) ∷ []
+unfolding pathsIn pathsAmong
+paths = refl
+
+most : nearNodes 2 0 (tree t) (228 ∷ []) ≡ 1 + 1
+unfolding nearNodes nearNodesIn byteDistance count upto from perByte group
+most = refl

@@ -15,6 +15,7 @@ use Rattle.trie.specs.Phys.{Phys, leafP, innerP, Buckets, end, bucket, Chain, s
 use Rattle.trie_laws.specs.Sound.{soundTrie, soundFrom}
 use Rattle.trie_laws.proofs.Sound.{inner-parts, child-parts}
 use Rattle.sketch_laws.proofs.Packing.{per-byte-le}
+use Rattle.walk_laws.specs.Near.{nearB, nearC}
 use Rattle.walk_laws.proofs.Apart.{apart}
 use Rattle.walk_laws.proofs.Chains.{met-chain}
 
@@ -88,3 +89,19 @@ module _ (cap pcap b len y : ℕ) (ys : List ℕ) (query : y < 2 ^ (b * perByte 
       met-chain b 0 y ys ch (kids bs)
       ∙ rw (unmet ch (32 * g) (32 * g + 32) k (s .0) (f .0) (λ c u v e. absurd (omega arith)))
       (unmet-past bs (suc g) k (s .1) (f .1) (omega arith))
+
+  -- nor does the walk go there
+  pub none-near : (ch : Chain) (lo hi k : ℕ) → SoundC cap pcap ch lo hi → FitC b len ch k → ((c : ℕ) → lo ≤ c → c < hi → c ≢ y)
+      → nearC b 0 ch (y ∷ ys) ≡ []
+  unfolding nearC
+  none-near stop lo hi k s f away = refl
+  none-near (link c t ch) lo hi k s f away =
+      rw (lt-leb (byteDistance b (bitXor c y)) 0 (apart b c y (f .0) query (away c (s .0) (s .1))))
+      (none-near ch (suc c) hi k (s .3) (f .2) (λ e l m. away e (omega (arith, s .0)) m))
+
+  pub none-near-past : (bs : Buckets) (g k : ℕ) → SoundB cap pcap bs g → FitB b len bs k → y < 32 * g → nearB b 0 bs (y ∷ ys) ≡ []
+  unfolding nearB
+  none-near-past end g k s f l = refl
+  none-near-past (bucket ch bs) g k s f l =
+      rw (none-near ch (32 * g) (32 * g + 32) k (s .0) (f .0) (λ c u v e. absurd (omega arith)))
+      (none-near-past bs (suc g) k (s .1) (f .1) (omega arith))

@@ -3,6 +3,7 @@ pub mod Apart
 pub mod Ran
 pub mod Chains
 pub mod Fit
+pub mod Near
 pub mod Right
 pub mod Walk
 pub mod Anywhere

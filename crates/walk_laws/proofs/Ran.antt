@@ -1,22 +1,28 @@
--- The machine of a walk from one state to another: what it costs, and its single steps.
-use Prim.Native.Nat.{ℕ, _+_, _-_, _≤_, _<_}
+-- The machine of a walk from one state to another: what it costs, the nodes it goes to, and its single steps.
+use Prim.Native.Nat.{ℕ, _+_, _*_, _-_, _≤_, _<_}
 use native.Mathlib.Omega.{arith}
-use mathlib.Core.Path.{_≡_, refl, sym, ap, _∙_}
+use mathlib.Core.Path.{_≡_, refl, sym, ap, ap₂, _∙_}
 use mathlib.Core.Bool.{true}
-use mathlib.Core.List.{List, [], _∷_}
+use mathlib.Core.List.{List, [], _∷_, _++_, append-assoc}
 use lib.ListN.{length, getD}
+use borrow.Author.Tests.{eq-eqb, ne-eqb}
+use Rattle.meaning.proofs.Stacks.{suc-pred}
+use Rattle.layout.specs.Nodes.{stateAt}
 use Rattle.trie.specs.Heap.{Holds}
 use Rattle.trie.specs.Phys.{first, pageCells, Below}
 use Rattle.walk.specs.declared.mark.Left.the-variants.{Some}
 use Rattle.walk.specs.declared.frame.Frame.{Frame}
+use Rattle.walk.specs.declared.frame.Step.{Step}
 use Rattle.walk.specs.declared.frame.Step.the-variants as step
+use Rattle.walk.specs.declared.walk.Move.{Move}
 use Rattle.walk.specs.declared.walk.Move.the-variants as move
 use Rattle.walk.specs.Mark.{marks, marked, markAll, markLeaf}
 use Rattle.walk.specs.Frame.{entered, stepIn}
-use Rattle.walk.specs.Walk.{Given, State, state, walked, atLink, run}
+use Rattle.walk.specs.Walk.{Given, Visited, visited, visit, State, state, walked, atLink, run}
 use Rattle.walk.proofs.LeafSteps.{leaf-end, leaf-next}
 use Rattle.walk.proofs.Visits.{visit-stay, visit-leaf, visit-down, visit-up}
 use Rattle.walk.proofs.Turns.{run-stay, run-down, run-up, run-done}
+use Rattle.walk_laws.specs.Trail.{goes, trace, trail, trailFrom}
 
 -- ---- the pages of a leaf
 pub leaf-marks : (P : List ℕ) (words cap next : ℕ) (N map : List ℕ) (ps : List ℕ) (f : ℕ) → Holds (pageCells next ps) N P → Below cap ps
@@ -30,67 +36,121 @@ leaf-marks P words cap next N map (p ∷ ps) f h b l =
     ∙ leaf-marks P words cap next N (marked map words p) ps (f - 1) (h .1) (b .1) (omega arith)
     ∙ ap (λ n. marks (markAll (marked map words p) words ps) (Some n)) (omega arith)
 
+-- ---- the trail of one step
+module _ (w : Given) (f : ℕ) (map : List ℕ) (left : ℕ) (frame : Frame) (stack : List Frame) (some : 0 < f) where
+  trail-by : (s : Step) (after : List ℕ) (m : Move) → stepIn (w .nodes) (w .cap) (w .b) frame (getD (w .bytes) (length stack) 0) ≡ s
+      → visited after m ≡ visit w map left (length stack) frame
+      → trail w f (state map left frame stack) ≡ goes (frame .link - 1) s ++ trace w (trail w (f - 1)) after left frame stack m
+  unfolding trail
+  trail-by s after m e v = ap (λ n. trail w n (state map left frame stack)) (suc-pred f some) ∙ ap₂ gone e (sym v)
+    where
+      gone : Step → Visited → List ℕ
+      gone q x = goes (frame .link - 1) q ++ trace w (trail w (f - 1)) (x .map) left frame stack (x .move)
+
 -- ---- from state to state
-pub record Ran (w : Given) (f : ℕ) (s s′ : State) (cost : ℕ) : Type 0 where
+pub record Ran (w : Given) (f : ℕ) (s s′ : State) (cost : ℕ) (went : List ℕ) : Type 0 where
   pub rest : ℕ
   pub enough : f ≤ rest + cost
   pub same : run w f s ≡ run w rest s′
+  pub nodes : trail w f s ≡ went ++ trail w rest s′
 
 module _ (w : Given) where
-  pub ran-none : (f : ℕ) (s : State) → Ran w f s s 0
-  ran-none f s = record { rest = f; enough = omega arith; same = refl }
+  pub ran-none : (f : ℕ) (s : State) → Ran w f s s 0 []
+  ran-none f s = record { rest = f; enough = omega arith; same = refl; nodes = refl }
 
-  pub ran-step : (f : ℕ) (s s′ : State) → run w f s ≡ run w (f - 1) s′ → Ran w f s s′ 1
-  ran-step f s s′ e = record { rest = f - 1; enough = omega arith; same = e }
+  pub ran-step : (f : ℕ) (s s′ : State) (xs : List ℕ) → run w f s ≡ run w (f - 1) s′ → trail w f s ≡ xs ++ trail w (f - 1) s′ → Ran w f s s′ 1 xs
+  ran-step f s s′ xs e n = record { rest = f - 1; enough = omega arith; same = e; nodes = n }
 
-  pub ran-then : (f : ℕ) (s t u : State) (c d : ℕ) (r : Ran w f s t c) → Ran w (r .rest) t u d → Ran w f s u (c + d)
-  ran-then f s t u c d r q = record { rest = q .rest; enough = omega (arith, r .enough, q .enough); same = r .same ∙ q .same }
+  pub ran-then : (f : ℕ) (s t u : State) (c d : ℕ) (xs ys : List ℕ) (r : Ran w f s t c xs) → Ran w (r .rest) t u d ys → Ran w f s u (c + d) (xs ++ ys)
+  ran-then f s t u c d xs ys r q = record {
+    rest = q .rest;
+    enough = omega (arith, r .enough, q .enough);
+    same = r .same ∙ q .same;
+    nodes = r .nodes ∙ ap (λ zs. xs ++ zs) (q .nodes) ∙ sym (append-assoc xs ys (trail w (q .rest) u));
+  }
 
-  pub ran-within : (f : ℕ) (s t : State) (c d : ℕ) → c ≤ d → Ran w f s t c → Ran w f s t d
-  ran-within f s t c d l r = record { rest = r .rest; enough = omega (arith, r .enough); same = r .same }
+  pub ran-within : (f : ℕ) (s t : State) (c d : ℕ) (xs : List ℕ) → c ≤ d → Ran w f s t c xs → Ran w f s t d xs
+  ran-within f s t c d xs l r = record { rest = r .rest; enough = omega (arith, r .enough); same = r .same; nodes = r .nodes }
 
-  pub ran-to : (f : ℕ) (s t u : State) (c : ℕ) → t ≡ u → Ran w f s t c → Ran w f s u c
-  ran-to f s t u c e r = record { rest = r .rest; enough = r .enough; same = r .same ∙ ap (run w (r .rest)) e }
+  pub ran-to : (f : ℕ) (s t u : State) (c : ℕ) (xs : List ℕ) → t ≡ u → Ran w f s t c xs → Ran w f s u c xs
+  ran-to f s t u c xs e r = record {
+    rest = r .rest;
+    enough = r .enough;
+    same = r .same ∙ ap (run w (r .rest)) e;
+    nodes = r .nodes ∙ ap (λ v. xs ++ trail w (r .rest) v) e;
+  }
+
+  pub ran-went : (f : ℕ) (s t : State) (c : ℕ) (xs ys : List ℕ) → xs ≡ ys → Ran w f s t c xs → Ran w f s t c ys
+  ran-went f s t c xs ys e r = record {
+    rest = r .rest;
+    enough = r .enough;
+    same = r .same;
+    nodes = r .nodes ∙ ap (λ zs. zs ++ trail w (r .rest) t) e;
+  }
 
 -- ---- single steps
 module _ (w : Given) (f : ℕ) (some : 0 < f) (map : List ℕ) (left : ℕ) (frame : Frame) (stack : List Frame) where
   pub step-stay : (at link : ℕ) → stepIn (w .nodes) (w .cap) (w .b) frame (getD (w .bytes) (length stack) 0) ≡ step.Stay at link
-      → Ran w f (state map left frame stack) (state map left (atLink frame at link) stack) 1
+      → Ran w f (state map left frame stack) (state map left (atLink frame at link) stack) 1 []
   step-stay at link e =
-      ran-step w f (state map left frame stack) (state map left (atLink frame at link) stack)
-      (run-stay w f map left frame stack some (length stack) refl map (move.Stay at link left)
-      (visit-stay w map left (length stack) frame (step.Stay at link) (sym e) at link refl) at link left refl)
+      let v = visit-stay w map left (length stack) frame (step.Stay at link) (sym e) at link refl in
+      ran-step w f (state map left frame stack) (state map left (atLink frame at link) stack) []
+      (run-stay w f map left frame stack some (length stack) refl map (move.Stay at link left) v at link left refl)
+      (trail-by w f map left frame stack some (step.Stay at link) map (move.Stay at link left) e v)
 
-  pub step-leaf : (first′ link : ℕ) (after : List ℕ) (n : ℕ)
+  -- to the leaf x
+  pub step-leaf : (x first′ link : ℕ) (after : List ℕ) (n : ℕ) → frame .link - 1 ≡ x
       → stepIn (w .nodes) (w .cap) (w .b) frame (getD (w .bytes) (length stack) 0) ≡ step.Leaf first′ link
       → markLeaf (w .pages) (w .words) (w .pcap) (w .next) map first′ left ≡ marks after (Some n)
-      → Ran w f (state map left frame stack) (state after n (atLink frame (frame .at) link) stack) 1
-  step-leaf first′ link after n e m =
-      ran-step w f (state map left frame stack) (state after n (atLink frame (frame .at) link) stack)
-      (run-stay w f map left frame stack some (length stack) refl after (move.Stay (frame .at) link n)
-      (visit-leaf w map left (length stack) frame (step.Leaf first′ link) (sym e) first′ link after (Some n) (Some n) refl (sym m) refl)
-      (frame .at) link n refl)
+      → Ran w f (state map left frame stack) (state after n (atLink frame (frame .at) link) stack) 1 (x ∷ [])
+  step-leaf x first′ link after n i e m =
+      let v = visit-leaf w map left (length stack) frame (step.Leaf first′ link) (sym e) first′ link after (Some n) (Some n) refl (sym m) refl in
+      ran-step w f (state map left frame stack) (state after n (atLink frame (frame .at) link) stack) (x ∷ [])
+      (run-stay w f map left frame stack some (length stack) refl after (move.Stay (frame .at) link n) v (frame .at) link n refl)
+      (trail-by w f map left frame stack some (step.Leaf first′ link) after (move.Stay (frame .at) link n) e v
+      ∙ ap (λ k. k ∷ trail w (f - 1) (state after n (atLink frame (frame .at) link) stack)) i)
 
-  pub step-down : (x radius link : ℕ) → stepIn (w .nodes) (w .cap) (w .b) frame (getD (w .bytes) (length stack) 0) ≡ step.Down x radius link
+  pub step-down : (x radius link : ℕ) → frame .link - 1 ≡ x
+      → stepIn (w .nodes) (w .cap) (w .b) frame (getD (w .bytes) (length stack) 0) ≡ step.Down x radius link
       → length stack + 1 < length (w .bytes)
       → Ran w f (state map left frame stack)
-      (state map left (entered (w .nodes) (w .cap) x radius (getD (w .bytes) (length stack + 1) 0)) (atLink frame (frame .at) link ∷ stack)) 1
-  step-down x radius link e l =
-      ran-step w f (state map left frame stack)
-      (state map left (entered (w .nodes) (w .cap) x radius (getD (w .bytes) (length stack + 1) 0)) (atLink frame (frame .at) link ∷ stack))
-      (run-down w f map left frame stack some (length stack) refl map (move.Down x radius link)
-      (visit-down w map left (length stack) frame (step.Down x radius link) (sym e) x radius link refl l) x radius link
-      (entered (w .nodes) (w .cap) x radius (getD (w .bytes) (length stack + 1) 0)) (atLink frame (frame .at) link ∷ stack) refl refl refl)
+      (state map left (entered (w .nodes) (w .cap) x radius (getD (w .bytes) (length stack + 1) 0)) (atLink frame (frame .at) link ∷ stack)) 1 (x ∷ [])
+  step-down x radius link i e l =
+      let v = visit-down w map left (length stack) frame (step.Down x radius link) (sym e) x radius link refl l in
+      let below : Frame = entered (w .nodes) (w .cap) x radius (getD (w .bytes) (length stack + 1) 0) in
+      let stack′ : List Frame = atLink frame (frame .at) link ∷ stack in
+      ran-step w f (state map left frame stack) (state map left below stack′) (x ∷ [])
+      (run-down w f map left frame stack some (length stack) refl map (move.Down x radius link) v x radius link below stack′ refl refl refl)
+      (trail-by w f map left frame stack some (step.Down x radius link) map (move.Down x radius link) e v
+      ∙ ap (λ k. k ∷ trail w (f - 1) (state map left below stack′)) i)
 
 module _ (w : Given) (f : ℕ) (some : 0 < f) (map : List ℕ) (left : ℕ) (frame : Frame) where
   pub step-up : (back : Frame) (stack : List Frame)
       → stepIn (w .nodes) (w .cap) (w .b) frame (getD (w .bytes) (length (back ∷ stack)) 0) ≡ step.Up
-      → Ran w f (state map left frame (back ∷ stack)) (state map left back stack) 1
+      → Ran w f (state map left frame (back ∷ stack)) (state map left back stack) 1 []
   step-up back stack e =
-      ran-step w f (state map left frame (back ∷ stack)) (state map left back stack)
-      (run-up w f map left frame (back ∷ stack) some (length (back ∷ stack)) refl map move.Up
-      (visit-up w map left (length (back ∷ stack)) frame step.Up (sym e) refl) back stack refl refl)
+      let v = visit-up w map left (length (back ∷ stack)) frame step.Up (sym e) refl in
+      ran-step w f (state map left frame (back ∷ stack)) (state map left back stack) []
+      (run-up w f map left frame (back ∷ stack) some (length (back ∷ stack)) refl map move.Up v back stack refl refl)
+      (trail-by w f map left frame (back ∷ stack) some step.Up map move.Up e v)
 
   pub step-end : stepIn (w .nodes) (w .cap) (w .b) frame (getD (w .bytes) 0 0) ≡ step.Up → run w f (state map left frame []) ≡ walked map true
   step-end e =
       run-done w f map left frame [] some 0 refl map move.Up (visit-up w map left 0 frame step.Up (sym e) refl) refl refl
+
+  pub trail-end : stepIn (w .nodes) (w .cap) (w .b) frame (getD (w .bytes) 0 0) ≡ step.Up → trail w f (state map left frame []) ≡ []
+  trail-end e = trail-by w f map left frame [] some step.Up map move.Up e (visit-up w map left 0 frame step.Up (sym e) refl)
+
+-- ---- from a root
+module _ (w : Given) (root radius : ℕ) (map : List ℕ) where
+  pub trail-leaf : 1 < getD (w .nodes) (stateAt (w .cap) root) 0 → trailFrom w root radius map ≡ root ∷ []
+  unfolding trailFrom
+  trail-leaf l =
+      rw (ne-eqb (getD (w .nodes) (stateAt (w .cap) root) 0) 0 (omega arith), ne-eqb (getD (w .nodes) (stateAt (w .cap) root) 0) 1 (omega arith))
+
+  pub trail-inner : getD (w .nodes) (stateAt (w .cap) root) 0 ≡ 1
+      → trailFrom w root radius map
+      ≡ root ∷ trail w (10 * (w .cap + 1)) (state map (w .pcap) (entered (w .nodes) (w .cap) root radius (getD (w .bytes) 0 0)) [])
+  unfolding trailFrom
+  trail-inner o =
+      rw (ne-eqb (getD (w .nodes) (stateAt (w .cap) root) 0) 0 (omega arith), eq-eqb (getD (w .nodes) (stateAt (w .cap) root) 0) 1 o)

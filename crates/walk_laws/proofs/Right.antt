@@ -1,4 +1,4 @@
--- On tables that hold a trie, the walk marks exactly the pages that `met` meets, in order.
+-- On tables that hold a trie, the walk marks exactly the pages that `met` meets, and goes through the nodes of `near`, both in order.
 use Prim.Native.Nat.{ℕ, suc, _+_, _-_, _*_, _/_, _^_, _≤_, _<_}
 use native.Mathlib.Omega.{arith}
 use native.Mathlib.Numerals.{add-one}
@@ -23,10 +23,12 @@ use Rattle.walk.specs.Mark.{markAll, markLeaf}
 use Rattle.walk.specs.Frame.{frameAt, entered, following, stepTo, stepIn}
 use Rattle.walk.specs.Walk.{Given, State, state, walked, atLink, walkBelow, walkFrom}
 use Rattle.walk.proofs.Turns.{from-leaf, from-inner}
+use Rattle.walk_laws.specs.Near.{near, nearB, nearC}
+use Rattle.walk_laws.specs.Trail.{trail, trailFrom}
 use Rattle.walk_laws.proofs.Marks.{mark-append}
-use Rattle.walk_laws.proofs.Ran.{leaf-marks, Ran, ran-none, ran-then, ran-within, ran-to, step-stay, step-leaf, step-down, step-up, step-end}
+use Rattle.walk_laws.proofs.Ran.{leaf-marks, Ran, ran-none, ran-then, ran-within, ran-to, ran-went, step-stay, step-leaf, step-down, step-up, step-end, trail-end, trail-leaf, trail-inner}
 use Rattle.walk_laws.proofs.Chains.{firstLink, slot-word, root-below, first-below, link-in, step-chain, step-next, step-last, to-far, to-leaf, to-inner, met-chain}
-use Rattle.walk_laws.proofs.Fit.{Fit, FitB, FitC, byte-small, unmet, unmet-past}
+use Rattle.walk_laws.proofs.Fit.{Fit, FitB, FitC, byte-small, unmet, unmet-past, none-near, none-near-past}
 
 -- the steps that a part of a trie can cost
 abbrev mutual
@@ -67,25 +69,30 @@ module _ (w : Given) where
   abbrev metC : Chain → ℕ → List Frame → List ℕ
   metC ch r stack = metIn (w .b) r (kidsC ch none) (here stack ∷ behind stack)
 
+  -- the nodes gone through there
+  abbrev nearIn : Chain → ℕ → List Frame → List ℕ
+  nearIn ch r stack = nearC (w .b) r ch (here stack ∷ behind stack)
+
   -- a chain is gone through
   abbrev Through : Chain → List Frame → Type 0
   Through ch stack =
       (f : ℕ) (map : List ℕ) (left : ℕ) (frame : Frame) → frame .link ≡ firstLink ch → stepsC ch ≤ f → length (metC ch (frame .radius) stack) ≤ left
       → Ran w f (state map left frame stack) (after map left (metC ch (frame .radius) stack) (atLink frame (frame .at) 0) stack) (stepsC ch)
+      (nearIn ch (frame .radius) stack)
 
   -- what follows a child of byte c: the rest of its chain, unless the radius is 0 and the query's byte is passed
   rest-through : (ch : Chain) (stack : List Frame) (c hi k : ℕ) → SoundC (w .cap) (w .pcap) ch (suc c) hi → FitC (w .b) (length (w .bytes)) ch k
       → here stack < 2 ^ (w .b * perByte (w .b)) → Through ch stack
       → (f : ℕ) (map : List ℕ) (left : ℕ) (frame : Frame) → stepsC ch ≤ f → length (metC ch (frame .radius) stack) ≤ left
       → Ran w f (state map left (atLink frame (frame .at) (following (frame .radius) c (here stack) (firstLink ch))) stack)
-      (after map left (metC ch (frame .radius) stack) (atLink frame (frame .at) 0) stack) (stepsC ch)
+      (after map left (metC ch (frame .radius) stack) (atLink frame (frame .at) 0) stack) (stepsC ch) (nearIn ch (frame .radius) stack)
   unfolding following
   rest-through ch stack c hi k s t q through f map left frame l m = go (eqb (frame .radius) 0) refl (leb (here stack) c) refl
     where
       Goal : ℕ → Type 0
       Goal n =
           Ran w f (state map left (atLink frame (frame .at) n) stack)
-          (after map left (metC ch (frame .radius) stack) (atLink frame (frame .at) 0) stack) (stepsC ch)
+          (after map left (metC ch (frame .radius) stack) (atLink frame (frame .at) 0) stack) (stepsC ch) (nearIn ch (frame .radius) stack)
 
       onward : Goal (firstLink ch)
       onward = through f map left (atLink frame (frame .at) (firstLink ch)) refl l m
@@ -98,32 +105,39 @@ module _ (w : Given) where
           rw (eqb-true (frame .radius) 0 d)
           (unmet (w .cap) (w .pcap) (w .b) (length (w .bytes)) (here stack) (behind stack) q ch (suc c) hi k s t
           (λ x u v z. absurd (omega (arith, leb-true (here stack) c e)))) in
-          ran-within w f _ _ 0 (stepsC ch) (omega arith)
-          (ran-to w f _ _ _ 0 (sym (ap (λ ps. after map left ps (atLink frame (frame .at) 0) stack) none-met ∙ after-none map left (atLink frame (frame .at) 0) stack))
-          (ran-none w f (state map left (atLink frame (frame .at) 0) stack)))
+          let none-there : nearIn ch (frame .radius) stack ≡ [] =
+          rw (eqb-true (frame .radius) 0 d)
+          (none-near (w .cap) (w .pcap) (w .b) (length (w .bytes)) (here stack) (behind stack) q ch (suc c) hi k s t
+          (λ x u v z. absurd (omega (arith, leb-true (here stack) c e)))) in
+          ran-went w f _ _ (stepsC ch) [] (nearIn ch (frame .radius) stack) (sym none-there)
+          (ran-within w f _ _ 0 (stepsC ch) [] (omega arith)
+          (ran-to w f _ _ _ 0 [] (sym (ap (λ ps. after map left ps (atLink frame (frame .at) 0) stack) none-met ∙ after-none map left (atLink frame (frame .at) 0) stack))
+          (ran-none w f (state map left (atLink frame (frame .at) 0) stack))))
 
   -- a child and the rest of its chain
   link-through : (ch : Chain) (t : Phys) (stack : List Frame) (c hi k : ℕ) → SoundC (w .cap) (w .pcap) ch (suc c) hi
       → FitC (w .b) (length (w .bytes)) ch k → here stack < 2 ^ (w .b * perByte (w .b)) → Through ch stack
-      → (f : ℕ) (map : List ℕ) (left : ℕ) (frame : Frame) (ps : List ℕ) → steps t + stepsC ch ≤ f
+      → (f : ℕ) (map : List ℕ) (left : ℕ) (frame : Frame) (ps xs : List ℕ) → steps t + stepsC ch ≤ f
       → length (ps ++ metC ch (frame .radius) stack) ≤ left
       → Ran w f (state map left frame stack)
-      (after map left ps (atLink frame (frame .at) (following (frame .radius) c (here stack) (firstLink ch))) stack) (steps t)
+      (after map left ps (atLink frame (frame .at) (following (frame .radius) c (here stack) (firstLink ch))) stack) (steps t) xs
       → Ran w f (state map left frame stack)
       (after map left (ps ++ metC ch (frame .radius) stack) (atLink frame (frame .at) 0) stack) (steps t + stepsC ch)
-  link-through ch t stack c hi k s u q through f map left frame ps l m one =
+      (xs ++ nearIn ch (frame .radius) stack)
+  link-through ch t stack c hi k s u q through f map left frame ps xs l m one =
       let qs : List ℕ = metC ch (frame .radius) stack in
-      ran-to w f _ _ _ (steps t + stepsC ch) (after-join map left ps qs (atLink frame (frame .at) 0) stack)
-      (ran-then w f _ _ _ (steps t) (stepsC ch) one
+      let ys : List ℕ = nearIn ch (frame .radius) stack in
+      ran-to w f _ _ _ (steps t + stepsC ch) (xs ++ ys) (after-join map left ps qs (atLink frame (frame .at) 0) stack)
+      (ran-then w f _ _ _ (steps t) (stepsC ch) xs ys one
       (rest-through ch stack c hi k s u q through (one .rest) (markAll map (w .words) ps) (left - length ps) frame
       (omega (arith, one .enough)) (omega (arith, length-append ps qs))))
 
   -- the frames of an inner node are exhausted
-  record Under (f : ℕ) (map : List ℕ) (left : ℕ) (frame : Frame) (ps : List ℕ) (stack : List Frame) (cost : ℕ) : Type 0 where
+  record Under (f : ℕ) (map : List ℕ) (left : ℕ) (frame : Frame) (ps xs : List ℕ) (stack : List Frame) (cost : ℕ) : Type 0 where
     done : Frame
     empty : done .link ≡ 0
     last : done .last ≤ done .at
-    ran : Ran w f (state map left frame stack) (after map left ps done stack) cost
+    ran : Ran w f (state map left frame stack) (after map left ps done stack) cost xs
 
   -- a frame that stands at the chains of node x from g on
   abbrev From : Buckets → ℕ → ℕ → Frame → Type 0
@@ -134,7 +148,7 @@ module _ (w : Given) where
     next : Frame
     radius : next .radius ≡ frame .radius
     from : From bs x g next
-    ran : Ran w f (state map left frame stack) (state map left next stack) 1
+    ran : Ran w f (state map left frame stack) (state map left next stack) 1 []
 
   chains-left : (bs : Buckets) (g : ℕ) → SoundB (w .cap) (w .pcap) bs g → g ≤ 8
   chains-left end g s = omega arith
@@ -149,7 +163,7 @@ module _ (w : Given) where
     next = frame;
     radius = refl;
     from = (e, omega arith);
-    ran = ran-within w f _ _ 0 1 (omega arith) (ran-none w f (state map left frame stack));
+    ran = ran-within w f _ _ 0 1 [] (omega arith) (ran-none w f (state map left frame stack));
   }
   onward small (bucket ch bs) x g stack h s f map left frame z a b e =
       let top : suc g < 8 + 0 = omega (arith, chains-left bs (suc (suc g)) (s .1)) in
@@ -186,37 +200,43 @@ module _ (w : Given) (small : w .cap ≤ 262144) (query : (k : ℕ) → getD (w 
   abbrev metB : Buckets → ℕ → List Frame → List ℕ
   metB bs r stack = metIn (w .b) r (kids bs) (here w stack ∷ behind w stack)
 
-  -- an exhausted frame with other pages, by an equation
-  under-same : (f : ℕ) (map : List ℕ) (left : ℕ) (frame : Frame) (ps qs : List ℕ) (stack : List Frame) (cost : ℕ) → ps ≡ qs
-      → Under w f map left frame ps stack cost → Under w f map left frame qs stack cost
-  under-same f map left frame ps qs stack cost e u = record {
+  abbrev nearT : Phys → ℕ → List Frame → List ℕ
+  nearT t r stack = near (w .b) r t (behind w stack)
+
+  abbrev nearUnder : Buckets → ℕ → List Frame → List ℕ
+  nearUnder bs r stack = nearB (w .b) r bs (here w stack ∷ behind w stack)
+
+  -- an exhausted frame with other pages and nodes, by equations
+  under-same : (f : ℕ) (map : List ℕ) (left : ℕ) (frame : Frame) (ps qs xs ys : List ℕ) (stack : List Frame) (cost : ℕ) → ps ≡ qs → xs ≡ ys
+      → Under w f map left frame ps xs stack cost → Under w f map left frame qs ys stack cost
+  under-same f map left frame ps qs xs ys stack cost e n u = record {
     done = u .done;
     empty = u .empty;
     last = u .last;
-    ran = ran-to w f _ _ _ cost (ap (λ xs. after w map left xs (u .done) stack) e) (u .ran);
+    ran = ran-went w f _ _ cost xs ys n (ran-to w f _ _ _ cost xs (ap (λ zs. after w map left zs (u .done) stack) e) (u .ran));
   }
 
   under-none : (f : ℕ) (map : List ℕ) (left : ℕ) (frame : Frame) (stack : List Frame) → frame .link ≡ 0 → frame .last ≤ frame .at
-      → Under w f map left frame [] stack 0
+      → Under w f map left frame [] [] stack 0
   under-none f map left frame stack e l = record {
     done = frame;
     empty = e;
     last = l;
-    ran = ran-to w f _ _ _ 0 (sym (after-none w map left frame stack)) (ran-none w f (state map left frame stack));
+    ran = ran-to w f _ _ _ 0 [] (sym (after-none w map left frame stack)) (ran-none w f (state map left frame stack));
   }
 
   -- the chains that a node is entered at: one at radius 0, else all
   entry : (bs : Buckets) (x : ℕ) (stack : List Frame) (f : ℕ) (map : List ℕ) (left r : ℕ)
-      → (r ≡ 0 → Under w f map left (frameAt N (headAt (w .cap) x (here w stack / 32)) (headAt (w .cap) x (here w stack / 32)) 0) (metB bs r stack) stack (stepsB bs))
-      → (r ≢ 0 → Under w f map left (frameAt N (headAt (w .cap) x 0) (headAt (w .cap) x 7) r) (metB bs r stack) stack (stepsB bs))
-      → Under w f map left (entered N (w .cap) x r (here w stack)) (metB bs r stack) stack (stepsB bs)
+      → (r ≡ 0 → Under w f map left (frameAt N (headAt (w .cap) x (here w stack / 32)) (headAt (w .cap) x (here w stack / 32)) 0) (metB bs r stack) (nearUnder bs r stack) stack (stepsB bs))
+      → (r ≢ 0 → Under w f map left (frameAt N (headAt (w .cap) x 0) (headAt (w .cap) x 7) r) (metB bs r stack) (nearUnder bs r stack) stack (stepsB bs))
+      → Under w f map left (entered N (w .cap) x r (here w stack)) (metB bs r stack) (nearUnder bs r stack) stack (stepsB bs)
   unfolding entered
   entry bs x stack f map left r one all = go (eqb r 0) refl
     where
       go : (q : Bool) → eqb r 0 ≡ q
           → Under w f map left
           (cond q (frameAt N (headAt (w .cap) x (here w stack / 32)) (headAt (w .cap) x (here w stack / 32)) 0)
-          (frameAt N (headAt (w .cap) x 0) (headAt (w .cap) x 7) r)) (metB bs r stack) stack (stepsB bs)
+          (frameAt N (headAt (w .cap) x 0) (headAt (w .cap) x 7) r)) (metB bs r stack) (nearUnder bs r stack) stack (stepsB bs)
       go true e = one (eqb-true r 0 e)
       go false e = all (eqb-false r 0 e)
 
@@ -226,8 +246,10 @@ module _ (w : Given) (small : w .cap ≤ 262144) (query : (k : ℕ) → getD (w 
       → (f : ℕ) (map : List ℕ) (left : ℕ) (frame : Frame) → From w (bucket ch bs) x g frame → stepsB (bucket ch bs) ≤ f
       → length (metB (bucket ch bs) (frame .radius) stack) ≤ left → Through w ch stack
       → ((f′ : ℕ) (map′ : List ℕ) (left′ : ℕ) (frame′ : Frame) → From w bs x (suc g) frame′ → stepsB bs ≤ f′ → length (metB bs (frame′ .radius) stack) ≤ left′
-      → Under w f′ map′ left′ frame′ (metB bs (frame′ .radius) stack) stack (stepsB bs))
-      → Under w f map left frame (metB (bucket ch bs) (frame .radius) stack) stack (stepsB (bucket ch bs))
+      → Under w f′ map′ left′ frame′ (metB bs (frame′ .radius) stack) (nearUnder bs (frame′ .radius) stack) stack (stepsB bs))
+      → Under w f map left frame (metB (bucket ch bs) (frame .radius) stack) (nearUnder (bucket ch bs) (frame .radius) stack) stack
+      (stepsB (bucket ch bs))
+  unfolding nearB
   then-under ch bs x g stack h s f map left frame from c m through ih =
       let ps : List ℕ = metC w ch (frame .radius) stack in
       let qs : List ℕ = metB bs (frame .radius) stack in
@@ -237,16 +259,20 @@ module _ (w : Given) (small : w .cap ≤ 262144) (query : (k : ℕ) → getD (w 
       let map′ : List ℕ = markAll map (w .words) ps in
       let nx = onward w small bs x g stack h s (one .rest) map′ (left - length ps) (atLink frame (frame .at) 0) (omega (arith, one .enough)) (from .0) (from .1) refl in
       let same : metB bs (nx .next .radius) stack ≡ qs = ap (λ r. metB bs r stack) (nx .radius) in
-      let rest = under-same (nx .ran .rest) map′ (left - length ps) (nx .next) (metB bs (nx .next .radius) stack) qs stack (stepsB bs) same
+      let xs : List ℕ = nearIn w ch (frame .radius) stack in
+      let ys : List ℕ = nearUnder bs (frame .radius) stack in
+      let rest = under-same (nx .ran .rest) map′ (left - length ps) (nx .next) (metB bs (nx .next .radius) stack) qs
+      (nearUnder bs (nx .next .radius) stack) ys stack (stepsB bs) same (ap (λ r. nearUnder bs r stack) (nx .radius))
       (ih (nx .ran .rest) map′ (left - length ps) (nx .next) (nx .from) (omega (arith, one .enough, nx .ran .enough)) (omega (arith, ap length same))) in
       record {
         done = rest .done;
         empty = rest .empty;
         last = rest .last;
-        ran = ran-to w f _ _ _ (stepsC ch + 1 + stepsB bs) (after-join w map left ps qs (rest .done) stack ∙ ap (λ xs. after w map left xs (rest .done) stack) (sym split))
-            (ran-within w f _ _ (stepsC ch + (1 + stepsB bs)) (stepsC ch + 1 + stepsB bs) (omega arith)
-            (ran-then w f _ _ _ (stepsC ch) (1 + stepsB bs) one
-            (ran-then w (one .rest) _ _ _ 1 (stepsB bs) (nx .ran) (rest .ran))));
+        ran = ran-to w f _ _ _ (stepsC ch + 1 + stepsB bs) (xs ++ ys)
+            (after-join w map left ps qs (rest .done) stack ∙ ap (λ zs. after w map left zs (rest .done) stack) (sym split))
+            (ran-within w f _ _ (stepsC ch + (1 + stepsB bs)) (stepsC ch + 1 + stepsB bs) (xs ++ ys) (omega arith)
+            (ran-then w f _ _ _ (stepsC ch) (1 + stepsB bs) xs ys one
+            (ran-then w (one .rest) _ _ _ 1 (stepsB bs) [] ys (nx .ran) (rest .ran))));
       }
 
   -- the frame of all chains
@@ -261,13 +287,13 @@ module _ (w : Given) (small : w .cap ≤ 262144) (query : (k : ℕ) → getD (w 
         ∙ link-in 0 (firstLink ch) (omega (arith, first-below (w .cap) (w .pcap) ch 0 32 (s .0))),
   )
 
-  under-within : (f : ℕ) (map : List ℕ) (left : ℕ) (frame : Frame) (ps : List ℕ) (stack : List Frame) (c d : ℕ) → c ≤ d
-      → Under w f map left frame ps stack c → Under w f map left frame ps stack d
-  under-within f map left frame ps stack c d l u = record {
+  under-within : (f : ℕ) (map : List ℕ) (left : ℕ) (frame : Frame) (ps xs : List ℕ) (stack : List Frame) (c d : ℕ) → c ≤ d
+      → Under w f map left frame ps xs stack c → Under w f map left frame ps xs stack d
+  under-within f map left frame ps xs stack c d l u = record {
     done = u .done;
     empty = u .empty;
     last = u .last;
-    ran = ran-within w f _ _ c d l (u .ran);
+    ran = ran-within w f _ _ c d xs l (u .ran);
   }
 
   -- the frame of the chain of the query's byte
@@ -280,9 +306,9 @@ module _ (w : Given) (small : w .cap ≤ 262144) (query : (k : ℕ) → getD (w 
       → FitC (w .b) len ch (length stack) → FitB (w .b) len bs (length stack) → g ≤ here w stack / 32
       → (f : ℕ) (map : List ℕ) (left : ℕ) → stepsB (bucket ch bs) ≤ f → length (metB (bucket ch bs) 0 stack) ≤ left → Through w ch stack
       → (suc g ≤ here w stack / 32 → stepsB bs ≤ f → length (metB bs 0 stack) ≤ left
-      → Under w f map left (only x stack) (metB bs 0 stack) stack (stepsB bs))
-      → Under w f map left (only x stack) (metB (bucket ch bs) 0 stack) stack (stepsB (bucket ch bs))
-  unfolding frameAt
+      → Under w f map left (only x stack) (metB bs 0 stack) (nearUnder bs 0 stack) stack (stepsB bs))
+      → Under w f map left (only x stack) (metB (bucket ch bs) 0 stack) (nearUnder (bucket ch bs) 0 stack) stack (stepsB (bucket ch bs))
+  unfolding frameAt nearB
   only-here ch bs x g stack h s s′ u u′ l f map left c m through ih = go (ℕ-discrete g (here w stack / 32))
     where
       ps : List ℕ
@@ -291,11 +317,20 @@ module _ (w : Given) (small : w .cap ≤ 262144) (query : (k : ℕ) → getD (w 
       split : metB (bucket ch bs) 0 stack ≡ ps ++ metB bs 0 stack
       split = met-chain (w .b) 0 (here w stack) (behind w stack) ch (kids bs)
 
-      go : Dec (g ≡ here w stack / 32) → Under w f map left (only x stack) (metB (bucket ch bs) 0 stack) stack (stepsB (bucket ch bs))
+      xs : List ℕ
+      xs = nearIn w ch 0 stack
+
+      ys : List ℕ
+      ys = nearUnder bs 0 stack
+
+      go : Dec (g ≡ here w stack / 32)
+          → Under w f map left (only x stack) (metB (bucket ch bs) 0 stack) (xs ++ ys) stack (stepsB (bucket ch bs))
       go (yes e) =
           let past : metB bs 0 stack ≡ [] =
           unmet-past (w .cap) (w .pcap) (w .b) len (here w stack) (behind w stack) (query (length stack)) bs (suc g) (length stack) s′ u′ (omega arith) in
           let same : ps ≡ metB (bucket ch bs) 0 stack = sym (split ∙ ap (λ qs. ps ++ qs) past ∙ append-nil ps) in
+          let none-past : ys ≡ [] =
+          none-near-past (w .cap) (w .pcap) (w .b) len (here w stack) (behind w stack) (query (length stack)) bs (suc g) (length stack) s′ u′ (omega arith) in
           let first-there : linkOf (getD N (headAt (w .cap) x (here w stack / 32)) 0) ≡ firstLink ch =
           ap (λ k. linkOf (getD N (headAt (w .cap) x k) 0)) (sym e)
           ∙ ap linkOf (slot-word (w .cap) (w .next) N P ch (headAt (w .cap) x g) 0 h)
@@ -304,17 +339,22 @@ module _ (w : Given) (small : w .cap ≤ 262144) (query : (k : ℕ) → getD (w 
             done = atLink (only x stack) (only x stack .at) 0;
             empty = refl;
             last = omega arith;
-            ran = ran-to w f _ _ _ (stepsC ch + 1 + stepsB bs) (ap (λ qs. after w map left qs (atLink (only x stack) (only x stack .at) 0) stack) same)
-                (ran-within w f _ _ (stepsC ch) (stepsC ch + 1 + stepsB bs) (omega arith)
-                (through f map left (only x stack) first-there (omega arith) (omega (arith, ap length same))));
+            ran = ran-went w f _ _ (stepsC ch + 1 + stepsB bs) xs (xs ++ ys) (sym (ap (λ zs. xs ++ zs) none-past ∙ append-nil xs))
+                (ran-to w f _ _ _ (stepsC ch + 1 + stepsB bs) xs (ap (λ qs. after w map left qs (atLink (only x stack) (only x stack .at) 0) stack) same)
+                (ran-within w f _ _ (stepsC ch) (stepsC ch + 1 + stepsB bs) xs (omega arith)
+                (through f map left (only x stack) first-there (omega arith) (omega (arith, ap length same)))));
           }
       go (no n) =
           let gone : ps ≡ [] =
           unmet (w .cap) (w .pcap) (w .b) len (here w stack) (behind w stack) (query (length stack)) ch (32 * g) (32 * g + 32) (length stack) s u
           (λ k a b z. absurd (omega arith)) in
           let same : metB bs 0 stack ≡ metB (bucket ch bs) 0 stack = sym (split ∙ ap (λ qs. qs ++ metB bs 0 stack) gone) in
-          under-same f map left (only x stack) (metB bs 0 stack) (metB (bucket ch bs) 0 stack) stack (stepsB (bucket ch bs)) same
-          (under-within f map left (only x stack) (metB bs 0 stack) stack (stepsB bs) (stepsB (bucket ch bs)) (omega arith)
+          let none-here : xs ≡ [] =
+          none-near (w .cap) (w .pcap) (w .b) len (here w stack) (behind w stack) (query (length stack)) ch (32 * g) (32 * g + 32) (length stack) s u
+          (λ k a b z. absurd (omega arith)) in
+          under-same f map left (only x stack) (metB bs 0 stack) (metB (bucket ch bs) 0 stack) ys (xs ++ ys) stack (stepsB (bucket ch bs)) same
+          (sym (ap (λ zs. zs ++ ys) none-here))
+          (under-within f map left (only x stack) (metB bs 0 stack) ys stack (stepsB bs) (stepsB (bucket ch bs)) (omega arith)
           (ih (omega arith) (omega arith) (omega (arith, ap length same))))
 
   -- a child, near or far, and the rest of its chain
@@ -324,11 +364,12 @@ module _ (w : Given) (small : w .cap ≤ 262144) (query : (k : ℕ) → getD (w 
       → length (metC w (link c t ch) (frame .radius) stack) ≤ left → Through w ch stack
       → ((d l : ℕ) → stepIn N (w .cap) (w .b) frame (here w stack) ≡ stepTo N (w .cap) (root t) d (frame .radius) (frame .at) l → d ≤ frame .radius
       → steps t ≤ f → length (metT t (frame .radius - d) stack) ≤ left
-      → Ran w f (state map left frame stack) (after w map left (metT t (frame .radius - d) stack) (atLink frame (frame .at) l) stack) (steps t))
+      → Ran w f (state map left frame stack) (after w map left (metT t (frame .radius - d) stack) (atLink frame (frame .at) l) stack) (steps t)
+      (nearT t (frame .radius - d) stack))
       → Ran w f (state map left frame stack) (after w map left (metC w (link c t ch) (frame .radius) stack) (atLink frame (frame .at) 0) stack)
-      (steps t + stepsC ch)
-  unfolding metIn
-  child-through t ch stack c at y lo hi h s u f map left frame e n m through near = go (leb d r) refl m
+      (steps t + stepsC ch) (nearIn w (link c t ch) (frame .radius) stack)
+  unfolding metIn nearC
+  child-through t ch stack c at y lo hi h s u f map left frame e n m through within = go (leb d r) refl m
     where
       r : ℕ
       r = frame .radius
@@ -349,33 +390,37 @@ module _ (w : Given) (small : w .cap ≤ 262144) (query : (k : ℕ) → getD (w 
       go : (q : Bool) → leb d r ≡ q → length (cond q (metT t (r - d) stack) [] ++ metC w ch r stack) ≤ left
           → Ran w f (state map left frame stack)
           (after w map left (cond q (metT t (r - d) stack) [] ++ metC w ch r stack) (atLink frame (frame .at) 0) stack) (steps t + stepsC ch)
+          (cond q (nearT t (r - d) stack) [] ++ nearIn w ch r stack)
       go true k v =
-          link-through w ch t stack c hi (length stack) (s .3) (u .2) (query (length stack)) through f map left frame (metT t (r - d) stack) n v
-          (near d l found (leb-true d r k) (omega arith) (omega (arith, length-append (metT t (r - d) stack) (metC w ch r stack))))
+          link-through w ch t stack c hi (length stack) (s .3) (u .2) (query (length stack)) through f map left frame (metT t (r - d) stack)
+          (nearT t (r - d) stack) n v
+          (within d l found (leb-true d r k) (omega arith) (omega (arith, length-append (metT t (r - d) stack) (metC w ch r stack))))
       go false k v =
-          link-through w ch t stack c hi (length stack) (s .3) (u .2) (query (length stack)) through f map left frame [] n v
-          (ran-to w f _ _ _ (steps t) (sym (after-none w map left (atLink frame (frame .at) l) stack))
-          (ran-within w f _ _ 1 (steps t) (steps-some t)
+          link-through w ch t stack c hi (length stack) (s .3) (u .2) (query (length stack)) through f map left frame [] [] n v
+          (ran-to w f _ _ _ (steps t) [] (sym (after-none w map left (atLink frame (frame .at) l) stack))
+          (ran-within w f _ _ 1 (steps t) [] (steps-some t)
           (step-stay w f (omega (arith, steps-some t)) map left frame stack (frame .at) l
           (found ∙ to-far N (w .cap) (root t) d r (frame .at) l (leb-false d r k)))))
 
   mutual
-    unfolding met metIn frameAt
+    unfolding met metIn near nearB nearC frameAt
 
     -- a child at distance d, within the radius
     tree-through : (t : Phys) (stack : List Frame) → Holds (cells (w .cap) (w .next) t) N P → Sound (w .cap) (w .pcap) t → Fit (w .b) len t (suc (length stack))
         → (f : ℕ) (map : List ℕ) (left : ℕ) (frame : Frame) (d l : ℕ)
+        → frame .link ≡ root t + 1
         → stepIn N (w .cap) (w .b) frame (here w stack) ≡ stepTo N (w .cap) (root t) d (frame .radius) (frame .at) l → d ≤ frame .radius
         → steps t ≤ f → length (metT t (frame .radius - d) stack) ≤ left
         → Ran w f (state map left frame stack) (after w map left (metT t (frame .radius - d) stack) (atLink frame (frame .at) l) stack) (steps t)
-    tree-through (leafP x ps) stack h s u f map left frame d l e r c m =
-        step-leaf w f c map left frame stack (first ps) l (markAll map (w .words) ps) (left - length ps)
+        (nearT t (frame .radius - d) stack)
+    tree-through (leafP x ps) stack h s u f map left frame d l i e r c m =
+        step-leaf w f c map left frame stack x (first ps) l (markAll map (w .words) ps) (left - length ps) (omega arith)
         (e ∙ to-leaf N (w .cap) x d (frame .radius) (frame .at) l (first ps) r (h .0))
         (leaf-marks P (w .words) (w .pcap) (w .next) N map ps left (h .1 .1) (s .1) m)
-    tree-through (innerP x bs) stack h s u f map left frame d l e r c m =
+    tree-through (innerP x bs) stack h s u f map left frame d l i e r c m =
         let back : Frame = atLink frame (frame .at) l in
         let stack′ : List Frame = back ∷ stack in
-        let down = step-down w f (omega arith) map left frame stack x (frame .radius - d) l
+        let down = step-down w f (omega arith) map left frame stack x (frame .radius - d) l (omega arith)
         (e ∙ to-inner N (w .cap) x d (frame .radius) (frame .at) l r (h .0)) (omega (arith, u .0)) in
         let arrived : state map left (entered N (w .cap) x (frame .radius - d) (getD (w .bytes) (length stack + 1) 0)) stack′
         ≡ state map left (entered N (w .cap) x (frame .radius - d) (here w stack′)) stack′ =
@@ -383,11 +428,14 @@ module _ (w : Given) (small : w .cap ≤ 262144) (query : (k : ℕ) → getD (w 
         let cons : behind w stack ≡ here w stack′ ∷ behind w stack′ = drop-cons (w .bytes) (suc (length stack)) 0 (u .0) in
         let ps : List ℕ = metB bs (frame .radius - d) stack′ in
         let same : metT (innerP x bs) (frame .radius - d) stack ≡ ps = ap (metIn (w .b) (frame .radius - d) (kids bs)) cons in
-        let down′ = ran-to w f _ _ _ 1 arrived down in
+        let xs : List ℕ = nearUnder bs (frame .radius - d) stack′ in
+        let same-nodes : x ∷ xs ≡ nearT (innerP x bs) (frame .radius - d) stack = sym (ap (λ ys. x ∷ nearB (w .b) (frame .radius - d) bs ys) cons) in
+        let down′ = ran-to w f _ _ _ 1 (x ∷ []) arrived down in
         let under = entry bs x stack′ (down′ .rest) map left (frame .radius - d)
         (λ z.
         let zero-met : metB bs 0 stack′ ≡ ps = ap (λ k. metB bs k stack′) (sym z) in
-        under-same (down′ .rest) map left (only x stack′) (metB bs 0 stack′) ps stack′ (stepsB bs) zero-met
+        under-same (down′ .rest) map left (only x stack′) (metB bs 0 stack′) ps (nearUnder bs 0 stack′) xs stack′ (stepsB bs) zero-met
+        (ap (λ k. nearUnder bs k stack′) (sym z))
         (only-through bs x 0 stack′ (h .1) (s .1) (u .1) (u .0) (omega arith) (down′ .rest) map left
         (omega (arith, down′ .enough)) (omega (arith, ap length same, ap length zero-met))))
         (λ z. all-through bs x 0 stack′ (h .1) (s .1) (u .1) (u .0) (down′ .rest) map left
@@ -396,15 +444,18 @@ module _ (w : Given) (small : w .cap ≤ 262144) (query : (k : ℕ) → getD (w 
         (omega (arith, down′ .enough)) (omega (arith, ap length same))) in
         let up = step-up w (under .ran .rest) (omega (arith, under .ran .enough, down′ .enough)) (markAll map (w .words) ps) (left - length ps) (under .done) back stack
         (step-last N (w .cap) (w .b) (under .done) (here w stack′) (under .empty) (under .last)) in
-        ran-to w f _ _ _ (2 + stepsB bs) (ap (λ qs. after w map left qs back stack) (sym same))
-        (ran-within w f _ _ (1 + (stepsB bs + 1)) (2 + stepsB bs) (omega arith)
-        (ran-then w f _ _ _ 1 (stepsB bs + 1) down′ (ran-then w (down′ .rest) _ _ _ (stepsB bs) 1 (under .ran) up)))
+        ran-went w f _ _ (2 + stepsB bs) (x ∷ (xs ++ [])) (nearT (innerP x bs) (frame .radius - d) stack)
+        (ap (λ ys. x ∷ ys) (append-nil xs) ∙ same-nodes)
+        (ran-to w f _ _ _ (2 + stepsB bs) (x ∷ (xs ++ [])) (ap (λ qs. after w map left qs back stack) (sym same))
+        (ran-within w f _ _ (1 + (stepsB bs + 1)) (2 + stepsB bs) (x ∷ (xs ++ [])) (omega arith)
+        (ran-then w f _ _ _ 1 (stepsB bs + 1) (x ∷ []) (xs ++ []) down′
+        (ran-then w (down′ .rest) _ _ _ (stepsB bs) 1 xs [] (under .ran) up))))
 
     -- the chains from g on, at a radius that is not 0
     all-through : (bs : Buckets) (x g : ℕ) (stack : List Frame) → Holds (cellsB (w .cap) (w .next) bs x g) N P → SoundB (w .cap) (w .pcap) bs g
         → FitB (w .b) len bs (length stack) → length stack < len
         → (f : ℕ) (map : List ℕ) (left : ℕ) (frame : Frame) → From w bs x g frame → stepsB bs ≤ f → length (metB bs (frame .radius) stack) ≤ left
-        → Under w f map left frame (metB bs (frame .radius) stack) stack (stepsB bs)
+        → Under w f map left frame (metB bs (frame .radius) stack) (nearUnder bs (frame .radius) stack) stack (stepsB bs)
     all-through end x g stack h s u v f map left frame from c m = under-none f map left frame stack (from .0) (from .1)
     all-through (bucket ch bs) x g stack h s u v f map left frame from c m =
         then-under ch bs x g stack (h .1) (s .1) f map left frame from c m
@@ -416,7 +467,7 @@ module _ (w : Given) (small : w .cap ≤ 262144) (query : (k : ℕ) → getD (w 
     only-through : (bs : Buckets) (x g : ℕ) (stack : List Frame) → Holds (cellsB (w .cap) (w .next) bs x g) N P → SoundB (w .cap) (w .pcap) bs g
         → FitB (w .b) len bs (length stack) → length stack < len → g ≤ here w stack / 32
         → (f : ℕ) (map : List ℕ) (left : ℕ) → stepsB bs ≤ f → length (metB bs 0 stack) ≤ left
-        → Under w f map left (only x stack) (metB bs 0 stack) stack (stepsB bs)
+        → Under w f map left (only x stack) (metB bs 0 stack) (nearUnder bs 0 stack) stack (stepsB bs)
     only-through end x g stack h s u v l f map left c m = absurd (omega (arith, query (length stack), byte-small (w .b)))
     only-through (bucket ch bs) x g stack h s u v l f map left c m =
         only-here ch bs x g stack (h .0) (s .0) (s .1) (u .0) (u .1) l f map left c m
@@ -427,19 +478,36 @@ module _ (w : Given) (small : w .cap ≤ 262144) (query : (k : ℕ) → getD (w 
     chain-through : (ch : Chain) (stack : List Frame) (at y lo hi : ℕ) → Holds (cellsC (w .cap) (w .next) ch at y) N P
         → SoundC (w .cap) (w .pcap) ch lo hi → FitC (w .b) len ch (length stack) → length stack < len → Through w ch stack
     chain-through stop stack at y lo hi h s u v f map left frame e c m =
-        ran-to w f _ _ _ 0
+        ran-to w f _ _ _ 0 []
         (ap (λ n. state map left (atLink frame (frame .at) n) stack) e ∙ sym (after-none w map left (atLink frame (frame .at) 0) stack))
         (ran-none w f (state map left frame stack))
     chain-through (link b t ch) stack at y lo hi h s u v f map left frame e c m =
         child-through t ch stack b at y lo hi h s u f map left frame e c m
         (λ f′ map′ left′ frame′ e′ c′ m′. chain-through ch stack (root t) b (suc b) hi (h .1 .1) (s .3) (u .2) v f′ map′ left′ frame′ e′ c′ m′)
-        (λ d l q r c′ m′. tree-through t stack (h .1 .0) (s .2) (u .1) f map left frame d l q r c′ m′)
+        (λ d l q r c′ m′. tree-through t stack (h .1 .0) (s .2) (u .1) f map left frame d l e q r c′ m′)
+
+  -- below an inner root
+  root-through : (x : ℕ) (bs : Buckets) (radius : ℕ) (map : List ℕ) → Holds (cells (w .cap) (w .next) (innerP x bs)) N P
+      → Sound (w .cap) (w .pcap) (innerP x bs) → Fit (w .b) len (innerP x bs) 0 → steps (innerP x bs) ≤ 10 * (w .cap + 1)
+      → length (metB bs radius []) ≤ w .pcap
+      → Under w (10 * (w .cap + 1)) map (w .pcap) (entered N (w .cap) x radius (here w [])) (metB bs radius []) (nearUnder bs radius []) [] (stepsB bs)
+  unfolding frameAt
+  root-through x bs radius map h s u c m =
+      let f : ℕ = 10 * (w .cap + 1) in
+      entry bs x [] f map (w .pcap) radius
+      (λ z.
+      let zero-met : metB bs 0 [] ≡ metB bs radius [] = ap (λ k. metB bs k []) (sym z) in
+      under-same f map (w .pcap) (only x []) (metB bs 0 []) (metB bs radius []) (nearUnder bs 0 []) (nearUnder bs radius []) [] (stepsB bs) zero-met
+      (ap (λ k. nearUnder bs k []) (sym z))
+      (only-through bs x 0 [] (h .1) (s .1) (u .1) (u .0) (omega arith) f map (w .pcap) (omega arith) (omega (arith, ap length zero-met))))
+      (λ z. all-through bs x 0 [] (h .1) (s .1) (u .1) (u .0) f map (w .pcap) (frameAt N (headAt (w .cap) x 0) (headAt (w .cap) x 7) radius)
+      (from-first bs x radius (h .1) (s .1)) (omega arith) m)
 
   -- from the root
   pub right : (t : Phys) (radius : ℕ) (map : List ℕ) → Holds (cells (w .cap) (w .next) t) N P → Sound (w .cap) (w .pcap) t → Fit (w .b) len t 0
       → steps t ≤ 10 * (w .cap + 1) → length (met (w .b) radius (tree t) (w .bytes)) ≤ w .pcap
       → walkFrom w (root t) radius map ≡ walked (markAll map (w .words) (met (w .b) radius (tree t) (w .bytes))) true
-  unfolding met walkBelow frameAt
+  unfolding met walkBelow
   right (leafP x ps) radius map h s u c m =
       let word : getD N (stateAt (w .cap) x) 0 ≡ 2 + first ps = h .0 in
       let less : getD N (stateAt (w .cap) x) 0 - 2 ≡ first ps = omega arith in
@@ -448,22 +516,35 @@ module _ (w : Given) (small : w .cap ≤ 262144) (query : (k : ℕ) → getD (w 
       (sym (ap (λ n. markLeaf P (w .words) (w .pcap) (w .next) map n (w .pcap)) less ∙ leaf-marks P (w .words) (w .pcap) (w .next) N map ps (w .pcap) (h .1 .1) (s .1) m))
       refl)
   right (innerP x bs) radius map h s u c m =
-      let f : ℕ = 10 * (w .cap + 1) in
-      let cons : w .bytes ≡ here w [] ∷ behind w [] = drop-cons (w .bytes) 0 0 (u .0) in
       let ps : List ℕ = metB bs radius [] in
-      let same : met (w .b) radius (tree (innerP x bs)) (w .bytes) ≡ ps = ap (metIn (w .b) radius (kids bs)) cons in
-      let under = entry bs x [] f map (w .pcap) radius
-      (λ z.
-      let zero-met : metB bs 0 [] ≡ ps = ap (λ k. metB bs k []) (sym z) in
-      under-same f map (w .pcap) (only x []) (metB bs 0 []) ps [] (stepsB bs) zero-met
-      (only-through bs x 0 [] (h .1) (s .1) (u .1) (u .0) (omega arith) f map (w .pcap) (omega arith) (omega (arith, ap length same, ap length zero-met))))
-      (λ z. all-through bs x 0 [] (h .1) (s .1) (u .1) (u .0) f map (w .pcap) (frameAt N (headAt (w .cap) x 0) (headAt (w .cap) x 7) radius)
-      (from-first bs x radius (h .1) (s .1)) (omega arith) (omega (arith, ap length same))) in
+      let same : met (w .b) radius (tree (innerP x bs)) (w .bytes) ≡ ps = ap (metIn (w .b) radius (kids bs)) (drop-cons (w .bytes) 0 0 (u .0)) in
+      let under = root-through x bs radius map h s u c (omega (arith, ap length same)) in
       sym (from-inner w x radius map (stateAt (w .cap) x) refl (h .0))
       ∙ under .ran .same
       ∙ step-end w (under .ran .rest) (omega (arith, under .ran .enough)) (markAll map (w .words) ps) (w .pcap - length ps) (under .done)
       (step-last N (w .cap) (w .b) (under .done) (here w []) (under .empty) (under .last))
       ∙ ap (λ qs. walked (markAll map (w .words) qs) true) (sym same)
+
+  -- the nodes that it goes through
+  pub right-trail : (t : Phys) (radius : ℕ) (map : List ℕ) → Holds (cells (w .cap) (w .next) t) N P → Sound (w .cap) (w .pcap) t → Fit (w .b) len t 0
+      → steps t ≤ 10 * (w .cap + 1) → length (met (w .b) radius (tree t) (w .bytes)) ≤ w .pcap
+      → trailFrom w (root t) radius map ≡ near (w .b) radius t (w .bytes)
+  unfolding met near
+  right-trail (leafP x ps) radius map h s u c m =
+      let word : getD N (stateAt (w .cap) x) 0 ≡ 2 + first ps = h .0 in
+      trail-leaf w x radius map (omega arith)
+  right-trail (innerP x bs) radius map h s u c m =
+      let ps : List ℕ = metB bs radius [] in
+      let xs : List ℕ = nearUnder bs radius [] in
+      let cons : w .bytes ≡ here w [] ∷ behind w [] = drop-cons (w .bytes) 0 0 (u .0) in
+      let same : met (w .b) radius (tree (innerP x bs)) (w .bytes) ≡ ps = ap (metIn (w .b) radius (kids bs)) cons in
+      let under = root-through x bs radius map h s u c (omega (arith, ap length same)) in
+      let ended : trail w (under .ran .rest) (after w map (w .pcap) ps (under .done) []) ≡ [] =
+      trail-end w (under .ran .rest) (omega (arith, under .ran .enough)) (markAll map (w .words) ps) (w .pcap - length ps) (under .done)
+      (step-last N (w .cap) (w .b) (under .done) (here w []) (under .empty) (under .last)) in
+      trail-inner w x radius map (h .0)
+      ∙ ap (λ ys. x ∷ ys) (under .ran .nodes ∙ ap (λ ys. xs ++ ys) ended ∙ append-nil xs)
+      ∙ ap (λ ys. x ∷ nearB (w .b) radius bs ys) (sym cons)
 
 -- ---- what a walk can cost: at most ten steps a node
 module _ (cap pcap : ℕ) where

@@ -1,14 +1,15 @@
--- The walk over one block's trie, on tables that hold a sound one: it marks exactly what is met, all of it below the page capacity.
+-- The walk over one block's trie, on tables that hold a sound one: it marks exactly what is met, all of it below the page capacity, and goes through
+-- exactly the nodes within the radius.
 use Prim.Native.Nat.{ℕ, suc, _+_, _-_, _*_, _^_, _≤_, _<_}
 use native.Mathlib.Omega.{arith}
-use mathlib.Core.Path.{_≡_, refl, _∙_}
+use mathlib.Core.Path.{_≡_, refl, ap, _∙_}
 use mathlib.Core.Bool.{Bool, true, false, cond}
 use mathlib.Core.List.{List, [], _∷_, _++_}
 use lib.Dec.{ltb, leb}
 use lib.ListN.{length, getD}
 use lib.Bits.{bitXor}
 use borrow.Author.Tests.{lt-ltb}
-use Rattle.meaning.specs.Lists.{all}
+use Rattle.meaning.specs.Lists.{all, count}
 use Rattle.meaning.specs.Sketch.{perByte, byteDistance}
 use Rattle.meaning.specs.Trie.{Children, met, metIn, nodes}
 use Rattle.meaning.proofs.Lists.{all-append, and-intro}
@@ -17,8 +18,11 @@ use Rattle.trie.specs.Phys.{Phys, leafP, innerP, Buckets, end, bucket, Chain, s
 use Rattle.trie_laws.specs.Sound.{soundTrie}
 use Rattle.walk.specs.Mark.{markAll}
 use Rattle.walk.specs.Walk.{Given, walked, walkFrom}
+use Rattle.walk_laws.specs.Near.{near, nearNodes, pathsIn, pathNear}
+use Rattle.walk_laws.specs.Trail.{trailFrom}
 use Rattle.walk_laws.proofs.Fit.{fit}
-use Rattle.walk_laws.proofs.Right.{right, steps-nodes}
+use Rattle.walk_laws.proofs.Near.{near-count, near-le, near-path, near-zero}
+use Rattle.walk_laws.proofs.Right.{right, right-trail, steps-nodes}
 
 -- ---- on tables that hold a sound trie
 pub walk-right : (w : Given) (bytesOf : ℕ → List ℕ) (n : ℕ) (t : Phys) (radius : ℕ) (map : List ℕ) → w .cap ≤ 262144
@@ -31,7 +35,40 @@ walk-right w bytesOf n t radius map small query h s sound few pages =
     right w small query t radius map h s (fit bytesOf (w .b) n (length (w .bytes)) t 0 sound)
     (omega (arith, steps-nodes (w .cap) (w .pcap) t s)) pages
 
--- what is met is below the page capacity
+-- ---- the nodes it goes through there
+module _ (w : Given) (bytesOf : ℕ → List ℕ) (n : ℕ) (t : Phys) (radius : ℕ) (map : List ℕ) (small : w .cap ≤ 262144)
+    (query : (k : ℕ) → getD (w .bytes) k 0 < 2 ^ (w .b * perByte (w .b)))
+    (h : Holds (cells (w .cap) (w .next) t) (w .nodes) (w .pages)) (s : Sound (w .cap) (w .pcap) t)
+    (sound : soundTrie bytesOf (w .b) n (length (w .bytes)) 0 (tree t) ≡ true)
+    (few : nodes (tree t) ≤ w .cap) (pages : length (met (w .b) radius (tree t) (w .bytes)) ≤ w .pcap) where
+  -- those of `near`, in order
+  pub walk-trail : trailFrom w (root t) radius map ≡ near (w .b) radius t (w .bytes)
+  walk-trail =
+      right-trail w small query t radius map h s (fit bytesOf (w .b) n (length (w .bytes)) t 0 sound)
+      (omega (arith, steps-nodes (w .cap) (w .pcap) t s)) pages
+
+  pub walk-count : length (trailFrom w (root t) radius map) ≡ nearNodes (w .b) radius (tree t) (w .bytes)
+  walk-count = ap length walk-trail ∙ near-count (w .b) t radius (w .bytes)
+
+  -- as many as there are paths that differ from the query's symbols on them in at most the radius
+  pub walk-paths : length (trailFrom w (root t) radius map) ≡ count (pathNear (w .b) radius (w .bytes)) (pathsIn (tree t))
+  walk-paths = walk-count ∙ near-path bytesOf (w .b) n (tree t) radius (w .bytes) sound
+
+  -- no more than the table has
+  pub walk-few : length (trailFrom w (root t) radius map) ≤ w .cap
+  walk-few = omega (arith, walk-count, near-le (w .b) (tree t) radius (w .bytes))
+
+  -- at radius 0 at most the packed length and the root
+  pub walk-zero : radius ≡ 0 → length (trailFrom w (root t) radius map) ≤ length (w .bytes) + 1
+  walk-zero z =
+      omega (
+        arith,
+        walk-count,
+        ap (λ r. nearNodes (w .b) r (tree t) (w .bytes)) z,
+        near-zero bytesOf (w .b) n (length (w .bytes)) (tree t) 0 (w .bytes) query sound,
+      )
+
+-- ---- what is met is below the page capacity
 pub below-all : (pcap : ℕ) (ps : List ℕ) → Below pcap ps → all (λ p. ltb p pcap) ps ≡ true
 unfolding all
 below-all pcap [] h = refl
