@@ -129,7 +129,57 @@ fn run(c: &Case) {
     );
 }
 
+/// The way is changed after every query, so that the scans leave little of an index in the caches: medians over single searches.
+fn apart(c: &Case) {
+    let mut random = Random::new(u64::from(c.b) * 1_000 + c.n as u64 + u64::from(c.clustered));
+    let (rows, queries) = rows(c, &mut random);
+    let mut t = store(c, &rows);
+    let mut lent = t.lend();
+    let vertical = Vertical::new(&rows);
+    let mut pointers = Pointers::new(c.b, c.m, c.q, c.n, c.threshold);
+    for p in 0..c.n {
+        assert!(pointers.add(p as u32, rows.classes[p], rows.row(p)));
+    }
+    let mut output = vec![0u16; c.n];
+    let mut times = [const { Vec::new() }; 4];
+    for query in &queries[..4 * SCANS] {
+        let mut first: Option<Vec<u16>> = None;
+        for (way, times) in times.iter_mut().enumerate() {
+            let mut list = Vec::with_capacity(64);
+            let start = Instant::now();
+            match way {
+                0 => {
+                    let given = calls::search(&mut lent, 9, c.r, query, &mut output);
+                    assert_eq!(given.number, 0);
+                    list.extend_from_slice(&output[..given.value as usize]);
+                }
+                1 => rows.full(OPEN, query, c.r, &mut list),
+                2 => vertical.scan(OPEN, query, c.r, &mut list),
+                _ => pointers.search(OPEN, query, c.r, &mut list),
+            }
+            times.push(start.elapsed().as_nanos() as f64 / 1000.0);
+            assert!(*first.get_or_insert_with(|| list.clone()) == list, "lists differ");
+        }
+    }
+    let [ours, full, vertical, pointers] = times.map(median);
+    println!(
+        "{:5} {} {:2} {:2} {:1} {:2} {} {ours:7.1} {full:7.1} {vertical:7.1} {pointers:7.1}   {:5.2}  {:5.2}",
+        c.n, c.b, c.m, c.r, c.q, c.threshold, if c.clustered { "clustered" } else { "random   " },
+        ours / full.min(vertical), ours / pointers
+    );
+}
+
 fn main() {
+    if std::env::args().any(|a| a == "apart") {
+        println!("Microseconds a search, the way changed after every query; medians over single searches.");
+        println!("    n b  m  r q  t sketches     ours    full  vertic pointer   /scan  /trie");
+        for (r, q) in [(1, 2), (1, 1), (2, 3), (2, 2), (3, 4), (3, 3)] {
+            for clustered in [false, true] {
+                apart(&Case { n: 65_535, b: 4, m: 32, r, q, threshold: 32, clustered });
+            }
+        }
+        return;
+    }
     println!("Microseconds a search, medians; the last columns: this search / the best scan, and / the pointer trie.");
     println!("    n b  m  r q  t sketches  found    ours   early    full  vertic    hash pointer   /scan  /trie");
     let quick = std::env::args().any(|a| a == "quick");
