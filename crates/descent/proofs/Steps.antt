@@ -1,0 +1,105 @@
+-- Steps of a descent: they stay inside the bytes, and one that has ended stays.
+use Prim.Native.Nat.{ℕ, zero, suc, _+_, _-_, _/_, _<_, _≤_}
+use native.Mathlib.Nat.{zero-add, suc-add}
+use native.Mathlib.Omega.{arith}
+use mathlib.Core.Path.{_≡_, refl, sym, ap, _∙_}
+use mathlib.Core.Bool.{Bool, true, false, cond}
+use mathlib.Core.List.{List}
+use lib.Dec.{ltb, eqb}
+use lib.ListN.{length, getD}
+use borrow.Author.Tests.{eq-eqb, ne-eqb, lt-ltb, le-ltb, ltb-false}
+use Rattle.layout.specs.Nodes.{linkOf, byteOf, stateAt, headAt, freeState, innerState}
+use Rattle.descent.specs.declared.Cursor.{Cursor}
+use Rattle.descent.specs.Cursor.{Inside, ended, outside, ahead, arrive, pass, advance, descended}
+
+module _ (nodes : List ℕ) (cap : ℕ) (bytes : List ℕ) where
+  inside-ended : (first : ℕ) → 0 < length bytes → Inside bytes (ended first)
+  inside-ended first some = record { at = some; last = some }
+
+  inside-arrive : (x at last : ℕ) → last < length bytes → Inside bytes (arrive nodes cap bytes x at last)
+  unfolding arrive
+  inside-arrive x at last h =
+      go (eqb (getD nodes (stateAt cap x) 0) freeState) (eqb (getD nodes (stateAt cap x) 0) innerState) (ltb last at) refl
+    where
+      go : (free within short : Bool) → ltb last at ≡ short
+          → Inside bytes
+          (cond free (ended outside)
+          (cond within
+          (cond short (ended outside) (ahead (linkOf (getD nodes (headAt cap x (getD bytes at 0 / 32)) 0)) at last))
+          (ended (getD nodes (stateAt cap x) 0 - 2))))
+      go true within short e = inside-ended outside (omega arith)
+      go false true true e = inside-ended outside (omega arith)
+      go false true false e = record { at = omega (arith, ltb-false last at e); last = h }
+      go false false short e = inside-ended (getD nodes (stateAt cap x) 0 - 2) (omega arith)
+
+  inside-pass : (x at last : ℕ) → at < length bytes → last < length bytes → Inside bytes (pass nodes cap bytes x at last)
+  unfolding pass
+  inside-pass x at last g h = go (ltb (byteOf (getD nodes x 0)) (getD bytes at 0)) (ltb (getD bytes at 0) (byteOf (getD nodes x 0)))
+    where
+      go : (before behind : Bool)
+          → Inside bytes (cond before (ahead (linkOf (getD nodes x 0)) at last) (cond behind (ended 0) (arrive nodes cap bytes x (at + 1) last)))
+      go true behind = record { at = g; last = h }
+      go false true = inside-ended 0 (omega arith)
+      go false false = inside-arrive x (at + 1) last h
+
+  pub inside-advance : (c : Cursor) → Inside bytes c → Inside bytes (advance nodes cap bytes c)
+  unfolding advance
+  inside-advance c h = go (eqb (c .link) 0) (ltb cap (c .link))
+    where
+      go : (still far : Bool) → Inside bytes (cond still c (cond far (ended outside) (pass nodes cap bytes (c .link - 1) (c .at) (c .last))))
+      go true far = h
+      go false true = inside-ended outside (omega (arith, h .at))
+      go false false = inside-pass (c .link - 1) (c .at) (c .last) (h .at) (h .last)
+
+  -- ---- what has ended
+
+  pub advance-ended : (c : Cursor) → c .link ≡ 0 → advance nodes cap bytes c ≡ c
+  unfolding advance
+  advance-ended c e = rw (eq-eqb (c .link) 0 e)
+
+  pub descended-ended : (f : ℕ) (c : Cursor) → c .link ≡ 0 → descended nodes cap bytes f c ≡ c
+  unfolding descended
+  descended-ended zero c e = refl
+  descended-ended (suc f) c e = rw (advance-ended c e) (descended-ended f c e)
+
+  -- ---- what goes on
+
+  pub advance-outside : (c : Cursor) → cap < c .link → advance nodes cap bytes c ≡ ended outside
+  unfolding advance
+  advance-outside c h = rw (ne-eqb (c .link) 0 (λ e. absurd (omega arith)), lt-ltb cap (c .link) h)
+
+  module _ (c : Cursor) (going : 0 < c .link) (inside : c .link ≤ cap) (byte : ℕ) (e : byte ≡ byteOf (getD nodes (c .link - 1) 0)) where
+    advance-pass : advance nodes cap bytes c ≡ pass nodes cap bytes (c .link - 1) (c .at) (c .last)
+    unfolding advance
+    advance-pass = rw (ne-eqb (c .link) 0 (λ z. absurd (omega arith)), le-ltb cap (c .link) inside)
+
+    pub advance-along : byte < getD bytes (c .at) 0 → advance nodes cap bytes c ≡ ahead (linkOf (getD nodes (c .link - 1) 0)) (c .at) (c .last)
+    unfolding pass
+    advance-along h = advance-pass ∙ rw (← e, lt-ltb byte (getD bytes (c .at) 0) h)
+
+    pub advance-past : getD bytes (c .at) 0 < byte → advance nodes cap bytes c ≡ ended 0
+    unfolding pass
+    advance-past h = advance-pass ∙ rw (← e, le-ltb byte (getD bytes (c .at) 0) (omega arith), lt-ltb (getD bytes (c .at) 0) byte h)
+
+    pub advance-down : byte ≡ getD bytes (c .at) 0 → advance nodes cap bytes c ≡ arrive nodes cap bytes (c .link - 1) (c .at + 1) (c .last)
+    unfolding pass
+    advance-down h =
+        advance-pass ∙ rw (← e, le-ltb byte (getD bytes (c .at) 0) (omega arith), le-ltb (getD bytes (c .at) 0) byte (omega arith))
+
+  -- ---- more steps
+
+  pub descended-more : (f g : ℕ) (c : Cursor) → descended nodes cap bytes (f + g) c ≡ descended nodes cap bytes g (descended nodes cap bytes f c)
+  unfolding descended
+  descended-more zero g c = rw (zero-add g)
+  descended-more (suc f) g c = rw (suc-add f g) (descended-more f g (advance nodes cap bytes c))
+
+  pub descended-next : (f : ℕ) (c : Cursor) → descended nodes cap bytes (f + 1) c ≡ advance nodes cap bytes (descended nodes cap bytes f c)
+  unfolding descended
+  descended-next f c = descended-more f 1 c
+
+  -- where it has ended, no step changes it
+  pub descended-done : (f g : ℕ) (c : Cursor) → f ≤ g → (descended nodes cap bytes f c) .link ≡ 0
+      → descended nodes cap bytes g c ≡ descended nodes cap bytes f c
+  descended-done f g c h e =
+      let s : g ≡ f + (g - f) = omega (arith, h) in
+      ap (λ k. descended nodes cap bytes k c) s ∙ descended-more f (g - f) c ∙ descended-ended (g - f) (descended nodes cap bytes f c) e

@@ -1,0 +1,72 @@
+-- Exact descents: the leaf of a trie that the bytes of a block lead to, a step at a time.
+use Prim.Native.Nat.{ℕ, zero, suc, _+_, _-_, _*_, _/_, _<_, _≤_}
+use mathlib.Core.Path.{_≡_}
+use mathlib.Core.Bool.{cond}
+use mathlib.Core.List.{List}
+use lib.Dec.{ltb, eqb}
+use lib.ListN.{length, getD}
+use Rattle.layout.specs.Nodes.{linkOf, byteOf, stateAt, headAt, freeState, innerState}
+use Rattle.descent.specs.declared.Cursor.{Cursor}
+
+-- the node table is long enough for its capacity, and the bytes are at most those of eight blocks
+pub record Fits (nodes : List ℕ) (cap : ℕ) (bytes : List ℕ) : Type 0 where
+  pub long : 10 * cap ≤ length nodes
+  pub most : cap ≤ 262144
+  pub few : length bytes ≤ 512
+
+-- the bytes that a descent is at lie in the table of bytes
+pub record Inside (bytes : List ℕ) (c : Cursor) : Type 0 where
+  pub at : c .at < length bytes
+  pub last : c .last < length bytes
+
+-- at a leaf, by the link of its first page
+abbrev pub ended : ℕ → Cursor
+ended first = record { link = 0; at = 0; last = 0; first = first }
+
+-- the first n of 16 descents
+pub record AllInside (bytes : List ℕ) (cs : List Cursor) (n : ℕ) : Type 0 where
+  pub long : length cs ≡ 16
+  pub few : n ≤ 16
+  pub each : (j : ℕ) → j < n → Inside bytes (getD cs j (ended 0))
+
+-- a link past every page
+abbrev pub outside : ℕ
+outside = 65536
+
+-- ahead of the child at a link
+abbrev pub ahead : ℕ → ℕ → ℕ → Cursor
+ahead link at last = record { link = link; at = at; last = last; first = 0 }
+
+module _ (nodes : List ℕ) (cap : ℕ) (bytes : List ℕ) where
+  -- at node x, with the bytes from `at` to `last` to go: a leaf, or the chain that the next byte belongs to
+  unfoldable pub arrive : ℕ → ℕ → ℕ → Cursor
+  arrive x at last =
+      cond (eqb (getD nodes (stateAt cap x) 0) freeState) (ended outside)
+      (cond (eqb (getD nodes (stateAt cap x) 0) innerState)
+      (cond (ltb last at) (ended outside) (ahead (linkOf (getD nodes (headAt cap x (getD bytes at 0 / 32)) 0)) at last))
+      (ended (getD nodes (stateAt cap x) 0 - 2)))
+
+  -- at the child x of a chain whose bytes rise
+  unfoldable pub pass : ℕ → ℕ → ℕ → Cursor
+  pass x at last =
+      cond (ltb (byteOf (getD nodes x 0)) (getD bytes at 0)) (ahead (linkOf (getD nodes x 0)) at last)
+      (cond (ltb (getD bytes at 0) (byteOf (getD nodes x 0))) (ended 0) (arrive x (at + 1) last))
+
+  -- one step; a descent that has ended stays
+  unfoldable pub advance : Cursor → Cursor
+  advance c =
+      cond (eqb (c .link) 0) c
+      (cond (ltb cap (c .link)) (ended outside) (pass (c .link - 1) (c .at) (c .last)))
+
+  -- f steps
+  unfoldable pub descended : ℕ → Cursor → Cursor
+  descended zero c = c
+  descended (suc f) c = descended f (advance c)
+
+-- each of the first n descents after as many steps as there are nodes
+pub record AllDescended (nodes : List ℕ) (cap : ℕ) (bytes : List ℕ) (before : List Cursor) (n : ℕ) (after : List Cursor) : Type 0 where
+  pub each : (j : ℕ) → j < n → getD after j (ended 0) ≡ descended nodes cap bytes cap (getD before j (ended 0))
+
+-- the link of the leaf's first page, 0 for none; one past every page where the descent did not end
+unfoldable pub leafOf : Cursor → ℕ
+leafOf c = cond (eqb (c .link) 0) (c .first) outside

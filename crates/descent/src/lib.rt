@@ -1,0 +1,126 @@
+// Exact descents: the leaf of a trie that the bytes of a block lead to. The descents of several blocks go on in turn, a step each:
+// none waits for another, so the memory can answer for all of them at once.
+ghost use mathlib.Core.Path.{_≡_};
+ghost use Prim.Native.Nat.{_*_, _<_, _≤_};
+ghost use lib.ListN.{length};
+ghost use Rattle.descent.specs.Cursor.{Fits, Inside, AllInside, ended, arrive, advance, AllDescended, leafOf};
+
+// Where a descent stands: ahead of the child at `link`, which must have the byte at `at`; the block's last byte is at `last`.
+// At link 0 it has ended: `first` is the link of the leaf's first page, or 0 where no leaf is reached.
+pub struct Cursor {
+    pub link: u32,
+    pub at: u32,
+    pub last: u32,
+    pub first: u32,
+}
+
+// A link past every page: what a descent gives that meets a link out of order.
+const OUTSIDE: u32 = 65536;
+
+// A descent that has ended, at a leaf by the link of its first page.
+pub fn ended(first: u32) -> Cursor
+    ensures { λ r. ⌜ r ≡ ended first ⌝ }
+{
+    Cursor {
+        link: 0,
+        at: 0,
+        last: 0,
+        first: first,
+    }
+}
+
+// A descent that has come to node x, with the bytes from `at` to `last` to go.
+pub fn arrive(nodes: &[u32], cap: usize, bytes: &[u8], x: usize, at: u32, last: u32) -> Cursor
+    requires { ⌜ Fits (now nodes) cap (now bytes) ⌝ }
+    requires { ⌜ (x < cap) × (last < length (now bytes)) ⌝ }
+    ensures { λ r. ⌜ r ≡ arrive (now (nodes .entry)) cap (now (bytes .entry)) x at last ⌝ }
+{
+    let state = nodes[layout::nodes::state_at(cap, x)];
+    if state == 0 {
+        return ended(OUTSIDE);
+    }
+    if state != 1 {
+        return ended(state - 2);
+    }
+    if last < at {
+        return ended(OUTSIDE);
+    }
+    let head = layout::nodes::head_at(cap, x, (bytes[at as usize] / 32) as usize);
+    Cursor {
+        link: layout::nodes::link_of(nodes[head]),
+        at: at,
+        last: last,
+        first: 0,
+    }
+}
+
+// The next step of a descent: along the chain, whose bytes rise, or down. One that has ended stays.
+fn advance(nodes: &[u32], cap: usize, bytes: &[u8], c: Cursor) -> Cursor
+    requires { ⌜ Fits (now nodes) cap (now bytes) ⌝ }
+    requires { ⌜ Inside (now bytes) c ⌝ }
+    ensures { λ r. ⌜ r ≡ advance (now (nodes .entry)) cap (now (bytes .entry)) c ⌝ }
+{
+    if c.link == 0 {
+        return c;
+    }
+    let x = c.link as usize - 1;
+    if x >= cap {
+        return ended(OUTSIDE);
+    }
+    let w = nodes[x];
+    let byte = layout::nodes::byte_of(w);
+    let y = bytes[c.at as usize] as u32;
+    if byte < y {
+        return Cursor {
+            link: layout::nodes::link_of(w),
+            at: c.at,
+            last: c.last,
+            first: 0,
+        };
+    }
+    if y < byte {
+        return ended(0);
+    }
+    arrive(nodes, cap, bytes, x, c.at + 1, c.last)
+}
+
+// Lets the first n descents go on to their ends, at most as many steps as there are nodes.
+pub fn descend(
+    nodes: &[u32],
+    cap: usize,
+    bytes: &[u8],
+    start: [Cursor; 16],
+    n: usize,
+) -> [Cursor; 16]
+    requires { ⌜ Fits (now nodes) cap (now bytes) ⌝ }
+    requires { ⌜ AllInside (now bytes) start n ⌝ }
+    ensures { λ r. ⌜ AllDescended (now (nodes .entry)) cap (now (bytes .entry)) start n r ⌝ }
+{
+    let mut cursors = start;
+    let mut left = cap;
+    while left > 0 {
+        let mut going: usize = 0;
+        let mut j = 0;
+        while j < n {
+            let c = advance(nodes, cap, bytes, cursors[j]);
+            cursors[j] = c;
+            going += (c.link != 0) as usize;
+            j += 1;
+        }
+        if going == 0 {
+            return cursors;
+        }
+        left -= 1;
+    }
+    cursors
+}
+
+// The link of the first page of the leaf that a descent led to, 0 where there is none, and one past every page where it did not end.
+pub fn leaf_of(c: Cursor) -> u32
+    ensures { λ r. ⌜ r ≡ leafOf c ⌝ }
+{
+    if c.link != 0 {
+        return OUTSIDE;
+    }
+    c.first
+}
