@@ -16,7 +16,7 @@ module _ (nodes : List ℕ) (cap : ℕ) (bytes : List ℕ) where
   inside-ended : (first : ℕ) → 0 < length bytes → Inside bytes (ended first)
   inside-ended first some = record { at = some; last = some }
 
-  inside-arrive : (x at last : ℕ) → last < length bytes → Inside bytes (arrive nodes cap bytes x at last)
+  pub inside-arrive : (x at last : ℕ) → last < length bytes → Inside bytes (arrive nodes cap bytes x at last)
   unfolding arrive
   inside-arrive x at last h =
       go (eqb (getD nodes (stateAt cap x) 0) freeState) (eqb (getD nodes (stateAt cap x) 0) innerState) (ltb last at) refl

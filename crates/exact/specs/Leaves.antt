@@ -1,0 +1,34 @@
+-- The leaf in the trie of each block that a query's own bytes lead to. N is the node table, x the query.
+use Prim.Native.Nat.{ℕ, _+_, _-_, _*_, _<_}
+use mathlib.Core.Path.{_≡_}
+use mathlib.Core.List.{List}
+use lib.ListN.{length, getD}
+use Rattle.meaning.specs.Sketch.{packedLength, blockLength}
+use Rattle.meaning.specs.Forest.{bytesOfSketch}
+use Rattle.layout.specs.declared.Header.{Header}
+use Rattle.layout.specs.Header.{bare}
+use Rattle.descent.specs.declared.Cursor.{Cursor}
+use Rattle.descent.specs.Cursor.{ended, arrive, descended, leafOf}
+
+-- how many packed bytes block j has
+abbrev pub blockSize : Header → ℕ → ℕ
+blockSize h j = packedLength (h .b) (blockLength (h .m) (h .q) j)
+
+-- the bytes of block j stand from 64 × j on
+pub record Packed (h : Header) (x bytes : List ℕ) : Type 0 where
+  pub long : length bytes ≡ 512
+  pub each : (j k : ℕ) → j < h .q → k < length (bytesOfSketch (bare h) j x) → getD bytes (64 * j + k) 0 ≡ getD (bytesOfSketch (bare h) j x) k 0
+
+-- each block's descent at its root
+pub record Started (h : Header) (N bytes : List ℕ) (cs : List Cursor) : Type 0 where
+  pub long : length cs ≡ 16
+  pub each : (j : ℕ) → j < h .q → getD cs j (ended 0) ≡ arrive N (h .nodes) bytes j (64 * j) (64 * j + (blockSize h j - 1))
+
+-- the leaf of block j, by the link of its first page; node j is the root
+unfoldable pub leafIn : Header → List ℕ → List ℕ → ℕ → ℕ
+leafIn h N x j =
+    let ys : List ℕ = bytesOfSketch (bare h) j x in
+    leafOf (descended N (h .nodes) ys (h .nodes) (arrive N (h .nodes) ys j 0 (length ys - 1)))
+
+pub record Leaves (h : Header) (N x firsts : List ℕ) : Type 0 where
+  pub each : (j : ℕ) → j < h .q → getD firsts j 0 ≡ leafIn h N x j
