@@ -40,7 +40,7 @@ fuzz: archives
 bench: archives
 	@$(CARGO) build --quiet $(TESTS) --bins
 	@for name in sketches tries nodes search; do target/rust/release/bench_$$name | tee docs/bench/$$name.txt; done
-	@target/rust/release/bench_search apart | tee docs/bench/apart.txt
+	@target/rust/release/bench_search rows | tee docs/bench/rows.txt
 	@$(MAKE) --no-print-directory plot
 
 plot:

@@ -129,8 +129,8 @@ fn run(c: &Case) {
     );
 }
 
-/// The way is changed after every query, so that the scans leave little of an index in the caches: medians over single searches.
-fn apart(c: &Case) {
+/// Each way answers `row` queries in a row, then the next way: the fewer, the less of an index do the scans leave in the caches.
+fn in_rows(c: &Case, row: usize) {
     let mut random = Random::new(u64::from(c.b) * 1_000 + c.n as u64 + u64::from(c.clustered));
     let (rows, queries) = rows(c, &mut random);
     let mut t = store(c, &rows);
@@ -142,40 +142,41 @@ fn apart(c: &Case) {
     }
     let mut output = vec![0u16; c.n];
     let mut times = [const { Vec::new() }; 4];
-    for query in &queries[..4 * SCANS] {
-        let mut first: Option<Vec<u16>> = None;
-        for (way, times) in times.iter_mut().enumerate() {
-            let mut list = Vec::with_capacity(64);
-            let start = Instant::now();
-            match way {
-                0 => {
-                    let given = calls::search(&mut lent, 9, c.r, query, &mut output);
-                    assert_eq!(given.number, 0);
-                    list.extend_from_slice(&output[..given.value as usize]);
-                }
-                1 => rows.full(OPEN, query, c.r, &mut list),
-                2 => vertical.scan(OPEN, query, c.r, &mut list),
-                _ => pointers.search(OPEN, query, c.r, &mut list),
-            }
-            times.push(start.elapsed().as_nanos() as f64 / 1000.0);
-            assert!(*first.get_or_insert_with(|| list.clone()) == list, "lists differ");
-        }
+    for queries in queries.chunks(row).cycle().take((4 * SCANS / row).max(ROUNDS)) {
+        let (time, lists) = timed(queries, &mut |query, list| {
+            let given = calls::search(&mut lent, 9, c.r, query, &mut output);
+            assert_eq!(given.number, 0);
+            list.extend_from_slice(&output[..given.value as usize]);
+        });
+        times[0].push(time);
+        let mut other = |way: usize, count: usize, search: &mut dyn FnMut(&[u8], &mut Vec<u16>)| {
+            let (time, other) = timed(&queries[..count.min(row)], search);
+            times[way].push(time);
+            assert!(other == lists[..count.min(row)], "lists differ");
+        };
+        other(1, SCANS, &mut |query, list| rows.full(OPEN, query, c.r, list));
+        other(2, SCANS, &mut |query, list| vertical.scan(OPEN, query, c.r, list));
+        other(3, QUERIES, &mut |query, list| pointers.search(OPEN, query, c.r, list));
     }
     let [ours, full, vertical, pointers] = times.map(median);
+    let scan = full.min(vertical);
     println!(
-        "{:5} {} {:2} {:2} {:1} {:2} {} {ours:7.1} {full:7.1} {vertical:7.1} {pointers:7.1}   {:5.2}  {:5.2}",
+        "{:5} {} {:2} {:2} {:1} {:2} {} {row:5} {ours:7.1} {full:7.1} {vertical:7.1} {pointers:7.1}   {:5.2}  {:5.2}       {:5.2}",
         c.n, c.b, c.m, c.r, c.q, c.threshold, if c.clustered { "clustered" } else { "random   " },
-        ours / full.min(vertical), ours / pointers
+        ours / scan, ours / pointers, pointers / scan
     );
 }
 
 fn main() {
-    if std::env::args().any(|a| a == "apart") {
-        println!("Microseconds a search, the way changed after every query; medians over single searches.");
-        println!("    n b  m  r q  t sketches     ours    full  vertic pointer   /scan  /trie");
-        for (r, q) in [(1, 2), (1, 1), (2, 3), (2, 2), (3, 4), (3, 3)] {
-            for clustered in [false, true] {
-                apart(&Case { n: 65_535, b: 4, m: 32, r, q, threshold: 32, clustered });
+    if std::env::args().any(|a| a == "rows") {
+        println!("Microseconds a search, so many in a row before the way is changed; medians. The last columns: this search / the best scan,");
+        println!("this search / the pointer trie, the pointer trie / the best scan.");
+        println!("    n b  m  r q  t sketches  row    ours    full  vertic pointer   /scan  /trie  trie/scan");
+        for clustered in [false, true] {
+            for (r, q) in [(3, 4), (2, 2)] {
+                for row in [1, 10, 100, 1_000] {
+                    in_rows(&Case { n: 65_535, b: 4, m: 32, r, q, threshold: 32, clustered }, row);
+                }
             }
         }
         return;
