@@ -1,12 +1,12 @@
 -- The walks of the blocks: what a walk asks of the tables, and the loop over the blocks.
-use Prim.Native.Nat.{ℕ, suc, _+_, _-_, _/_, _≤_, _<_}
+use Prim.Native.Nat.{ℕ, suc, _+_, _-_, _*_, _/_, _≤_, _<_}
 use native.Mathlib.Omega.{arith}
 use native.Mathlib.Nat.{suc-mul, mul-le-mul-right}
 use native.Mathlib.Numerals.{add-one}
-use mathlib.Core.Path.{_≡_, refl, sym, _∙_}
+use mathlib.Core.Path.{_≡_, refl, sym, ap, _∙_}
 use mathlib.Core.Bool.{Bool, true, false}
 use mathlib.Core.List.{List}
-use lib.ListN.{length, take, drop}
+use lib.ListN.{length, getD, take, drop}
 use lib.Seq.{take-at}
 use Rattle.meaning.specs.Lists.{onto}
 use Rattle.meaning.specs.Sketch.{pack, packedLength, block, blockLength}
@@ -17,23 +17,26 @@ use Rattle.layout.specs.Lengths.{nodesLength, pagesLength, workingLength}
 use Rattle.layout.specs.Pages.{nextAt}
 use Rattle.layout.specs.Working.{mapWords, summaryWords}
 use Rattle.layout.proofs.Sizes.{map-most, pages-mapped}
-use Rattle.sketch_laws.proofs.Packing.{per-byte-pos, byte-there, packed-most}
-use Rattle.sketch_laws.proofs.Blocks.{block-end, block-pos, block-packed}
-use Rattle.walk.specs.Walk.{given, Fitting, Walked, walked, walkFrom}
+use Rattle.exact.specs.Leaves.{leafIn, Leaves}
+use Rattle.exact.proofs.Sizes.{bytes-length, size-most, size-some}
+use Rattle.walk.specs.declared.mark.Left.{Left}
+use Rattle.walk.specs.Mark.{marks, markLeaf}
+use Rattle.walk.specs.Walk.{Given, given, Fitting, Walked, walked, isSome, walkedLeaf, mark, exactFrom, leafFrom, walkFrom}
+use Rattle.walk.proofs.Turns.{from-exact}
 use Rattle.search_laws.specs.Marks.{walkOf, markBlock, markFrom, markBlocks}
 use Rattle.search.specs.Ready.{Fits, Lent}
 
 module _ (h : Header) (x : List ℕ) (fits : Fits h x) (j : ℕ) (l : j < h .q) where
   -- the packed bytes of block j
-  pub bytes-length : length (bytesOfSketch (bare h) j x) ≡ packedLength (h .b) (blockLength (h .m) (h .q) j)
-  unfolding bytesOfSketch
-  bytes-length = block-packed (h .m) (h .q) (h .b) j x l (fits .count)
-
   pub bytes-first : (n : ℕ) (out : List ℕ) → n ≡ packedLength (h .b) (blockLength (h .m) (h .q) j)
       → take n (onto (pack (h .b) (block (h .m) (h .q) j x)) out) ≡ bytesOfSketch (bare h) j x
   unfolding onto bytesOfSketch
   bytes-first n out e =
-      take-at (pack (h .b) (block (h .m) (h .q) j x)) (drop (length (pack (h .b) (block (h .m) (h .q) j x))) out) n (bytes-length ∙ sym e)
+      take-at (pack (h .b) (block (h .m) (h .q) j x)) (drop (length (pack (h .b) (block (h .m) (h .q) j x))) out) n (bytes-length h x (fits .count) j l ∙ sym e)
+
+pub nodes-there : {h : Header} {N P M : List ℕ} → Lent h N P M → 10 * h .nodes ≤ length N
+unfolding nodesLength
+nodes-there lent = lent .nodes-long
 
 module _ (h : Header) (N P M : List ℕ) (lent : Lent h N P M) (j : ℕ) (l : j < h .q) where
   links-inside : nextAt (h .pages) j + h .pages ≤ length P
@@ -42,22 +45,11 @@ module _ (h : Header) (N P M : List ℕ) (lent : Lent h N P M) (j : ℕ) (l : j 
       let behind : 2 + j < 2 + h .q = omega arith in
       omega (arith, rw suc-mul at (mul-le-mul-right (h .pages) behind), lent .pages-long)
 
-  bytes-some : 0 < packedLength (h .b) (blockLength (h .m) (h .q) j)
-  bytes-some =
-      let some : 0 < blockLength (h .m) (h .q) j = block-pos (h .m) (h .q) j (lent .limits .blocks-least) (lent .limits .blocks-fit) in
-      byte-there (h .b) (per-byte-pos (h .b) (lent .limits .bits-least) (lent .limits .bits-most)) (blockLength (h .m) (h .q) j) 0 .1 (omega arith)
-
-  pub block-most : blockLength (h .m) (h .q) j ≤ 64
-  block-most = omega (arith, block-end (h .m) (h .q) j l, lent .limits)
-
-  pub bytes-most : packedLength (h .b) (blockLength (h .m) (h .q) j) ≤ 64
-  bytes-most = omega (arith, packed-most (h .b) (blockLength (h .m) (h .q) j), block-most)
-
   -- what the walk of block j asks
   pub fitting : (x : List ℕ) → Fits h x → Fitting (walkOf h N P x j) M
-  unfolding nodesLength workingLength summaryWords
+  unfolding workingLength summaryWords
   fitting x fits = record {
-    nodes = lent .nodes-long;
+    nodes = nodes-there lent;
     cap = lent .limits .nodes-most;
     pages = links-inside;
     pcap = lent .limits .pages-most;
@@ -65,17 +57,36 @@ module _ (h : Header) (N P M : List ℕ) (lent : Lent h N P M) (j : ℕ) (l : j 
     bits = pages-mapped (bare h);
     summary = lent .working-long;
     b = (lent .limits .bits-least, lent .limits .bits-most);
-    some = rw (bytes-length h x fits j l) bytes-some;
-    bytes = omega (arith, bytes-length h x fits j l, bytes-most);
+    some = rw (bytes-length h x (fits .count) j l) (size-some h (lent .limits) j l);
+    bytes = omega (arith, bytes-length h x (fits .count) j l, size-most h (lent .limits) j l);
   }
 
+  -- what marking a leaf of block j asks
+  pub leaf-call : (next words : ℕ) → next ≡ nextAt (h .pages) j → words ≡ mapWords (bare h)
+      → (next + h .pages ≤ length P)
+      × (((h .pages ≤ 65535) × (words ≤ 2048) × (h .pages ≤ 32 * words)) × (words + (words + 31) / 32 ≤ length M))
+  unfolding workingLength summaryWords
+  leaf-call next words e f =
+      rw (e, f)
+      (links-inside, ((lent .limits .pages-most, map-most (bare h) (lent .limits), pages-mapped (bare h)), lent .working-long))
+
 -- ---- the loop over the blocks
+pub blocks-all : (h : Header) (N P x map : List ℕ) → markFrom h N P x 0 (h .q - 0) 0 map ≡ markFrom h N P x 0 (h .q) 0 map
+blocks-all h N P x map =
+    let all : h .q - 0 ≡ h .q = omega arith in
+    rw all
+
 module _ (h : Header) (N P x : List ℕ) (share : ℕ) where
   pub blocks-start : (radius : ℕ) (map : List ℕ) → share ≡ radius / h .q → markFrom h N P x share (h .q - 0) 0 map ≡ markBlocks h N P x radius map
   unfolding markBlocks
   blocks-start radius map e =
       let all : h .q - 0 ≡ h .q = omega arith in
       rw (e, all)
+
+  -- a share of 0
+  pub blocks-exact : (radius : ℕ) (map : List ℕ) → share ≡ radius / h .q → share ≡ 0 → markFrom h N P x 0 (h .q) 0 map ≡ markBlocks h N P x radius map
+  unfolding markBlocks
+  blocks-exact radius map e z = rw (← e, z)
 
   module _ (j : ℕ) (map : List ℕ) (R : Walked) (inv : markFrom h N P x share (h .q - j) j map ≡ R) where
     pub blocks-done : h .q ≤ j → walked map true ≡ R
@@ -112,3 +123,20 @@ module _ (h : Header) (N P M x : List ℕ) (j : ℕ) (next words : ℕ) (ys : Li
   pub walk-call : (share : ℕ) → walkFrom (given N P (h .nodes) (h .pages) next words (h .b) ys) j share M ≡ markBlock h N P x share j M
   unfolding markBlock
   walk-call share = rw (e, f, g) refl
+
+-- a block by the leaf that the query's bytes lead to
+module _ (h : Header) (N P x firsts : List ℕ) (leaves : Leaves h N x firsts) (j : ℕ) (l : j < h .q) (next words : ℕ)
+    (e : next ≡ nextAt (h .pages) j) (f : words ≡ mapWords (bare h)) where
+  pub exact-call : (map after : List ℕ) (answer : Left) → marks after answer ≡ markLeaf P words (h .pages) next map (getD firsts j 0) (h .pages)
+      → (found : Left) → answer ≡ found → walked after (isSome found) ≡ markBlock h N P x 0 j map
+  unfolding markBlock leafIn
+  exact-call map after answer m found g =
+      ap (λ a. walked after (isSome a)) (sym g)
+      ∙ ap walkedLeaf (m ∙ same)
+      ∙ from-exact w j 0 map refl
+    where
+      w : Given
+      w = walkOf h N P x j
+
+      same : markLeaf P words (h .pages) next map (getD firsts j 0) (h .pages) ≡ mark w map (h .pages) (leafFrom w (exactFrom w j 0))
+      same = rw (e, f, leaves .each j l) refl

@@ -5,9 +5,10 @@ ghost use Rattle.layout.specs.Header.{bare};
 ghost use Rattle.layout.specs.Working.{mapWords};
 ghost use Rattle.sketch.specs.Table.{distanceTable};
 ghost use Rattle.walk.specs.Walk.{walked};
-ghost use Rattle.search_laws.specs.Marks.{markBlock, markBlocks};
+ghost use Rattle.search_laws.specs.Marks.{markBlock, markFrom, markBlocks};
 ghost use Rattle.search.specs.Ready.{Fits, Lent};
 use layout::Header;
+use walk::mark::Left;
 
 // Walks the trie of block j within its share of the radius. Was every link in order?
 fn mark_block(
@@ -25,7 +26,7 @@ fn mark_block(
     requires { ⌜ Lent h (now nodes) (now pages) (now map) ⌝ }
     requires { ⌜ Fits h (now sketch) ⌝ }
     requires { ⌜ words ≡ mapWords (bare h) ⌝ }
-    requires { ⌜ j < h .q ⌝ }
+    requires { ⌜ (j < h .q) × (0 < share) ⌝ }
     ensures { λ r. ⌜ walked (now (map .exit)) r ≡ markBlock h (now (nodes .entry)) (now (pages .entry)) (now (sketch .entry)) share j (now (map .entry)) ⌝ }
 {
     let b = h.b as u32;
@@ -49,7 +50,39 @@ fn mark_block(
     )
 }
 
-// Walks the tries of all blocks.
+// Marks the pages of the leaf in each trie that the query's own bytes lead to. Was every link in order?
+fn mark_exact(
+    nodes: &[u32],
+    pages: &[u32],
+    map: &mut [u32],
+    h: Header,
+    words: usize,
+    sketch: &[u8],
+) -> bool
+    requires { ⌜ Lent h (now nodes) (now pages) (now map) ⌝ }
+    requires { ⌜ Fits h (now sketch) ⌝ }
+    requires { ⌜ words ≡ mapWords (bare h) ⌝ }
+    ensures { λ r. ⌜ walked (now (map .exit)) r ≡ markFrom h (now (nodes .entry)) (now (pages .entry)) (now (sketch .entry)) 0 (h .q) 0 (now (map .entry)) ⌝ }
+{
+    let firsts = exact::leaves(nodes, h, sketch);
+    let blocks = h.q;
+    let budget = h.pages as u32;
+    let mut j = 0;
+    while j < blocks {
+        let next = layout::pages::next_at(h.pages, j);
+        match walk::mark::mark_leaf(pages, map, words, h.pages, next, firsts[j], budget) {
+            Left::Some(_) => {
+                j += 1;
+            }
+            Left::Broken => {
+                return false;
+            }
+        }
+    }
+    true
+}
+
+// Walks the tries of all blocks, each within its share of the radius. A share of 0 leaves one path in each.
 pub fn mark_blocks(
     nodes: &[u32],
     pages: &[u32],
@@ -64,9 +97,12 @@ pub fn mark_blocks(
     requires { ⌜ words ≡ mapWords (bare h) ⌝ }
     ensures { λ r. ⌜ walked (now (map .exit)) r ≡ markBlocks h (now (nodes .entry)) (now (pages .entry)) (now (sketch .entry)) radius (now (map .entry)) ⌝ }
 {
-    let table = sketch::table::distance_table();
     let q = h.q;
     let share = radius / (q as u32);
+    if share == 0 {
+        return mark_exact(nodes, pages, map, h, words, sketch);
+    }
+    let table = sketch::table::distance_table();
     let mut j = 0;
     while j < q {
         if !mark_block(&table, nodes, pages, map, h, words, sketch, share, j) {

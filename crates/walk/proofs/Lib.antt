@@ -1,5 +1,8 @@
 pub mod LeafSteps
 pub mod Steps
 pub mod Stack
-pub mod Visits
 pub mod Turns
+pub mod Pending
+pub mod Marking
+pub mod Behind
+pub mod Ready

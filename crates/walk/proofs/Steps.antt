@@ -1,36 +1,36 @@
 -- Steps in a node, by what the tests of the link say.
 use Prim.Native.Nat.{ℕ, _+_, _-_, _%_, _<_, _≤_}
 use native.Mathlib.Omega.{arith}
-use mathlib.Core.Path.{_≡_, subst}
+use mathlib.Core.Path.{_≡_, refl, sym, subst, _∙_}
 use mathlib.Core.Bool.{Bool, true, false, cond}
 use mathlib.Core.List.{List}
 use lib.Bits.{bitXor}
 use lib.Dec.{ltb, eqb}
 use lib.ListN.{getD}
 use borrow.Author.Tests.{lt-ltb, le-ltb, ltb-false, eqb-false}
-use mathlib.Core.Path.{refl}
 use Rattle.meaning.specs.Sketch.{byteDistance}
 use Rattle.layout.specs.Nodes.{linkOf, byteOf, stateAt, freeState, innerState}
 use Rattle.walk.specs.declared.frame.Frame.{Frame}
 use Rattle.walk.specs.declared.frame.Step.{Step}
-use Rattle.walk.specs.declared.frame.Step.the-variants.{Stay, Leaf, Down, Up, Broken}
-use Rattle.walk.specs.Frame.{following, byteIn, stepTo, stepAlong, stepIn}
+use Rattle.walk.specs.declared.frame.Step.the-variants.{Stay, Leaf, Exact, Down, Up, Broken}
+use Rattle.walk.specs.Frame.{byteIn, stepTo, stepAlong, stepIn}
 
 module _ (nodes : List ℕ) (cap b : ℕ) (frame : Frame) (y : ℕ) where
   pub along-outside : cap < frame .link → stepAlong nodes cap b frame y ≡ Broken
   unfolding stepAlong
   along-outside o = rw (lt-ltb cap (frame .link) o)
 
-  pub along-inside : (w u k d l : ℕ) → frame .link ≤ cap → w ≡ getD nodes (frame .link - 1) 0 → u ≡ byteOf w → k ≡ linkOf w
-      → d ≡ byteDistance b (bitXor (u % 256) y) → l ≡ following (frame .radius) (u % 256) y k
-      → stepAlong nodes cap b frame y ≡ stepTo nodes cap (frame .link - 1) d (frame .radius) (frame .at) l
+  pub along-inside : (w u k d : ℕ) → frame .link ≤ cap → w ≡ getD nodes (frame .link - 1) 0 → u ≡ byteOf w → k ≡ linkOf w
+      → d ≡ byteDistance b (bitXor (u % 256) y)
+      → stepAlong nodes cap b frame y ≡ stepTo nodes cap (frame .link - 1) d (frame .radius) (frame .at) k
   unfolding stepAlong
-  along-inside w u k d l i e f g h j = rw (le-ltb cap (frame .link) i, j, h, g, f, e)
+  along-inside w u k d i e f g h = rw (le-ltb cap (frame .link) i, h, g, f, e)
 
 -- a step leads to a node of the table
 abbrev Within : ℕ → Step → Type 0
 Within cap (Stay at link) = Unit {0}
 Within cap (Leaf first link) = Unit {0}
+Within cap (Exact x link) = x < cap
 Within cap (Down x radius link) = x < cap
 Within cap Up = Unit {0}
 Within cap Broken = Unit {0}
@@ -39,17 +39,18 @@ module _ (nodes : List ℕ) (cap : ℕ) where
   within-to : (x d radius at link : ℕ) → x < cap → Within cap (stepTo nodes cap x d radius at link)
   unfolding stepTo
   within-to x d radius at link l =
-      go (ltb radius d) (eqb (getD nodes (stateAt cap x) 0) freeState) (eqb (getD nodes (stateAt cap x) 0) innerState)
+      go (ltb radius d) (eqb (getD nodes (stateAt cap x) 0) freeState) (eqb (getD nodes (stateAt cap x) 0) innerState) (eqb radius d)
     where
-      go : (far free within : Bool)
+      go : (far free within spent : Bool)
           → Within cap
           (cond far (Stay at link)
           (cond free Broken
-          (cond within (Down x (radius - d) link) (Leaf (getD nodes (stateAt cap x) 0 - 2) link))))
-      go true free within = tt
-      go false true within = tt
-      go false false true = l
-      go false false false = tt
+          (cond within (cond spent (Exact x link) (Down x (radius - d) link)) (Leaf (getD nodes (stateAt cap x) 0 - 2) link))))
+      go true free within spent = tt
+      go false true within spent = tt
+      go false false true true = l
+      go false false true false = l
+      go false false false spent = tt
 
   within-along : (b y : ℕ) (frame : Frame) → 0 < frame .link → Within cap (stepAlong nodes cap b frame y)
   unfolding stepAlong
@@ -59,7 +60,7 @@ module _ (nodes : List ℕ) (cap : ℕ) where
           → Within cap
           (cond q Broken
           (stepTo nodes cap (frame .link - 1) (byteDistance b (bitXor (byteIn nodes (frame .link - 1)) y)) (frame .radius) (frame .at)
-          (following (frame .radius) (byteIn nodes (frame .link - 1)) y (linkOf (getD nodes (frame .link - 1) 0)))))
+          (linkOf (getD nodes (frame .link - 1) 0))))
       go true e = tt
       go false e = within-to (frame .link - 1) _ _ _ _ (omega (arith, ltb-false cap (frame .link) e))
 
@@ -73,5 +74,9 @@ module _ (nodes : List ℕ) (cap : ℕ) where
       go true false e = tt
       go false r e = within-along b y frame (omega (arith, eqb-false (frame .link) 0 e))
 
-  pub down-within : (b y : ℕ) (frame : Frame) (x radius link : ℕ) → stepIn nodes cap b frame y ≡ Down x radius link → x < cap
-  down-within b y frame x radius link e = subst (Within cap) e (step-within b y frame)
+  module _ (b y : ℕ) (frame : Frame) (found : Step) (e : found ≡ stepIn nodes cap b frame y) where
+    pub exact-within : (x link : ℕ) → found ≡ Exact x link → x < cap
+    exact-within x link q = subst (Within cap) (sym e ∙ q) (step-within b y frame)
+
+    pub down-within : (x radius link : ℕ) → found ≡ Down x radius link → x < cap
+    down-within x radius link q = subst (Within cap) (sym e ∙ q) (step-within b y frame)

@@ -1,3 +1,4 @@
 pub mod Mark
 pub mod Frame
 pub mod Walk
+pub mod Waiting

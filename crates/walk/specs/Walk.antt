@@ -6,13 +6,13 @@ use lib.Dec.{ltb, eqb}
 use lib.ListN.{length, getD}
 use Rattle.layout.specs.Nodes.{stateAt, freeState, innerState}
 use Rattle.sketch.specs.Settings.{Bits}
+use Rattle.descent.specs.declared.Cursor.{Cursor}
+use Rattle.descent.specs.Cursor.{arrive, descended, leafOf}
 use Rattle.walk.specs.declared.mark.Left.{Left}
 use Rattle.walk.specs.declared.mark.Left.the-variants as budget
 use Rattle.walk.specs.declared.frame.Frame.{Frame}
 use Rattle.walk.specs.declared.frame.Step.{Step}
 use Rattle.walk.specs.declared.frame.Step.the-variants as step
-use Rattle.walk.specs.declared.walk.Move.{Move}
-use Rattle.walk.specs.declared.walk.Move.the-variants as move
 use Rattle.walk.specs.Mark.{Marks, markLeaf}
 use Rattle.walk.specs.Frame.{entered, stepIn}
 
@@ -44,35 +44,6 @@ pub record Fitting (w : Given) (map : List ℕ) : Type 0 where
   pub some : 0 < length (w .bytes)
   pub bytes : length (w .bytes) ≤ 64
 
--- ---- a step
-
--- the map after a step, and where it leads
-pub record Visited : Type 0 where
-  pub map : List ℕ
-  pub move : Move
-
-abbrev pub visited : List ℕ → Move → Visited
-visited map move = record { map = map; move = move }
-
-abbrev pub leafMove : Left → ℕ → ℕ → Move
-leafMove (budget.Some n) at link = move.Stay at link n
-leafMove budget.Broken at link = move.Broken
-
-abbrev pub visitedLeaf : Marks → ℕ → ℕ → Visited
-visitedLeaf m at link = visited (m .map) (leafMove (m .answer) at link)
-
-module _ (w : Given) (map : List ℕ) (left depth : ℕ) (frame : Frame) where
-  abbrev pub visitStep : Step → Visited
-  visitStep (step.Stay at link) = visited map (move.Stay at link left)
-  visitStep (step.Leaf first link) = visitedLeaf (markLeaf (w .pages) (w .words) (w .pcap) (w .next) map first left) (frame .at) link
-  visitStep (step.Down x radius link) = visited map (cond (ltb (depth + 1) (length (w .bytes))) (move.Down x radius link) move.Broken)
-  visitStep step.Up = visited map move.Up
-  visitStep step.Broken = visited map move.Broken
-
-  -- a step in a node at level `depth`
-  unfoldable pub visit : Visited
-  visit = visitStep (stepIn (w .nodes) (w .cap) (w .b) frame (getD (w .bytes) depth 0))
-
 -- ---- the machine
 
 -- the map, what is left of the page budget, the frame of a node, and those of the nodes above, the nearest first
@@ -97,42 +68,71 @@ abbrev pub isSome : Left → Bool
 isSome (budget.Some n) = true
 isSome budget.Broken = false
 
--- a root that is a leaf
+-- a leaf alone
 abbrev pub walkedLeaf : Marks → Walked
 walkedLeaf m = walked (m .map) (isSome (m .answer))
+
+-- on with the map and the budget that a leaf leaves, unless a link was not in order
+abbrev pub onLeft : (List ℕ → ℕ → Walked) → List ℕ → Left → Walked
+onLeft go map (budget.Some n) = go map n
+onLeft go map budget.Broken = walked map false
+
+abbrev pub onMarks : (List ℕ → ℕ → Walked) → Marks → Walked
+onMarks go m = onLeft go (m .map) (m .answer)
 
 -- a frame to go on from
 abbrev pub atLink : Frame → ℕ → ℕ → Frame
 atLink frame at link = record { at = at; last = frame .last; link = link; radius = frame .radius }
 
 module _ (w : Given) where
-  -- what a move leads to
-  abbrev pub follow : (State → Walked) → List ℕ → ℕ → Frame → List Frame → Move → Walked
-  follow run map left frame stack (move.Stay at link n) = run (state map n (atLink frame at link) stack)
-  follow run map left frame stack (move.Down x radius link) =
-      run
-      (state map left (entered (w .nodes) (w .cap) x radius (getD (w .bytes) (length stack + 1) 0))
-      (atLink frame (frame .at) link ∷ stack))
-  follow run map left frame [] move.Up = walked map true
-  follow run map left frame (f ∷ fs) move.Up = run (state map left f fs)
-  follow run map left frame stack move.Broken = walked map false
+  -- the pages of a leaf
+  abbrev pub mark : List ℕ → ℕ → ℕ → Marks
+  mark map left first = markLeaf (w .pages) (w .words) (w .pcap) (w .next) map first left
+
+  -- where the query's bytes from a level on lead from node x, and the leaf there
+  abbrev pub exactFrom : ℕ → ℕ → Cursor
+  exactFrom x level = arrive (w .nodes) (w .cap) (w .bytes) x level (length (w .bytes) - 1)
+
+  abbrev pub leafFrom : Cursor → ℕ
+  leafFrom c = leafOf (descended (w .nodes) (w .cap) (w .bytes) (w .cap) c)
+
+  -- what a step leads to
+  module _ (run : State → Walked) (map : List ℕ) (left : ℕ) (frame : Frame) (stack : List Frame) where
+    -- on behind a leaf
+    abbrev pub behindLeaf : ℕ → ℕ → Walked
+    behindLeaf first link = onMarks (λ m n. run (state m n (atLink frame (frame .at) link) stack)) (mark map left first)
+
+    abbrev pub above : List Frame → Walked
+    above [] = walked map true
+    above (f ∷ fs) = run (state map left f fs)
+
+    abbrev pub follow : Step → Walked
+    follow (step.Stay at link) = run (state map left (atLink frame at link) stack)
+    follow (step.Leaf first link) = behindLeaf first link
+    follow (step.Exact x link) = behindLeaf (leafFrom (exactFrom x (length stack + 1))) link
+    follow (step.Down x radius link) =
+        cond (ltb (length stack + 1) (length (w .bytes)))
+        (run (state map left (entered (w .nodes) (w .cap) x radius) (atLink frame (frame .at) link ∷ stack)))
+        (walked map false)
+    follow step.Up = above stack
+    follow step.Broken = walked map false
 
   -- at most f steps
   unfoldable pub run : ℕ → State → Walked
   run zero s = walked (s .map) false
   run (suc f) s =
-      let v : Visited = visit w (s .map) (s .left) (length (s .stack)) (s .frame) in
-      follow (run f) (v .map) (s .left) (s .frame) (s .stack) (v .move)
+      follow (run f) (s .map) (s .left) (s .frame) (s .stack)
+      (stepIn (w .nodes) (w .cap) (w .b) (s .frame) (getD (w .bytes) (length (s .stack)) 0))
 
   -- below the inner node x: for each node a step to it, at most seven to the next chain, and one up
   unfoldable pub walkBelow : ℕ → ℕ → List ℕ → Walked
-  walkBelow x radius map =
-      run (10 * (w .cap + 1)) (state map (w .pcap) (entered (w .nodes) (w .cap) x radius (getD (w .bytes) 0 0)) [])
+  walkBelow x radius map = run (10 * (w .cap + 1)) (state map (w .pcap) (entered (w .nodes) (w .cap) x radius) [])
 
-  -- from a root: a leaf, or inner
+  -- from a root: at radius 0 the leaf that the query's bytes lead to; else a leaf, or inner
   unfoldable pub walkFrom : ℕ → ℕ → List ℕ → Walked
   walkFrom root radius map =
       let word : ℕ = getD (w .nodes) (stateAt (w .cap) root) 0 in
-      cond (eqb word freeState) (walked map false)
+      cond (eqb radius 0) (walkedLeaf (mark map (w .pcap) (leafFrom (exactFrom root 0))))
+      (cond (eqb word freeState) (walked map false)
       (cond (eqb word innerState) (walkBelow root radius map)
-      (walkedLeaf (markLeaf (w .pages) (w .words) (w .pcap) (w .next) map (word - 2) (w .pcap))))
+      (walkedLeaf (mark map (w .pcap) (word - 2)))))

@@ -4,7 +4,7 @@ ghost use Prim.Native.Nat.{_*_, _<_, _≤_};
 ghost use lib.ListN.{length};
 ghost use Rattle.sketch.specs.Settings.{Bits};
 ghost use Rattle.sketch.specs.Table.{distanceTable};
-ghost use Rattle.walk.specs.Frame.{frameAt, entered, following, stepTo, stepAlong, stepIn};
+ghost use Rattle.walk.specs.Frame.{entered, stepTo, stepAlong, stepIn};
 
 // The children from `link` on in the chain whose head is at `at`, and those in the chains of the next heads, up to `last`.
 // Each is to be within `radius`.
@@ -21,6 +21,8 @@ pub enum Step {
     Stay(u32, u32),
     // a leaf, by the link of its first page
     Leaf(u32, u32),
+    // an inner node with none of the radius left: the query's own bytes lead on
+    Exact(u32, u32),
     // an inner node, and the radius left below it
     Down(u32, u32, u32),
     // no child is left
@@ -29,44 +31,19 @@ pub enum Step {
     Broken,
 }
 
-// The chains whose heads are from `at` to `last`.
-fn frame_at(nodes: &[u32], at: usize, last: usize, radius: u32) -> Frame
-    requires { ⌜ (at < length (now nodes)) × (at ≤ last) × (last < 2621440) ⌝ }
-    ensures { λ r. ⌜ r ≡ frameAt (now (nodes .entry)) at last radius ⌝ }
-{
-    Frame {
-        at: at as u32,
-        last: last as u32,
-        link: layout::nodes::link_of(nodes[at]),
-        radius: radius,
-    }
-}
-
-// All children of a node within a radius of the byte y. At radius 0 only the chain that y belongs to can have one.
-pub fn enter(nodes: &[u32], cap: usize, node: usize, radius: u32, y: u8) -> Frame
+// All chains of a node.
+pub fn enter(nodes: &[u32], cap: usize, node: usize, radius: u32) -> Frame
     requires { ⌜ (10 * cap ≤ length (now nodes)) × (cap ≤ 262144) × (node < cap) ⌝ }
-    ensures { λ r. ⌜ r ≡ entered (now (nodes .entry)) cap node radius y ⌝ }
+    ensures { λ r. ⌜ r ≡ entered (now (nodes .entry)) cap node radius ⌝ }
 {
-    if radius == 0 {
-        let at = layout::nodes::head_at(cap, node, (y / 32) as usize);
-        return frame_at(nodes, at, at, 0);
-    }
     let first = layout::nodes::head_at(cap, node, 0);
     let last = layout::nodes::head_at(cap, node, 7);
-    frame_at(nodes, first, last, radius)
-}
-
-// The link after a child with a byte. At radius 0 no later child of a chain can match once the byte y is reached.
-fn link_after(radius: u32, byte: u8, y: u8, link: u32) -> u32
-    ensures { λ r. ⌜ r ≡ following radius byte y link ⌝ }
-{
-    if radius != 0 {
-        return link;
+    Frame {
+        at: first as u32,
+        last: last as u32,
+        link: layout::nodes::link_of(nodes[first]),
+        radius: radius,
     }
-    if byte < y {
-        return link;
-    }
-    0
 }
 
 // The step to node x, at distance d from the query's byte, in the chain of the head `at`; `link` is after it.
@@ -81,12 +58,15 @@ fn step_to(nodes: &[u32], cap: usize, x: usize, d: u32, radius: u32, at: u32, li
     if state == 0 {
         return Step::Broken;
     }
-    if state == 1 {
-        let node = x as u32;
-        return Step::Down(node, radius - d, link);
+    if state != 1 {
+        let first = state - 2;
+        return Step::Leaf(first, link);
     }
-    let first = state - 2;
-    Step::Leaf(first, link)
+    let node = x as u32;
+    if radius == d {
+        return Step::Exact(node, link);
+    }
+    Step::Down(node, radius - d, link)
 }
 
 // The step to the next child of a chain.
@@ -103,7 +83,7 @@ fn step_along(table: &[u8; 2048], nodes: &[u32], cap: usize, b: u32, frame: Fram
     let w = nodes[x];
     let byte = (layout::nodes::byte_of(w) % 256) as u8;
     let d = sketch::table::byte_distance(table, b, byte ^ y);
-    let link = link_after(frame.radius, byte, y, layout::nodes::link_of(w));
+    let link = layout::nodes::link_of(w);
     step_to(nodes, cap, x, d, frame.radius, frame.at, link)
 }
 

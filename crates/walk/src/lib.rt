@@ -2,4 +2,5 @@
 // are marked in a map of bits.
 pub mod frame;
 pub mod mark;
+mod waiting;
 pub mod walk;

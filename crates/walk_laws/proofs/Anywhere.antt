@@ -10,15 +10,14 @@ use borrow.Author.Tests.{ltb-false, eqb-false, lt-ltb}
 use Rattle.meaning.specs.Lists.{all}
 use Rattle.layout.specs.Nodes.{stateAt, freeState, innerState}
 use Rattle.meaning.proofs.Lists.{all-append, and-intro}
+use Rattle.walk.specs.declared.mark.Left.{Left}
 use Rattle.walk.specs.declared.mark.Left.the-variants.{Some, Broken}
 use Rattle.walk.specs.declared.frame.Frame.{Frame}
 use Rattle.walk.specs.declared.frame.Step.{Step}
 use Rattle.walk.specs.declared.frame.Step.the-variants as step
-use Rattle.walk.specs.declared.walk.Move.{Move}
-use Rattle.walk.specs.declared.walk.Move.the-variants as move
 use Rattle.walk.specs.Mark.{Marks, marks, marked, markAll, markLeaf}
 use Rattle.walk.specs.Frame.{entered, stepIn}
-use Rattle.walk.specs.Walk.{Given, visitStep, visit, State, state, Walked, walked, walkedLeaf, follow, run, walkBelow, walkFrom}
+use Rattle.walk.specs.Walk.{Given, State, state, Walked, walked, walkedLeaf, onLeft, atLink, mark, exactFrom, leafFrom, behindLeaf, follow, run, walkBelow, walkFrom}
 use Rattle.walk_laws.proofs.Marks.{mark-append}
 
 -- a map is another one with some pages marked, all of them below the capacity
@@ -69,46 +68,68 @@ module _ (w : Given) where
   abbrev Marked : List ℕ → List ℕ → Type 0
   Marked map after = Marking (w .words) (w .pcap) map after
 
-  step-marking : (map : List ℕ) (left depth : ℕ) (frame : Frame) (s : Step) → Marked map (visitStep w map left depth frame s .map)
-  step-marking map left depth frame (step.Stay at link) = none-marked (w .words) (w .pcap) map
-  step-marking map left depth frame (step.Leaf first link) = leaf-marking (w .words) (w .pcap) (w .pages) (w .next) left map first
-  step-marking map left depth frame (step.Down x radius link) = none-marked (w .words) (w .pcap) map
-  step-marking map left depth frame step.Up = none-marked (w .words) (w .pcap) map
-  step-marking map left depth frame step.Broken = none-marked (w .words) (w .pcap) map
+  -- the pages of a leaf, and what is marked behind it
+  behind-marking : (go : State → Walked) → ((s : State) → Marked (s .map) (go s .map))
+      → (map : List ℕ) (left : ℕ) (frame : Frame) (stack : List Frame) (first link : ℕ)
+      → Marked map (behindLeaf w go map left frame stack first link .map)
+  behind-marking go h map left frame stack first link =
+      then-marked (w .words) (w .pcap) map (m .map) _ (leaf-marking (w .words) (w .pcap) (w .pages) (w .next) left map first) (onward (m .map) (m .answer))
+    where
+      m : Marks
+      m = mark w map left first
 
-  visit-marking : (map : List ℕ) (left depth : ℕ) (frame : Frame) → Marked map (visit w map left depth frame .map)
-  unfolding visit
-  visit-marking map left depth frame = step-marking map left depth frame (stepIn (w .nodes) (w .cap) (w .b) frame (getD (w .bytes) depth 0))
+      next : List ℕ → ℕ → Walked
+      next after n = go (state after n (atLink frame (frame .at) link) stack)
+
+      onward : (after : List ℕ) (n : Left) → Marked after (onLeft next after n .map)
+      onward after (Some n) = h _
+      onward after Broken = none-marked (w .words) (w .pcap) after
 
   follow-marking : (go : State → Walked) → ((s : State) → Marked (s .map) (go s .map))
-      → (map : List ℕ) (left : ℕ) (frame : Frame) (stack : List Frame) (m : Move) → Marked map (follow w go map left frame stack m .map)
-  follow-marking go h map left frame stack (move.Stay at link n) = h _
-  follow-marking go h map left frame stack (move.Down x radius link) = h _
-  follow-marking go h map left frame [] move.Up = none-marked (w .words) (w .pcap) map
-  follow-marking go h map left frame (f ∷ fs) move.Up = h _
-  follow-marking go h map left frame stack move.Broken = none-marked (w .words) (w .pcap) map
+      → (map : List ℕ) (left : ℕ) (frame : Frame) (stack : List Frame) (s : Step) → Marked map (follow w go map left frame stack s .map)
+  follow-marking go h map left frame stack (step.Stay at link) = h _
+  follow-marking go h map left frame stack (step.Leaf first link) = behind-marking go h map left frame stack first link
+  follow-marking go h map left frame stack (step.Exact x link) =
+      behind-marking go h map left frame stack (leafFrom w (exactFrom w x (length stack + 1))) link
+  follow-marking go h map left frame stack (step.Down x radius link) = deep (ltb (length stack + 1) (length (w .bytes)))
+    where
+      below : State
+      below = state map left (entered (w .nodes) (w .cap) x radius) (atLink frame (frame .at) link ∷ stack)
+
+      deep : (q : Bool) → Marked map (cond q (go below) (walked map false) .map)
+      deep true = h below
+      deep false = none-marked (w .words) (w .pcap) map
+  follow-marking go h map left frame [] step.Up = none-marked (w .words) (w .pcap) map
+  follow-marking go h map left frame (f ∷ fs) step.Up = h _
+  follow-marking go h map left frame stack step.Broken = none-marked (w .words) (w .pcap) map
 
   run-marking : (f : ℕ) (s : State) → Marked (s .map) (run w f s .map)
   unfolding run
   run-marking zero s = none-marked (w .words) (w .pcap) (s .map)
   run-marking (suc f) s =
-      then-marked (w .words) (w .pcap) (s .map) (visit w (s .map) (s .left) (length (s .stack)) (s .frame) .map) _
-      (visit-marking (s .map) (s .left) (length (s .stack)) (s .frame))
-      (follow-marking (run w f) (λ t. run-marking f t) (visit w (s .map) (s .left) (length (s .stack)) (s .frame) .map) (s .left) (s .frame) (s .stack)
-      (visit w (s .map) (s .left) (length (s .stack)) (s .frame) .move))
+      follow-marking (run w f) (λ t. run-marking f t) (s .map) (s .left) (s .frame) (s .stack)
+      (stepIn (w .nodes) (w .cap) (w .b) (s .frame) (getD (w .bytes) (length (s .stack)) 0))
 
   pub walk-marking : (root radius : ℕ) (map : List ℕ) → Marked map (walkFrom w root radius map .map)
   unfolding walkFrom walkBelow
-  walk-marking root radius map =
-      go (eqb (getD (w .nodes) (stateAt (w .cap) root) 0) freeState) (eqb (getD (w .nodes) (stateAt (w .cap) root) 0) innerState)
+  walk-marking root radius map = go (eqb radius 0) (eqb word freeState) (eqb word innerState)
     where
+      word : ℕ
+      word = getD (w .nodes) (stateAt (w .cap) root) 0
+
       start : State
-      start = state map (w .pcap) (entered (w .nodes) (w .cap) root radius (getD (w .bytes) 0 0)) []
+      start = state map (w .pcap) (entered (w .nodes) (w .cap) root radius) []
 
-      pages : Marks
-      pages = markLeaf (w .pages) (w .words) (w .pcap) (w .next) map (getD (w .nodes) (stateAt (w .cap) root) 0 - 2) (w .pcap)
+      pages : ℕ → Walked
+      pages first = walkedLeaf (mark w map (w .pcap) first)
 
-      go : (q r : Bool) → Marked map ((cond q (walked map false) (cond r (run w (10 * (w .cap + 1)) start) (walkedLeaf pages))) .map)
-      go true r = none-marked (w .words) (w .pcap) map
-      go false true = run-marking (10 * (w .cap + 1)) start
-      go false false = leaf-marking (w .words) (w .pcap) (w .pages) (w .next) (w .pcap) map (getD (w .nodes) (stateAt (w .cap) root) 0 - 2)
+      leaf : (first : ℕ) → Marked map (pages first .map)
+      leaf first = leaf-marking (w .words) (w .pcap) (w .pages) (w .next) (w .pcap) map first
+
+      go : (p q r : Bool)
+          → Marked map
+          ((cond p (pages (leafFrom w (exactFrom w root 0))) (cond q (walked map false) (cond r (run w (10 * (w .cap + 1)) start) (pages (word - 2))))) .map)
+      go true q r = leaf (leafFrom w (exactFrom w root 0))
+      go false true r = none-marked (w .words) (w .pcap) map
+      go false false true = run-marking (10 * (w .cap + 1)) start
+      go false false false = leaf (word - 2)

@@ -1,4 +1,4 @@
--- Steps along the chains of a trie that lies in the tables, and what a chain can have at radius 0.
+-- Steps along the chains of a trie that lies in the tables, and what is met in a chain.
 use Prim.Native.Nat.{ℕ, _+_, _-_, _%_, _≤_, _<_}
 use native.Mathlib.Omega.{arith}
 use mathlib.Core.Path.{_≡_, refl, sym, ap, _∙_}
@@ -14,9 +14,8 @@ use Rattle.layout.specs.Nodes.{linkOf, byteOf, chainWord, stateAt, innerState, 
 use Rattle.trie.specs.Heap.{Holds}
 use Rattle.trie.specs.Phys.{Phys, leafP, innerP, Chain, stop, link, root, tree, kidsC, cellsC, Sound, SoundC}
 use Rattle.walk.specs.declared.frame.Frame.{Frame}
-use Rattle.walk.specs.declared.frame.Step.the-variants.{Stay, Leaf, Down, Up}
-use Rattle.walk.specs.Frame.{following, stepTo, stepIn}
-use Rattle.walk.proofs.Steps.{along-inside}
+use Rattle.walk.specs.declared.frame.Step.the-variants.{Stay, Leaf, Exact, Down, Up}
+use Rattle.walk.specs.Frame.{byteIn, stepTo, stepAlong, stepIn}
 
 -- ---- what the tables hold
 
@@ -40,28 +39,22 @@ first-below cap pcap (link c t ch) lo hi s = omega (arith, root-below cap pcap t
 pub link-in : (y l : ℕ) → l < 524288 → linkOf (chainWord y l) ≡ l
 link-in y l h = omega arith
 
-byte-in : (y l : ℕ) → l < 524288 → y ≡ byteOf (chainWord y l)
+pub byte-in : (y l : ℕ) → l < 524288 → y ≡ byteOf (chainWord y l)
 byte-in y l h = omega arith
 
 -- ---- steps
 module _ (nodes : List ℕ) (cap b : ℕ) (frame : Frame) (y : ℕ) where
   -- to node x of byte c, which is followed by l
   pub step-chain : (x c l : ℕ) → frame .link ≡ x + 1 → x < cap → getD nodes x 0 ≡ chainWord c l → l < 524288 → c < 256
-      → stepIn nodes cap b frame y
-      ≡ stepTo nodes cap x (byteDistance b (bitXor c y)) (frame .radius) (frame .at) (following (frame .radius) c y l)
-  unfolding stepIn
+      → stepIn nodes cap b frame y ≡ stepTo nodes cap x (byteDistance b (bitXor c y)) (frame .radius) (frame .at) l
+  unfolding stepIn stepAlong
   step-chain x c l e i h m n =
       let at-x : frame .link - 1 ≡ x = omega arith in
-      let small : c % 256 ≡ c = omega arith in
-      rw (ne-eqb (frame .link) 0 (omega arith))
-      (along-inside nodes cap b frame y (chainWord c l) c l (byteDistance b (bitXor c y)) (following (frame .radius) c y l)
-      (omega arith)
-      (sym (ap (λ k. getD nodes k 0) at-x ∙ h))
-      (byte-in c l m)
-      (sym (link-in c l m))
-      (ap (λ k. byteDistance b (bitXor k y)) (sym small))
-      (ap (λ k. following (frame .radius) k y l) (sym small))
-      ∙ ap (λ k. stepTo nodes cap k (byteDistance b (bitXor c y)) (frame .radius) (frame .at) (following (frame .radius) c y l)) at-x)
+      let word : getD nodes (frame .link - 1) 0 ≡ chainWord c l = ap (λ k. getD nodes k 0) at-x ∙ h in
+      let byte : byteIn nodes (frame .link - 1) ≡ c = ap (λ k. byteOf k % 256) word ∙ omega arith in
+      let next : linkOf (getD nodes (frame .link - 1) 0) ≡ l = ap linkOf word ∙ link-in c l m in
+      rw (ne-eqb (frame .link) 0 (omega arith), le-ltb cap (frame .link) (omega arith), byte, next)
+      (ap (λ k. stepTo nodes cap k (byteDistance b (bitXor c y)) (frame .radius) (frame .at) l) at-x)
 
   -- to the next chain, or up
   pub step-next : frame .link ≡ 0 → frame .at < frame .last
@@ -84,9 +77,13 @@ module _ (nodes : List ℕ) (cap x d radius at l : ℕ) where
       let less : 2 + first - 2 ≡ first = omega arith in
       rw (le-ltb radius d h, e, ne-eqb (2 + first) 0 (omega arith), ne-eqb (2 + first) 1 (omega arith)) (ap (λ k. Leaf k l) less)
 
-  pub to-inner : d ≤ radius → getD nodes (stateAt cap x) 0 ≡ innerState → stepTo nodes cap x d radius at l ≡ Down x (radius - d) l
+  pub to-exact : radius ≡ d → getD nodes (stateAt cap x) 0 ≡ innerState → stepTo nodes cap x d radius at l ≡ Exact x l
   unfolding stepTo
-  to-inner h e = rw (le-ltb radius d h, e)
+  to-exact h e = rw (le-ltb radius d (omega arith), e, eq-eqb radius d h)
+
+  pub to-inner : d < radius → getD nodes (stateAt cap x) 0 ≡ innerState → stepTo nodes cap x d radius at l ≡ Down x (radius - d) l
+  unfolding stepTo
+  to-inner h e = rw (le-ltb radius d (omega arith), e, ne-eqb radius d (omega arith))
 
 -- ---- what is met
 module _ (b r y : ℕ) (ys : List ℕ) where

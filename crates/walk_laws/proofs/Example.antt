@@ -1,21 +1,24 @@
--- An example: two leaves below a root, at distances 2 and 0 from the query's byte. So what the law asks can be met.
-use Prim.Native.Nat.{ℕ, zero, suc, _+_, _*_, _^_, _<_}
+-- An example: two leaves below a root, at distances 2 and 0 from the query's byte. So what the laws ask can be met.
+use Prim.Native.Nat.{ℕ, zero, suc, _+_, _-_, _*_, _^_, _<_}
 use native.Mathlib.Omega.{arith}
 use mathlib.Core.Path.{_≡_, refl, ap, _∙_}
 use mathlib.Core.Bool.{true}
 use mathlib.Core.List.{List, [], _∷_}
-use lib.ListN.{getD}
+use lib.ListN.{length, getD}
 use Rattle.meaning.specs.Lists.{count, from, upto}
 use Rattle.meaning.specs.Sketch.{perByte, group, byteDistance}
 use Rattle.meaning.specs.Trie.{met, metIn}
 use Rattle.trie.specs.Heap.{Holds}
 use Rattle.trie.specs.Phys.{Phys, leafP, innerP, end, bucket, stop, link, tree, cells, noHeads, Sound}
 use Rattle.walk.specs.Walk.{Given, given, walked, walkFrom}
-use Rattle.walk.specs.Mark.{markAll}
+use Rattle.walk.specs.declared.mark.Left.the-variants.{Some}
+use Rattle.walk.specs.Mark.{marks, markAll, markLeaf}
+use Rattle.descent.specs.Cursor.{arrive, pass, advance, descended, leafOf}
 use Rattle.walk_laws.specs.Near.{near, nearB, nearC, nearNodes, nearNodesIn, pathsIn, pathsAmong}
-use Rattle.walk_laws.specs.Trail.{trailFrom}
+use Rattle.walk_laws.specs.Trail.{trailFrom, exactTrail}
 use Rattle.walk_laws.proofs.Fit.{Fit}
 use Rattle.walk_laws.proofs.Right.{right, right-trail}
+use Rattle.walk_laws.proofs.Exact.{sub-marks, sub-near}
 
 abbrev nodeTable : List ℕ
 nodeTable =
@@ -71,11 +74,11 @@ met-one = refl
 
 pub example : (map : List ℕ) → walkFrom w 0 2 map ≡ walked (markAll map 1 (2 ∷ 7 ∷ [])) true
 example map =
-    right w (omega arith) query t 2 map holds sound fits (omega arith) (rw met-two (omega arith)) ∙ ap (λ ps. walked (markAll map 1 ps) true) met-two
+    right w (omega arith) query t 2 map holds sound fits (omega arith) (omega arith) (rw met-two (omega arith)) ∙ ap (λ ps. walked (markAll map 1 ps) true) met-two
 
 pub example-near : (map : List ℕ) → walkFrom w 0 1 map ≡ walked (markAll map 1 (7 ∷ [])) true
 example-near map =
-    right w (omega arith) query t 1 map holds sound fits (omega arith) (rw met-one (omega arith)) ∙ ap (λ ps. walked (markAll map 1 ps) true) met-one
+    right w (omega arith) query t 1 map holds sound fits (omega arith) (omega arith) (rw met-one (omega arith)) ∙ ap (λ ps. walked (markAll map 1 ps) true) met-one
 
 -- ---- the nodes gone through: the root and both leaves within 2, without the first leaf within 1
 near-two : near 2 2 t (228 ∷ []) ≡ 0 ∷ 1 ∷ 2 ∷ []
@@ -87,10 +90,10 @@ unfolding near nearB nearC byteDistance count upto from perByte group
 near-one = refl
 
 pub example-trail : (map : List ℕ) → trailFrom w 0 2 map ≡ 0 ∷ 1 ∷ 2 ∷ []
-example-trail map = right-trail w (omega arith) query t 2 map holds sound fits (omega arith) (rw met-two (omega arith)) ∙ near-two
+example-trail map = right-trail w (omega arith) query t 2 map holds sound fits (omega arith) (omega arith) (rw met-two (omega arith)) ∙ near-two
 
 pub example-trail-near : (map : List ℕ) → trailFrom w 0 1 map ≡ 0 ∷ 2 ∷ []
-example-trail-near map = right-trail w (omega arith) query t 1 map holds sound fits (omega arith) (rw met-one (omega arith)) ∙ near-one
+example-trail-near map = right-trail w (omega arith) query t 1 map holds sound fits (omega arith) (omega arith) (rw met-one (omega arith)) ∙ near-one
 
 -- their paths; at radius 0 the packed length and the root
 paths : pathsIn (tree t) ≡ [] ∷ (180 ∷ []) ∷ (228 ∷ []) ∷ []
@@ -100,3 +103,45 @@ paths = refl
 most : nearNodes 2 0 (tree t) (228 ∷ []) ≡ 1 + 1
 unfolding nearNodes nearNodesIn byteDistance count upto from perByte group
 most = refl
+
+-- ---- exact descents: to the leaf of page 7; to none for a byte before or behind the only child of its chain
+abbrev leafLink : ℕ → ℕ
+leafLink y = leafOf (descended nodeTable 3 (y ∷ []) 3 (arrive nodeTable 3 (y ∷ []) 0 0 0))
+
+exact-there : leafLink 228 ≡ 8
+unfolding leafOf descended advance pass arrive
+exact-there = refl
+
+exact-before : leafLink 227 ≡ 0
+unfolding leafOf descended advance pass arrive
+exact-before = refl
+
+exact-behind : leafLink 229 ≡ 0
+unfolding leafOf descended advance pass arrive
+exact-behind = refl
+
+met-none : met 2 0 (tree t) (228 ∷ []) ≡ 7 ∷ []
+unfolding met metIn byteDistance count upto from perByte group
+met-none = refl
+
+near-none : near 2 0 t (228 ∷ []) ≡ 0 ∷ 2 ∷ []
+unfolding near nearB nearC byteDistance count upto from perByte group
+near-none = refl
+
+pub example-exact : (map : List ℕ) → markLeaf pageTable 1 8 16 map (leafLink 228) 8 ≡ marks (markAll map 1 (7 ∷ [])) (Some 7)
+example-exact map =
+    sub-marks w (omega arith) query t 0 holds sound fits (omega arith) map 8 (rw met-none (omega arith))
+    ∙ ap (λ (ps : List ℕ). marks (markAll map 1 ps) (Some (8 - length ps))) met-none
+
+pub example-exact-near : 0 ∷ exactTrail nodeTable 3 (228 ∷ []) 3 (arrive nodeTable 3 (228 ∷ []) 0 0 0) ≡ 0 ∷ 2 ∷ []
+example-exact-near = sub-near w (omega arith) query t 0 holds sound fits (omega arith) ∙ near-none
+
+-- a walk at radius 0
+pub example-none : (map : List ℕ) → walkFrom w 0 0 map ≡ walked (markAll map 1 (7 ∷ [])) true
+example-none map =
+    right w (omega arith) query t 0 map holds sound fits (omega arith) (omega arith) (rw met-none (omega arith))
+    ∙ ap (λ ps. walked (markAll map 1 ps) true) met-none
+
+pub example-trail-none : (map : List ℕ) → trailFrom w 0 0 map ≡ 0 ∷ 2 ∷ []
+example-trail-none map =
+    right-trail w (omega arith) query t 0 map holds sound fits (omega arith) (omega arith) (rw met-none (omega arith)) ∙ near-none

@@ -2,9 +2,14 @@ pub mod Marks
 pub mod Apart
 pub mod Ran
 pub mod Chains
+pub mod Descent
 pub mod Fit
+pub mod Spelt
+pub mod Leads
+pub mod Exact
 pub mod Near
 pub mod Right
 pub mod Walk
 pub mod Anywhere
 pub mod Example
+pub mod Deeper

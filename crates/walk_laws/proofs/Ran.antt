@@ -5,7 +5,7 @@ use mathlib.Core.Path.{_≡_, refl, sym, ap, ap₂, _∙_}
 use mathlib.Core.Bool.{true}
 use mathlib.Core.List.{List, [], _∷_, _++_, append-assoc}
 use lib.ListN.{length, getD}
-use borrow.Author.Tests.{eq-eqb, ne-eqb}
+use borrow.Author.Tests.{eq-eqb, ne-eqb, lt-ltb}
 use Rattle.meaning.proofs.Stacks.{suc-pred}
 use Rattle.layout.specs.Nodes.{stateAt}
 use Rattle.trie.specs.Heap.{Holds}
@@ -14,15 +14,12 @@ use Rattle.walk.specs.declared.mark.Left.the-variants.{Some}
 use Rattle.walk.specs.declared.frame.Frame.{Frame}
 use Rattle.walk.specs.declared.frame.Step.{Step}
 use Rattle.walk.specs.declared.frame.Step.the-variants as step
-use Rattle.walk.specs.declared.walk.Move.{Move}
-use Rattle.walk.specs.declared.walk.Move.the-variants as move
 use Rattle.walk.specs.Mark.{marks, marked, markAll, markLeaf}
 use Rattle.walk.specs.Frame.{entered, stepIn}
-use Rattle.walk.specs.Walk.{Given, Visited, visited, visit, State, state, walked, atLink, run}
+use Rattle.walk.specs.Walk.{Given, State, state, walked, atLink, onMarks, mark, exactFrom, leafFrom, run}
 use Rattle.walk.proofs.LeafSteps.{leaf-end, leaf-next}
-use Rattle.walk.proofs.Visits.{visit-stay, visit-leaf, visit-down, visit-up}
-use Rattle.walk.proofs.Turns.{run-stay, run-down, run-up, run-done}
-use Rattle.walk_laws.specs.Trail.{goes, trace, trail, trailFrom}
+use Rattle.walk.proofs.Turns.{run-stay, run-leaf, run-exact, run-down, run-up, run-done}
+use Rattle.walk_laws.specs.Trail.{exactBelow, traceMarks, goes, trace, trail, trailFrom}
 
 -- ---- the pages of a leaf
 pub leaf-marks : (P : List ℕ) (words cap next : ℕ) (N map : List ℕ) (ps : List ℕ) (f : ℕ) → Holds (pageCells next ps) N P → Below cap ps
@@ -38,14 +35,14 @@ leaf-marks P words cap next N map (p ∷ ps) f h b l =
 
 -- ---- the trail of one step
 module _ (w : Given) (f : ℕ) (map : List ℕ) (left : ℕ) (frame : Frame) (stack : List Frame) (some : 0 < f) where
-  trail-by : (s : Step) (after : List ℕ) (m : Move) → stepIn (w .nodes) (w .cap) (w .b) frame (getD (w .bytes) (length stack) 0) ≡ s
-      → visited after m ≡ visit w map left (length stack) frame
-      → trail w f (state map left frame stack) ≡ goes (frame .link - 1) s ++ trace w (trail w (f - 1)) after left frame stack m
+  trail-by : (s : Step) → stepIn (w .nodes) (w .cap) (w .b) frame (getD (w .bytes) (length stack) 0) ≡ s
+      → trail w f (state map left frame stack)
+      ≡ goes w (length stack) (frame .link - 1) s ++ trace w (trail w (f - 1)) map left frame stack s
   unfolding trail
-  trail-by s after m e v = ap (λ n. trail w n (state map left frame stack)) (suc-pred f some) ∙ ap₂ gone e (sym v)
+  trail-by s e = ap (λ n. trail w n (state map left frame stack)) (suc-pred f some) ∙ ap gone e
     where
-      gone : Step → Visited → List ℕ
-      gone q x = goes (frame .link - 1) q ++ trace w (trail w (f - 1)) (x .map) left frame stack (x .move)
+      gone : Step → List ℕ
+      gone q = goes w (length stack) (frame .link - 1) q ++ trace w (trail w (f - 1)) map left frame stack q
 
 -- ---- from state to state
 pub record Ran (w : Given) (f : ℕ) (s s′ : State) (cost : ℕ) (went : List ℕ) : Type 0 where
@@ -93,64 +90,80 @@ module _ (w : Given) (f : ℕ) (some : 0 < f) (map : List ℕ) (left : ℕ) (fra
   pub step-stay : (at link : ℕ) → stepIn (w .nodes) (w .cap) (w .b) frame (getD (w .bytes) (length stack) 0) ≡ step.Stay at link
       → Ran w f (state map left frame stack) (state map left (atLink frame at link) stack) 1 []
   step-stay at link e =
-      let v = visit-stay w map left (length stack) frame (step.Stay at link) (sym e) at link refl in
       ran-step w f (state map left frame stack) (state map left (atLink frame at link) stack) []
-      (run-stay w f map left frame stack some (length stack) refl map (move.Stay at link left) v at link left refl)
-      (trail-by w f map left frame stack some (step.Stay at link) map (move.Stay at link left) e v)
+      (run-stay w f map left frame stack some (length stack) refl (step.Stay at link) (sym e) at link refl)
+      (trail-by w f map left frame stack some (step.Stay at link) e)
+
+  -- on behind a leaf
+  abbrev onward : ℕ → List ℕ → ℕ → State
+  onward link after n = state after n (atLink frame (frame .at) link) stack
 
   -- to the leaf x
   pub step-leaf : (x first′ link : ℕ) (after : List ℕ) (n : ℕ) → frame .link - 1 ≡ x
       → stepIn (w .nodes) (w .cap) (w .b) frame (getD (w .bytes) (length stack) 0) ≡ step.Leaf first′ link
-      → markLeaf (w .pages) (w .words) (w .pcap) (w .next) map first′ left ≡ marks after (Some n)
+      → mark w map left first′ ≡ marks after (Some n)
       → Ran w f (state map left frame stack) (state after n (atLink frame (frame .at) link) stack) 1 (x ∷ [])
   step-leaf x first′ link after n i e m =
-      let v = visit-leaf w map left (length stack) frame (step.Leaf first′ link) (sym e) first′ link after (Some n) (Some n) refl (sym m) refl in
-      ran-step w f (state map left frame stack) (state after n (atLink frame (frame .at) link) stack) (x ∷ [])
-      (run-stay w f map left frame stack some (length stack) refl after (move.Stay (frame .at) link n) v (frame .at) link n refl)
-      (trail-by w f map left frame stack some (step.Leaf first′ link) after (move.Stay (frame .at) link n) e v
-      ∙ ap (λ k. k ∷ trail w (f - 1) (state after n (atLink frame (frame .at) link) stack)) i)
+      ran-step w f (state map left frame stack) (onward link after n) (x ∷ [])
+      (run-leaf w f map left frame stack some (length stack) refl (step.Leaf first′ link) (sym e) first′ link refl
+      ∙ ap (onMarks (λ a k. run w (f - 1) (onward link a k))) m)
+      (trail-by w f map left frame stack some (step.Leaf first′ link) e
+      ∙ ap₂ (λ k a. k ∷ traceMarks (λ b j. trail w (f - 1) (onward link b j)) a) i m)
+
+  -- to the inner node x, with nothing of the radius left
+  pub step-exact : (x link : ℕ) (after : List ℕ) (n : ℕ) → frame .link - 1 ≡ x
+      → stepIn (w .nodes) (w .cap) (w .b) frame (getD (w .bytes) (length stack) 0) ≡ step.Exact x link
+      → mark w map left (leafFrom w (exactFrom w x (length stack + 1))) ≡ marks after (Some n)
+      → Ran w f (state map left frame stack) (state after n (atLink frame (frame .at) link) stack) 1 (x ∷ exactBelow w x (length stack + 1))
+  step-exact x link after n i e m =
+      ran-step w f (state map left frame stack) (onward link after n) (x ∷ exactBelow w x (length stack + 1))
+      (run-exact w f map left frame stack some (length stack) refl (step.Exact x link) (sym e) x link refl
+      ∙ ap (onMarks (λ a k. run w (f - 1) (onward link a k))) m)
+      (trail-by w f map left frame stack some (step.Exact x link) e
+      ∙ ap₂ (λ k a. k ∷ (exactBelow w x (length stack + 1) ++ traceMarks (λ b j. trail w (f - 1) (onward link b j)) a)) i m)
 
   pub step-down : (x radius link : ℕ) → frame .link - 1 ≡ x
       → stepIn (w .nodes) (w .cap) (w .b) frame (getD (w .bytes) (length stack) 0) ≡ step.Down x radius link
       → length stack + 1 < length (w .bytes)
       → Ran w f (state map left frame stack)
-      (state map left (entered (w .nodes) (w .cap) x radius (getD (w .bytes) (length stack + 1) 0)) (atLink frame (frame .at) link ∷ stack)) 1 (x ∷ [])
+      (state map left (entered (w .nodes) (w .cap) x radius) (atLink frame (frame .at) link ∷ stack)) 1 (x ∷ [])
   step-down x radius link i e l =
-      let v = visit-down w map left (length stack) frame (step.Down x radius link) (sym e) x radius link refl l in
-      let below : Frame = entered (w .nodes) (w .cap) x radius (getD (w .bytes) (length stack + 1) 0) in
+      let below : Frame = entered (w .nodes) (w .cap) x radius in
       let stack′ : List Frame = atLink frame (frame .at) link ∷ stack in
       ran-step w f (state map left frame stack) (state map left below stack′) (x ∷ [])
-      (run-down w f map left frame stack some (length stack) refl map (move.Down x radius link) v x radius link below stack′ refl refl refl)
-      (trail-by w f map left frame stack some (step.Down x radius link) map (move.Down x radius link) e v
-      ∙ ap (λ k. k ∷ trail w (f - 1) (state map left below stack′)) i)
+      (run-down w f map left frame stack some (length stack) refl (step.Down x radius link) (sym e) x radius link below stack′ refl l refl refl)
+      (trail-by w f map left frame stack some (step.Down x radius link) e
+      ∙ rw (lt-ltb (length stack + 1) (length (w .bytes)) l) (ap (λ k. k ∷ trail w (f - 1) (state map left below stack′)) i))
 
 module _ (w : Given) (f : ℕ) (some : 0 < f) (map : List ℕ) (left : ℕ) (frame : Frame) where
   pub step-up : (back : Frame) (stack : List Frame)
       → stepIn (w .nodes) (w .cap) (w .b) frame (getD (w .bytes) (length (back ∷ stack)) 0) ≡ step.Up
       → Ran w f (state map left frame (back ∷ stack)) (state map left back stack) 1 []
   step-up back stack e =
-      let v = visit-up w map left (length (back ∷ stack)) frame step.Up (sym e) refl in
       ran-step w f (state map left frame (back ∷ stack)) (state map left back stack) []
-      (run-up w f map left frame (back ∷ stack) some (length (back ∷ stack)) refl map move.Up v back stack refl refl)
-      (trail-by w f map left frame (back ∷ stack) some step.Up map move.Up e v)
+      (run-up w f map left frame (back ∷ stack) some (length (back ∷ stack)) refl step.Up (sym e) back stack refl refl)
+      (trail-by w f map left frame (back ∷ stack) some step.Up e)
 
   pub step-end : stepIn (w .nodes) (w .cap) (w .b) frame (getD (w .bytes) 0 0) ≡ step.Up → run w f (state map left frame []) ≡ walked map true
-  step-end e =
-      run-done w f map left frame [] some 0 refl map move.Up (visit-up w map left 0 frame step.Up (sym e) refl) refl refl
+  step-end e = run-done w f map left frame [] some 0 refl step.Up (sym e) refl refl
 
   pub trail-end : stepIn (w .nodes) (w .cap) (w .b) frame (getD (w .bytes) 0 0) ≡ step.Up → trail w f (state map left frame []) ≡ []
-  trail-end e = trail-by w f map left frame [] some step.Up map move.Up e (visit-up w map left 0 frame step.Up (sym e) refl)
+  trail-end e = trail-by w f map left frame [] some step.Up e
 
--- ---- from a root
+-- ---- from a root, by its state
 module _ (w : Given) (root radius : ℕ) (map : List ℕ) where
-  pub trail-leaf : 1 < getD (w .nodes) (stateAt (w .cap) root) 0 → trailFrom w root radius map ≡ root ∷ []
-  unfolding trailFrom
-  trail-leaf l =
-      rw (ne-eqb (getD (w .nodes) (stateAt (w .cap) root) 0) 0 (omega arith), ne-eqb (getD (w .nodes) (stateAt (w .cap) root) 0) 1 (omega arith))
+  abbrev word : ℕ
+  word = getD (w .nodes) (stateAt (w .cap) root) 0
 
-  pub trail-inner : getD (w .nodes) (stateAt (w .cap) root) 0 ≡ 1
-      → trailFrom w root radius map
-      ≡ root ∷ trail w (10 * (w .cap + 1)) (state map (w .pcap) (entered (w .nodes) (w .cap) root radius (getD (w .bytes) 0 0)) [])
+  pub trail-exact : 0 < word → radius ≡ 0 → trailFrom w root radius map ≡ root ∷ exactBelow w root 0
   unfolding trailFrom
-  trail-inner o =
-      rw (ne-eqb (getD (w .nodes) (stateAt (w .cap) root) 0) 0 (omega arith), eq-eqb (getD (w .nodes) (stateAt (w .cap) root) 0) 1 o)
+  trail-exact l z = rw (ne-eqb word 0 (omega arith), eq-eqb radius 0 z)
+
+  pub trail-leaf : 1 < word → 0 < radius → trailFrom w root radius map ≡ root ∷ []
+  unfolding trailFrom
+  trail-leaf l r = rw (ne-eqb word 0 (omega arith), ne-eqb word 1 (omega arith), ne-eqb radius 0 (omega arith))
+
+  pub trail-inner : word ≡ 1 → 0 < radius
+      → trailFrom w root radius map ≡ root ∷ trail w (10 * (w .cap + 1)) (state map (w .pcap) (entered (w .nodes) (w .cap) root radius) [])
+  unfolding trailFrom
+  trail-inner o r = rw (ne-eqb word 0 (omega arith), eq-eqb word 1 o, ne-eqb radius 0 (omega arith))

@@ -1,34 +1,34 @@
 -- On tables that hold a trie, the walk marks exactly the pages that `met` meets, and goes through the nodes of `near`, both in order.
-use Prim.Native.Nat.{ℕ, suc, _+_, _-_, _*_, _/_, _^_, _≤_, _<_}
+use Prim.Native.Nat.{ℕ, suc, _+_, _-_, _*_, _^_, _≤_, _<_}
 use native.Mathlib.Omega.{arith}
 use native.Mathlib.Numerals.{add-one}
 use native.Mathlib.Decide.{ℕ-discrete}
 use mathlib.Core.Path.{_≡_, refl, sym, ap, ap₂, _∙_}
-use mathlib.Core.Logic.{_≢_}
-use mathlib.Core.Bool.{Bool, true, false, cond, _&&_}
+use mathlib.Core.Bool.{Bool, true, false, cond}
 use mathlib.Core.List.{List, [], _∷_, _++_, append-nil}
 use lib.Bits.{bitXor}
-use lib.Dec.{eqb, leb}
+use lib.Dec.{leb}
 use lib.ListN.{length, getD, drop, length-append}
 use lib.Seq.{drop-cons}
-use borrow.Author.Tests.{eqb-true, eqb-false, leb-true, leb-false}
+use borrow.Author.Tests.{leb-true, leb-false}
 use Rattle.meaning.specs.Sketch.{perByte, byteDistance}
 use Rattle.meaning.specs.Trie.{Children, none, met, metIn, nodes, nodesIn}
 use Rattle.layout.specs.Nodes.{linkOf, chainWord, headAt, stateAt}
 use Rattle.trie.specs.Heap.{Holds}
 use Rattle.trie.specs.Phys.{Phys, leafP, innerP, Buckets, end, bucket, Chain, stop, link, root, first, tree, kids, kidsC, cells, cellsB, cellsC, Sound, SoundB, SoundC}
 use Rattle.walk.specs.declared.frame.Frame.{Frame}
-use Rattle.walk.specs.declared.mark.Left.the-variants.{Some}
-use Rattle.walk.specs.Mark.{markAll, markLeaf}
-use Rattle.walk.specs.Frame.{frameAt, entered, following, stepTo, stepIn}
-use Rattle.walk.specs.Walk.{Given, State, state, walked, atLink, walkBelow, walkFrom}
-use Rattle.walk.proofs.Turns.{from-leaf, from-inner}
+use Rattle.walk.specs.Mark.{markAll}
+use Rattle.walk.specs.Frame.{entered, stepTo, stepIn}
+use Rattle.walk.specs.Walk.{Given, State, state, walked, walkedLeaf, atLink, mark, exactFrom, leafFrom, walkBelow, walkFrom}
+use Rattle.walk.proofs.Turns.{from-exact, from-leaf, from-inner}
 use Rattle.walk_laws.specs.Near.{near, nearB, nearC}
-use Rattle.walk_laws.specs.Trail.{trail, trailFrom}
+use Rattle.walk_laws.specs.Trail.{exactBelow, trail, trailFrom}
 use Rattle.walk_laws.proofs.Marks.{mark-append}
-use Rattle.walk_laws.proofs.Ran.{leaf-marks, Ran, ran-none, ran-then, ran-within, ran-to, ran-went, step-stay, step-leaf, step-down, step-up, step-end, trail-end, trail-leaf, trail-inner}
-use Rattle.walk_laws.proofs.Chains.{firstLink, slot-word, root-below, first-below, link-in, step-chain, step-next, step-last, to-far, to-leaf, to-inner, met-chain}
-use Rattle.walk_laws.proofs.Fit.{Fit, FitB, FitC, byte-small, unmet, unmet-past, none-near, none-near-past}
+use Rattle.walk_laws.proofs.Ran.{leaf-marks, Ran, ran-none, ran-then, ran-within, ran-to, ran-went, step-stay, step-leaf, step-exact, step-down, step-up, step-end, trail-end, trail-exact, trail-leaf, trail-inner}
+use Rattle.walk_laws.proofs.Chains.{firstLink, slot-word, root-below, first-below, link-in, step-chain, step-next, step-last, to-far, to-leaf, to-exact, to-inner, met-chain}
+use Rattle.walk_laws.proofs.Fit.{Fit, FitB, FitC, byte-small}
+use Rattle.walk_laws.proofs.Leads.{stepsBelow, stepsAmong, stepsAlong}
+use Rattle.walk_laws.proofs.Exact.{sub-marks, sub-near}
 
 -- the steps that a part of a trie can cost
 abbrev mutual
@@ -80,56 +80,20 @@ module _ (w : Given) where
       → Ran w f (state map left frame stack) (after map left (metC ch (frame .radius) stack) (atLink frame (frame .at) 0) stack) (stepsC ch)
       (nearIn ch (frame .radius) stack)
 
-  -- what follows a child of byte c: the rest of its chain, unless the radius is 0 and the query's byte is passed
-  rest-through : (ch : Chain) (stack : List Frame) (c hi k : ℕ) → SoundC (w .cap) (w .pcap) ch (suc c) hi → FitC (w .b) (length (w .bytes)) ch k
-      → here stack < 2 ^ (w .b * perByte (w .b)) → Through ch stack
-      → (f : ℕ) (map : List ℕ) (left : ℕ) (frame : Frame) → stepsC ch ≤ f → length (metC ch (frame .radius) stack) ≤ left
-      → Ran w f (state map left (atLink frame (frame .at) (following (frame .radius) c (here stack) (firstLink ch))) stack)
-      (after map left (metC ch (frame .radius) stack) (atLink frame (frame .at) 0) stack) (stepsC ch) (nearIn ch (frame .radius) stack)
-  unfolding following
-  rest-through ch stack c hi k s t q through f map left frame l m = go (eqb (frame .radius) 0) refl (leb (here stack) c) refl
-    where
-      Goal : ℕ → Type 0
-      Goal n =
-          Ran w f (state map left (atLink frame (frame .at) n) stack)
-          (after map left (metC ch (frame .radius) stack) (atLink frame (frame .at) 0) stack) (stepsC ch) (nearIn ch (frame .radius) stack)
-
-      onward : Goal (firstLink ch)
-      onward = through f map left (atLink frame (frame .at) (firstLink ch)) refl l m
-
-      go : (u : Bool) → eqb (frame .radius) 0 ≡ u → (v : Bool) → leb (here stack) c ≡ v → Goal (cond (u && v) 0 (firstLink ch))
-      go false d v e = onward
-      go true d false e = onward
-      go true d true e =
-          let none-met : metC ch (frame .radius) stack ≡ [] =
-          rw (eqb-true (frame .radius) 0 d)
-          (unmet (w .cap) (w .pcap) (w .b) (length (w .bytes)) (here stack) (behind stack) q ch (suc c) hi k s t
-          (λ x u v z. absurd (omega (arith, leb-true (here stack) c e)))) in
-          let none-there : nearIn ch (frame .radius) stack ≡ [] =
-          rw (eqb-true (frame .radius) 0 d)
-          (none-near (w .cap) (w .pcap) (w .b) (length (w .bytes)) (here stack) (behind stack) q ch (suc c) hi k s t
-          (λ x u v z. absurd (omega (arith, leb-true (here stack) c e)))) in
-          ran-went w f _ _ (stepsC ch) [] (nearIn ch (frame .radius) stack) (sym none-there)
-          (ran-within w f _ _ 0 (stepsC ch) [] (omega arith)
-          (ran-to w f _ _ _ 0 [] (sym (ap (λ ps. after map left ps (atLink frame (frame .at) 0) stack) none-met ∙ after-none map left (atLink frame (frame .at) 0) stack))
-          (ran-none w f (state map left (atLink frame (frame .at) 0) stack))))
-
   -- a child and the rest of its chain
-  link-through : (ch : Chain) (t : Phys) (stack : List Frame) (c hi k : ℕ) → SoundC (w .cap) (w .pcap) ch (suc c) hi
-      → FitC (w .b) (length (w .bytes)) ch k → here stack < 2 ^ (w .b * perByte (w .b)) → Through ch stack
+  link-through : (ch : Chain) (t : Phys) (stack : List Frame) → Through ch stack
       → (f : ℕ) (map : List ℕ) (left : ℕ) (frame : Frame) (ps xs : List ℕ) → steps t + stepsC ch ≤ f
       → length (ps ++ metC ch (frame .radius) stack) ≤ left
-      → Ran w f (state map left frame stack)
-      (after map left ps (atLink frame (frame .at) (following (frame .radius) c (here stack) (firstLink ch))) stack) (steps t) xs
+      → Ran w f (state map left frame stack) (after map left ps (atLink frame (frame .at) (firstLink ch)) stack) (steps t) xs
       → Ran w f (state map left frame stack)
       (after map left (ps ++ metC ch (frame .radius) stack) (atLink frame (frame .at) 0) stack) (steps t + stepsC ch)
       (xs ++ nearIn ch (frame .radius) stack)
-  link-through ch t stack c hi k s u q through f map left frame ps xs l m one =
+  link-through ch t stack through f map left frame ps xs l m one =
       let qs : List ℕ = metC ch (frame .radius) stack in
       let ys : List ℕ = nearIn ch (frame .radius) stack in
       ran-to w f _ _ _ (steps t + stepsC ch) (xs ++ ys) (after-join map left ps qs (atLink frame (frame .at) 0) stack)
       (ran-then w f _ _ _ (steps t) (stepsC ch) xs ys one
-      (rest-through ch stack c hi k s u q through (one .rest) (markAll map (w .words) ps) (left - length ps) frame
+      (through (one .rest) (markAll map (w .words) ps) (left - length ps) (atLink frame (frame .at) (firstLink ch)) refl
       (omega (arith, one .enough)) (omega (arith, length-append ps qs))))
 
   -- the frames of an inner node are exhausted
@@ -225,21 +189,6 @@ module _ (w : Given) (small : w .cap ≤ 262144) (query : (k : ℕ) → getD (w 
     ran = ran-to w f _ _ _ 0 [] (sym (after-none w map left frame stack)) (ran-none w f (state map left frame stack));
   }
 
-  -- the chains that a node is entered at: one at radius 0, else all
-  entry : (bs : Buckets) (x : ℕ) (stack : List Frame) (f : ℕ) (map : List ℕ) (left r : ℕ)
-      → (r ≡ 0 → Under w f map left (frameAt N (headAt (w .cap) x (here w stack / 32)) (headAt (w .cap) x (here w stack / 32)) 0) (metB bs r stack) (nearUnder bs r stack) stack (stepsB bs))
-      → (r ≢ 0 → Under w f map left (frameAt N (headAt (w .cap) x 0) (headAt (w .cap) x 7) r) (metB bs r stack) (nearUnder bs r stack) stack (stepsB bs))
-      → Under w f map left (entered N (w .cap) x r (here w stack)) (metB bs r stack) (nearUnder bs r stack) stack (stepsB bs)
-  unfolding entered
-  entry bs x stack f map left r one all = go (eqb r 0) refl
-    where
-      go : (q : Bool) → eqb r 0 ≡ q
-          → Under w f map left
-          (cond q (frameAt N (headAt (w .cap) x (here w stack / 32)) (headAt (w .cap) x (here w stack / 32)) 0)
-          (frameAt N (headAt (w .cap) x 0) (headAt (w .cap) x 7) r)) (metB bs r stack) (nearUnder bs r stack) stack (stepsB bs)
-      go true e = one (eqb-true r 0 e)
-      go false e = all (eqb-false r 0 e)
-
   -- one chain, then the next ones
   then-under : (ch : Chain) (bs : Buckets) (x g : ℕ) (stack : List Frame) → Holds (cellsB (w .cap) (w .next) bs x (suc g)) N P
       → SoundB (w .cap) (w .pcap) bs (suc g)
@@ -277,8 +226,8 @@ module _ (w : Given) (small : w .cap ≤ 262144) (query : (k : ℕ) → getD (w 
 
   -- the frame of all chains
   from-first : (bs : Buckets) (x r : ℕ) → Holds (cellsB (w .cap) (w .next) bs x 0) N P → SoundB (w .cap) (w .pcap) bs 0
-      → From w bs x 0 (frameAt N (headAt (w .cap) x 0) (headAt (w .cap) x 7) r)
-  unfolding frameAt
+      → From w bs x 0 (entered N (w .cap) x r)
+  unfolding entered
   from-first end x r h s = absurd (omega arith)
   from-first (bucket ch bs) x r h s = (
     refl,
@@ -287,84 +236,14 @@ module _ (w : Given) (small : w .cap ≤ 262144) (query : (k : ℕ) → getD (w 
         ∙ link-in 0 (firstLink ch) (omega (arith, first-below (w .cap) (w .pcap) ch 0 32 (s .0))),
   )
 
-  under-within : (f : ℕ) (map : List ℕ) (left : ℕ) (frame : Frame) (ps xs : List ℕ) (stack : List Frame) (c d : ℕ) → c ≤ d
-      → Under w f map left frame ps xs stack c → Under w f map left frame ps xs stack d
-  under-within f map left frame ps xs stack c d l u = record {
-    done = u .done;
-    empty = u .empty;
-    last = u .last;
-    ran = ran-within w f _ _ c d xs l (u .ran);
-  }
-
-  -- the frame of the chain of the query's byte
-  abbrev only : ℕ → List Frame → Frame
-  only x stack = frameAt N (headAt (w .cap) x (here w stack / 32)) (headAt (w .cap) x (here w stack / 32)) 0
-
-  -- chain g at radius 0: it is that of the query's byte, or has none
-  only-here : (ch : Chain) (bs : Buckets) (x g : ℕ) (stack : List Frame) → Holds (cellsC (w .cap) (w .next) ch (headAt (w .cap) x g) 0) N P
-      → SoundC (w .cap) (w .pcap) ch (32 * g) (32 * g + 32) → SoundB (w .cap) (w .pcap) bs (suc g)
-      → FitC (w .b) len ch (length stack) → FitB (w .b) len bs (length stack) → g ≤ here w stack / 32
-      → (f : ℕ) (map : List ℕ) (left : ℕ) → stepsB (bucket ch bs) ≤ f → length (metB (bucket ch bs) 0 stack) ≤ left → Through w ch stack
-      → (suc g ≤ here w stack / 32 → stepsB bs ≤ f → length (metB bs 0 stack) ≤ left
-      → Under w f map left (only x stack) (metB bs 0 stack) (nearUnder bs 0 stack) stack (stepsB bs))
-      → Under w f map left (only x stack) (metB (bucket ch bs) 0 stack) (nearUnder (bucket ch bs) 0 stack) stack (stepsB (bucket ch bs))
-  unfolding frameAt nearB
-  only-here ch bs x g stack h s s′ u u′ l f map left c m through ih = go (ℕ-discrete g (here w stack / 32))
-    where
-      ps : List ℕ
-      ps = metC w ch 0 stack
-
-      split : metB (bucket ch bs) 0 stack ≡ ps ++ metB bs 0 stack
-      split = met-chain (w .b) 0 (here w stack) (behind w stack) ch (kids bs)
-
-      xs : List ℕ
-      xs = nearIn w ch 0 stack
-
-      ys : List ℕ
-      ys = nearUnder bs 0 stack
-
-      go : Dec (g ≡ here w stack / 32)
-          → Under w f map left (only x stack) (metB (bucket ch bs) 0 stack) (xs ++ ys) stack (stepsB (bucket ch bs))
-      go (yes e) =
-          let past : metB bs 0 stack ≡ [] =
-          unmet-past (w .cap) (w .pcap) (w .b) len (here w stack) (behind w stack) (query (length stack)) bs (suc g) (length stack) s′ u′ (omega arith) in
-          let same : ps ≡ metB (bucket ch bs) 0 stack = sym (split ∙ ap (λ qs. ps ++ qs) past ∙ append-nil ps) in
-          let none-past : ys ≡ [] =
-          none-near-past (w .cap) (w .pcap) (w .b) len (here w stack) (behind w stack) (query (length stack)) bs (suc g) (length stack) s′ u′ (omega arith) in
-          let first-there : linkOf (getD N (headAt (w .cap) x (here w stack / 32)) 0) ≡ firstLink ch =
-          ap (λ k. linkOf (getD N (headAt (w .cap) x k) 0)) (sym e)
-          ∙ ap linkOf (slot-word (w .cap) (w .next) N P ch (headAt (w .cap) x g) 0 h)
-          ∙ link-in 0 (firstLink ch) (omega (arith, first-below (w .cap) (w .pcap) ch (32 * g) (32 * g + 32) s)) in
-          record {
-            done = atLink (only x stack) (only x stack .at) 0;
-            empty = refl;
-            last = omega arith;
-            ran = ran-went w f _ _ (stepsC ch + 1 + stepsB bs) xs (xs ++ ys) (sym (ap (λ zs. xs ++ zs) none-past ∙ append-nil xs))
-                (ran-to w f _ _ _ (stepsC ch + 1 + stepsB bs) xs (ap (λ qs. after w map left qs (atLink (only x stack) (only x stack .at) 0) stack) same)
-                (ran-within w f _ _ (stepsC ch) (stepsC ch + 1 + stepsB bs) xs (omega arith)
-                (through f map left (only x stack) first-there (omega arith) (omega (arith, ap length same)))));
-          }
-      go (no n) =
-          let gone : ps ≡ [] =
-          unmet (w .cap) (w .pcap) (w .b) len (here w stack) (behind w stack) (query (length stack)) ch (32 * g) (32 * g + 32) (length stack) s u
-          (λ k a b z. absurd (omega arith)) in
-          let same : metB bs 0 stack ≡ metB (bucket ch bs) 0 stack = sym (split ∙ ap (λ qs. qs ++ metB bs 0 stack) gone) in
-          let none-here : xs ≡ [] =
-          none-near (w .cap) (w .pcap) (w .b) len (here w stack) (behind w stack) (query (length stack)) ch (32 * g) (32 * g + 32) (length stack) s u
-          (λ k a b z. absurd (omega arith)) in
-          under-same f map left (only x stack) (metB bs 0 stack) (metB (bucket ch bs) 0 stack) ys (xs ++ ys) stack (stepsB (bucket ch bs)) same
-          (sym (ap (λ zs. zs ++ ys) none-here))
-          (under-within f map left (only x stack) (metB bs 0 stack) ys stack (stepsB bs) (stepsB (bucket ch bs)) (omega arith)
-          (ih (omega arith) (omega arith) (omega (arith, ap length same))))
-
   -- a child, near or far, and the rest of its chain
   child-through : (t : Phys) (ch : Chain) (stack : List Frame) (c at y lo hi : ℕ) → Holds (cellsC (w .cap) (w .next) (link c t ch) at y) N P
       → SoundC (w .cap) (w .pcap) (link c t ch) lo hi → FitC (w .b) len (link c t ch) (length stack)
       → (f : ℕ) (map : List ℕ) (left : ℕ) (frame : Frame) → frame .link ≡ root t + 1 → steps t + stepsC ch ≤ f
       → length (metC w (link c t ch) (frame .radius) stack) ≤ left → Through w ch stack
-      → ((d l : ℕ) → stepIn N (w .cap) (w .b) frame (here w stack) ≡ stepTo N (w .cap) (root t) d (frame .radius) (frame .at) l → d ≤ frame .radius
-      → steps t ≤ f → length (metT t (frame .radius - d) stack) ≤ left
-      → Ran w f (state map left frame stack) (after w map left (metT t (frame .radius - d) stack) (atLink frame (frame .at) l) stack) (steps t)
+      → ((d : ℕ) → stepIn N (w .cap) (w .b) frame (here w stack) ≡ stepTo N (w .cap) (root t) d (frame .radius) (frame .at) (firstLink ch)
+      → d ≤ frame .radius → steps t ≤ f → length (metT t (frame .radius - d) stack) ≤ left
+      → Ran w f (state map left frame stack) (after w map left (metT t (frame .radius - d) stack) (atLink frame (frame .at) (firstLink ch)) stack) (steps t)
       (nearT t (frame .radius - d) stack))
       → Ran w f (state map left frame stack) (after w map left (metC w (link c t ch) (frame .radius) stack) (atLink frame (frame .at) 0) stack)
       (steps t + stepsC ch) (nearIn w (link c t ch) (frame .radius) stack)
@@ -378,7 +257,7 @@ module _ (w : Given) (small : w .cap ≤ 262144) (query : (k : ℕ) → getD (w 
       d = byteDistance (w .b) (bitXor c (here w stack))
 
       l : ℕ
-      l = following r c (here w stack) (firstLink ch)
+      l = firstLink ch
 
       found : stepIn N (w .cap) (w .b) frame (here w stack) ≡ stepTo N (w .cap) (root t) d r (frame .at) l
       found =
@@ -392,159 +271,202 @@ module _ (w : Given) (small : w .cap ≤ 262144) (query : (k : ℕ) → getD (w 
           (after w map left (cond q (metT t (r - d) stack) [] ++ metC w ch r stack) (atLink frame (frame .at) 0) stack) (steps t + stepsC ch)
           (cond q (nearT t (r - d) stack) [] ++ nearIn w ch r stack)
       go true k v =
-          link-through w ch t stack c hi (length stack) (s .3) (u .2) (query (length stack)) through f map left frame (metT t (r - d) stack)
+          link-through w ch t stack through f map left frame (metT t (r - d) stack)
           (nearT t (r - d) stack) n v
-          (within d l found (leb-true d r k) (omega arith) (omega (arith, length-append (metT t (r - d) stack) (metC w ch r stack))))
+          (within d found (leb-true d r k) (omega arith) (omega (arith, length-append (metT t (r - d) stack) (metC w ch r stack))))
       go false k v =
-          link-through w ch t stack c hi (length stack) (s .3) (u .2) (query (length stack)) through f map left frame [] [] n v
+          link-through w ch t stack through f map left frame [] [] n v
           (ran-to w f _ _ _ (steps t) [] (sym (after-none w map left (atLink frame (frame .at) l) stack))
           (ran-within w f _ _ 1 (steps t) [] (steps-some t)
           (step-stay w f (omega (arith, steps-some t)) map left frame stack (frame .at) l
           (found ∙ to-far N (w .cap) (root t) d r (frame .at) l (leb-false d r k)))))
 
+  -- an inner child at distance d, within the radius
+  module _ (x : ℕ) (bs : Buckets) (stack : List Frame) (h : Holds (cells (w .cap) (w .next) (innerP x bs)) N P)
+      (s : Sound (w .cap) (w .pcap) (innerP x bs)) (u : Fit (w .b) len (innerP x bs) (suc (length stack)))
+      (f : ℕ) (map : List ℕ) (left : ℕ) (frame : Frame) (d l : ℕ) (i : frame .link ≡ x + 1)
+      (e : stepIn N (w .cap) (w .b) frame (here w stack) ≡ stepTo N (w .cap) x d (frame .radius) (frame .at) l)
+      (c : 2 + stepsB bs ≤ f) (m : length (metT (innerP x bs) (frame .radius - d) stack) ≤ left) where
+    abbrev t : Phys
+    t = innerP x bs
+
+    abbrev r : ℕ
+    r = frame .radius - d
+
+    abbrev back : Frame
+    back = atLink frame (frame .at) l
+
+    abbrev Passed : Type 0
+    Passed = Ran w f (state map left frame stack) (after w map left (metT t r stack) back stack) (2 + stepsB bs) (nearT t r stack)
+
+    -- with nothing of the radius left: by an exact descent
+    exact-through : stepsAmong bs ≤ w .cap → frame .radius ≡ d → Passed
+    exact-through few z =
+        let ps : List ℕ = metT t 0 stack in
+        let spent : r ≡ 0 = omega arith in
+        let same : metT t r stack ≡ ps = ap (λ k. metT t k stack) spent in
+        let level : length stack + 1 ≡ suc (length stack) = add-one (length stack) in
+        let xs : List ℕ = x ∷ exactBelow w x (length stack + 1) in
+        ran-went w f _ _ (2 + stepsB bs) xs (nearT t r stack)
+        (ap (λ k. x ∷ exactBelow w x k) level ∙ sub-near w small query t (suc (length stack)) h s u few ∙ ap (λ k. nearT t k stack) (sym spent))
+        (ran-to w f _ _ _ (2 + stepsB bs) xs (ap (λ qs. after w map left qs back stack) (sym same))
+        (ran-within w f _ _ 1 (2 + stepsB bs) xs (omega arith)
+        (step-exact w f (omega arith) map left frame stack x l (markAll map (w .words) ps) (left - length ps) (omega arith)
+        (e ∙ to-exact N (w .cap) x d (frame .radius) (frame .at) l z (h .0))
+        (ap (λ k. mark w map left (leafFrom w (exactFrom w x k))) level
+        ∙ sub-marks w small query t (suc (length stack)) h s u few map left (omega (arith, ap length same))))))
+
+    -- else through all its chains
+    down-through : d < frame .radius
+        → ((f′ : ℕ) → stepsB bs ≤ f′ → length (metB bs r (back ∷ stack)) ≤ left
+        → Under w f′ map left (entered N (w .cap) x r) (metB bs r (back ∷ stack)) (nearUnder bs r (back ∷ stack)) (back ∷ stack) (stepsB bs))
+        → Passed
+    unfolding met near
+    down-through z through =
+        let stack′ : List Frame = back ∷ stack in
+        let down = step-down w f (omega arith) map left frame stack x r l (omega arith)
+        (e ∙ to-inner N (w .cap) x d (frame .radius) (frame .at) l z (h .0)) (omega (arith, u .0)) in
+        let cons : behind w stack ≡ here w stack′ ∷ behind w stack′ = drop-cons (w .bytes) (suc (length stack)) 0 (u .0) in
+        let ps : List ℕ = metB bs r stack′ in
+        let same : metT t r stack ≡ ps = ap (metIn (w .b) r (kids bs)) cons in
+        let xs : List ℕ = nearUnder bs r stack′ in
+        let same-nodes : x ∷ xs ≡ nearT t r stack = sym (ap (λ ys. x ∷ nearB (w .b) r bs ys) cons) in
+        let under = through (down .rest) (omega (arith, down .enough)) (omega (arith, ap length same)) in
+        let up = step-up w (under .ran .rest) (omega (arith, under .ran .enough, down .enough)) (markAll map (w .words) ps) (left - length ps) (under .done) back stack
+        (step-last N (w .cap) (w .b) (under .done) (here w stack′) (under .empty) (under .last)) in
+        ran-went w f _ _ (2 + stepsB bs) (x ∷ (xs ++ [])) (nearT t r stack) (ap (λ ys. x ∷ ys) (append-nil xs) ∙ same-nodes)
+        (ran-to w f _ _ _ (2 + stepsB bs) (x ∷ (xs ++ [])) (ap (λ qs. after w map left qs back stack) (sym same))
+        (ran-within w f _ _ (1 + (stepsB bs + 1)) (2 + stepsB bs) (x ∷ (xs ++ [])) (omega arith)
+        (ran-then w f _ _ _ 1 (stepsB bs + 1) (x ∷ []) (xs ++ []) down
+        (ran-then w (down .rest) _ _ _ (stepsB bs) 1 xs [] (under .ran) up))))
+
   mutual
-    unfolding met metIn near nearB nearC frameAt
+    unfolding met metIn near nearB nearC entered
 
     -- a child at distance d, within the radius
     tree-through : (t : Phys) (stack : List Frame) → Holds (cells (w .cap) (w .next) t) N P → Sound (w .cap) (w .pcap) t → Fit (w .b) len t (suc (length stack))
+        → stepsBelow t ≤ w .cap
         → (f : ℕ) (map : List ℕ) (left : ℕ) (frame : Frame) (d l : ℕ)
         → frame .link ≡ root t + 1
         → stepIn N (w .cap) (w .b) frame (here w stack) ≡ stepTo N (w .cap) (root t) d (frame .radius) (frame .at) l → d ≤ frame .radius
         → steps t ≤ f → length (metT t (frame .radius - d) stack) ≤ left
         → Ran w f (state map left frame stack) (after w map left (metT t (frame .radius - d) stack) (atLink frame (frame .at) l) stack) (steps t)
         (nearT t (frame .radius - d) stack)
-    tree-through (leafP x ps) stack h s u f map left frame d l i e r c m =
+    tree-through (leafP x ps) stack h s u few f map left frame d l i e r c m =
         step-leaf w f c map left frame stack x (first ps) l (markAll map (w .words) ps) (left - length ps) (omega arith)
         (e ∙ to-leaf N (w .cap) x d (frame .radius) (frame .at) l (first ps) r (h .0))
         (leaf-marks P (w .words) (w .pcap) (w .next) N map ps left (h .1 .1) (s .1) m)
-    tree-through (innerP x bs) stack h s u f map left frame d l i e r c m =
-        let back : Frame = atLink frame (frame .at) l in
-        let stack′ : List Frame = back ∷ stack in
-        let down = step-down w f (omega arith) map left frame stack x (frame .radius - d) l (omega arith)
-        (e ∙ to-inner N (w .cap) x d (frame .radius) (frame .at) l r (h .0)) (omega (arith, u .0)) in
-        let arrived : state map left (entered N (w .cap) x (frame .radius - d) (getD (w .bytes) (length stack + 1) 0)) stack′
-        ≡ state map left (entered N (w .cap) x (frame .radius - d) (here w stack′)) stack′ =
-        ap (λ k. state map left (entered N (w .cap) x (frame .radius - d) (getD (w .bytes) k 0)) stack′) (add-one (length stack)) in
-        let cons : behind w stack ≡ here w stack′ ∷ behind w stack′ = drop-cons (w .bytes) (suc (length stack)) 0 (u .0) in
-        let ps : List ℕ = metB bs (frame .radius - d) stack′ in
-        let same : metT (innerP x bs) (frame .radius - d) stack ≡ ps = ap (metIn (w .b) (frame .radius - d) (kids bs)) cons in
-        let xs : List ℕ = nearUnder bs (frame .radius - d) stack′ in
-        let same-nodes : x ∷ xs ≡ nearT (innerP x bs) (frame .radius - d) stack = sym (ap (λ ys. x ∷ nearB (w .b) (frame .radius - d) bs ys) cons) in
-        let down′ = ran-to w f _ _ _ 1 (x ∷ []) arrived down in
-        let under = entry bs x stack′ (down′ .rest) map left (frame .radius - d)
-        (λ z.
-        let zero-met : metB bs 0 stack′ ≡ ps = ap (λ k. metB bs k stack′) (sym z) in
-        under-same (down′ .rest) map left (only x stack′) (metB bs 0 stack′) ps (nearUnder bs 0 stack′) xs stack′ (stepsB bs) zero-met
-        (ap (λ k. nearUnder bs k stack′) (sym z))
-        (only-through bs x 0 stack′ (h .1) (s .1) (u .1) (u .0) (omega arith) (down′ .rest) map left
-        (omega (arith, down′ .enough)) (omega (arith, ap length same, ap length zero-met))))
-        (λ z. all-through bs x 0 stack′ (h .1) (s .1) (u .1) (u .0) (down′ .rest) map left
-        (frameAt N (headAt (w .cap) x 0) (headAt (w .cap) x 7) (frame .radius - d))
-        (from-first bs x (frame .radius - d) (h .1) (s .1))
-        (omega (arith, down′ .enough)) (omega (arith, ap length same))) in
-        let up = step-up w (under .ran .rest) (omega (arith, under .ran .enough, down′ .enough)) (markAll map (w .words) ps) (left - length ps) (under .done) back stack
-        (step-last N (w .cap) (w .b) (under .done) (here w stack′) (under .empty) (under .last)) in
-        ran-went w f _ _ (2 + stepsB bs) (x ∷ (xs ++ [])) (nearT (innerP x bs) (frame .radius - d) stack)
-        (ap (λ ys. x ∷ ys) (append-nil xs) ∙ same-nodes)
-        (ran-to w f _ _ _ (2 + stepsB bs) (x ∷ (xs ++ [])) (ap (λ qs. after w map left qs back stack) (sym same))
-        (ran-within w f _ _ (1 + (stepsB bs + 1)) (2 + stepsB bs) (x ∷ (xs ++ [])) (omega arith)
-        (ran-then w f _ _ _ 1 (stepsB bs + 1) (x ∷ []) (xs ++ []) down′
-        (ran-then w (down′ .rest) _ _ _ (stepsB bs) 1 xs [] (under .ran) up))))
+    tree-through (innerP x bs) stack h s u few f map left frame d l i e r c m = elim (ℕ-discrete (frame .radius) d) [
+      | yes z ↦ exact-through x bs stack h s u f map left frame d l i e c m few z
+      | no z ↦
+          down-through x bs stack h s u f map left frame d l i e c m (omega arith)
+          (λ f′ c′ m′.
+          all-through bs x 0 (atLink frame (frame .at) l ∷ stack) (h .1) (s .1) (u .1) (u .0) few f′ map left (entered N (w .cap) x (frame .radius - d))
+          (from-first bs x (frame .radius - d) (h .1) (s .1)) c′ m′)
+    ]
 
-    -- the chains from g on, at a radius that is not 0
+    -- the chains from g on
     all-through : (bs : Buckets) (x g : ℕ) (stack : List Frame) → Holds (cellsB (w .cap) (w .next) bs x g) N P → SoundB (w .cap) (w .pcap) bs g
-        → FitB (w .b) len bs (length stack) → length stack < len
+        → FitB (w .b) len bs (length stack) → length stack < len → stepsAmong bs ≤ w .cap
         → (f : ℕ) (map : List ℕ) (left : ℕ) (frame : Frame) → From w bs x g frame → stepsB bs ≤ f → length (metB bs (frame .radius) stack) ≤ left
         → Under w f map left frame (metB bs (frame .radius) stack) (nearUnder bs (frame .radius) stack) stack (stepsB bs)
-    all-through end x g stack h s u v f map left frame from c m = under-none f map left frame stack (from .0) (from .1)
-    all-through (bucket ch bs) x g stack h s u v f map left frame from c m =
+    all-through end x g stack h s u v few f map left frame from c m = under-none f map left frame stack (from .0) (from .1)
+    all-through (bucket ch bs) x g stack h s u v few f map left frame from c m =
         then-under ch bs x g stack (h .1) (s .1) f map left frame from c m
         (λ f′ map′ left′ frame′ e′ c′ m′.
-        chain-through ch stack (headAt (w .cap) x g) 0 (32 * g) (32 * g + 32) (h .0) (s .0) (u .0) v f′ map′ left′ frame′ e′ c′ m′)
-        (λ f′ map′ left′ frame′ e′ c′ m′. all-through bs x (suc g) stack (h .1) (s .1) (u .1) v f′ map′ left′ frame′ e′ c′ m′)
-
-    -- the chains from g on, at radius 0: only that of the query's byte
-    only-through : (bs : Buckets) (x g : ℕ) (stack : List Frame) → Holds (cellsB (w .cap) (w .next) bs x g) N P → SoundB (w .cap) (w .pcap) bs g
-        → FitB (w .b) len bs (length stack) → length stack < len → g ≤ here w stack / 32
-        → (f : ℕ) (map : List ℕ) (left : ℕ) → stepsB bs ≤ f → length (metB bs 0 stack) ≤ left
-        → Under w f map left (only x stack) (metB bs 0 stack) (nearUnder bs 0 stack) stack (stepsB bs)
-    only-through end x g stack h s u v l f map left c m = absurd (omega (arith, query (length stack), byte-small (w .b)))
-    only-through (bucket ch bs) x g stack h s u v l f map left c m =
-        only-here ch bs x g stack (h .0) (s .0) (s .1) (u .0) (u .1) l f map left c m
-        (λ f′ map′ left′ frame′ e′ c′ m′.
-        chain-through ch stack (headAt (w .cap) x g) 0 (32 * g) (32 * g + 32) (h .0) (s .0) (u .0) v f′ map′ left′ frame′ e′ c′ m′)
-        (λ k c′ m′. only-through bs x (suc g) stack (h .1) (s .1) (u .1) v k f map left c′ m′)
+        chain-through ch stack (headAt (w .cap) x g) 0 (32 * g) (32 * g + 32) (h .0) (s .0) (u .0) v (omega arith) f′ map′ left′ frame′ e′ c′ m′)
+        (λ f′ map′ left′ frame′ e′ c′ m′. all-through bs x (suc g) stack (h .1) (s .1) (u .1) v (omega arith) f′ map′ left′ frame′ e′ c′ m′)
 
     chain-through : (ch : Chain) (stack : List Frame) (at y lo hi : ℕ) → Holds (cellsC (w .cap) (w .next) ch at y) N P
-        → SoundC (w .cap) (w .pcap) ch lo hi → FitC (w .b) len ch (length stack) → length stack < len → Through w ch stack
-    chain-through stop stack at y lo hi h s u v f map left frame e c m =
+        → SoundC (w .cap) (w .pcap) ch lo hi → FitC (w .b) len ch (length stack) → length stack < len → stepsAlong ch ≤ w .cap → Through w ch stack
+    chain-through stop stack at y lo hi h s u v few f map left frame e c m =
         ran-to w f _ _ _ 0 []
         (ap (λ n. state map left (atLink frame (frame .at) n) stack) e ∙ sym (after-none w map left (atLink frame (frame .at) 0) stack))
         (ran-none w f (state map left frame stack))
-    chain-through (link b t ch) stack at y lo hi h s u v f map left frame e c m =
+    chain-through (link b t ch) stack at y lo hi h s u v few f map left frame e c m =
         child-through t ch stack b at y lo hi h s u f map left frame e c m
-        (λ f′ map′ left′ frame′ e′ c′ m′. chain-through ch stack (root t) b (suc b) hi (h .1 .1) (s .3) (u .2) v f′ map′ left′ frame′ e′ c′ m′)
-        (λ d l q r c′ m′. tree-through t stack (h .1 .0) (s .2) (u .1) f map left frame d l e q r c′ m′)
+        (λ f′ map′ left′ frame′ e′ c′ m′.
+        chain-through ch stack (root t) b (suc b) hi (h .1 .1) (s .3) (u .2) v (omega arith) f′ map′ left′ frame′ e′ c′ m′)
+        (λ d q r c′ m′. tree-through t stack (h .1 .0) (s .2) (u .1) (omega arith) f map left frame d (firstLink ch) e q r c′ m′)
 
   -- below an inner root
   root-through : (x : ℕ) (bs : Buckets) (radius : ℕ) (map : List ℕ) → Holds (cells (w .cap) (w .next) (innerP x bs)) N P
-      → Sound (w .cap) (w .pcap) (innerP x bs) → Fit (w .b) len (innerP x bs) 0 → steps (innerP x bs) ≤ 10 * (w .cap + 1)
-      → length (metB bs radius []) ≤ w .pcap
-      → Under w (10 * (w .cap + 1)) map (w .pcap) (entered N (w .cap) x radius (here w [])) (metB bs radius []) (nearUnder bs radius []) [] (stepsB bs)
-  unfolding frameAt
-  root-through x bs radius map h s u c m =
-      let f : ℕ = 10 * (w .cap + 1) in
-      entry bs x [] f map (w .pcap) radius
-      (λ z.
-      let zero-met : metB bs 0 [] ≡ metB bs radius [] = ap (λ k. metB bs k []) (sym z) in
-      under-same f map (w .pcap) (only x []) (metB bs 0 []) (metB bs radius []) (nearUnder bs 0 []) (nearUnder bs radius []) [] (stepsB bs) zero-met
-      (ap (λ k. nearUnder bs k []) (sym z))
-      (only-through bs x 0 [] (h .1) (s .1) (u .1) (u .0) (omega arith) f map (w .pcap) (omega arith) (omega (arith, ap length zero-met))))
-      (λ z. all-through bs x 0 [] (h .1) (s .1) (u .1) (u .0) f map (w .pcap) (frameAt N (headAt (w .cap) x 0) (headAt (w .cap) x 7) radius)
-      (from-first bs x radius (h .1) (s .1)) (omega arith) m)
+      → Sound (w .cap) (w .pcap) (innerP x bs) → Fit (w .b) len (innerP x bs) 0 → stepsBelow (innerP x bs) ≤ w .cap
+      → steps (innerP x bs) ≤ 10 * (w .cap + 1) → length (metB bs radius []) ≤ w .pcap
+      → Under w (10 * (w .cap + 1)) map (w .pcap) (entered N (w .cap) x radius) (metB bs radius []) (nearUnder bs radius []) [] (stepsB bs)
+  unfolding entered
+  root-through x bs radius map h s u few c m =
+      all-through bs x 0 [] (h .1) (s .1) (u .1) (u .0) few (10 * (w .cap + 1)) map (w .pcap) (entered N (w .cap) x radius)
+      (from-first bs x radius (h .1) (s .1)) (omega arith) m
 
-  -- from the root
-  pub right : (t : Phys) (radius : ℕ) (map : List ℕ) → Holds (cells (w .cap) (w .next) t) N P → Sound (w .cap) (w .pcap) t → Fit (w .b) len t 0
-      → steps t ≤ 10 * (w .cap + 1) → length (met (w .b) radius (tree t) (w .bytes)) ≤ w .pcap
+  -- from the root, at a radius that is not 0
+  right-some : (t : Phys) (radius : ℕ) (map : List ℕ) → Holds (cells (w .cap) (w .next) t) N P → Sound (w .cap) (w .pcap) t → Fit (w .b) len t 0
+      → stepsBelow t ≤ w .cap → steps t ≤ 10 * (w .cap + 1) → length (met (w .b) radius (tree t) (w .bytes)) ≤ w .pcap → 0 < radius
       → walkFrom w (root t) radius map ≡ walked (markAll map (w .words) (met (w .b) radius (tree t) (w .bytes))) true
   unfolding met walkBelow
-  right (leafP x ps) radius map h s u c m =
+  right-some (leafP x ps) radius map h s u few c m some =
       let word : getD N (stateAt (w .cap) x) 0 ≡ 2 + first ps = h .0 in
       let less : getD N (stateAt (w .cap) x) 0 - 2 ≡ first ps = omega arith in
-      sym
-      (from-leaf w x radius map (stateAt (w .cap) x) refl (omega arith) (markAll map (w .words) ps) (Some (w .pcap - length ps)) (Some (w .pcap - length ps))
-      (sym (ap (λ n. markLeaf P (w .words) (w .pcap) (w .next) map n (w .pcap)) less ∙ leaf-marks P (w .words) (w .pcap) (w .next) N map ps (w .pcap) (h .1 .1) (s .1) m))
-      refl)
-  right (innerP x bs) radius map h s u c m =
+      sym (from-leaf w x radius map some (stateAt (w .cap) x) refl (omega arith))
+      ∙ ap walkedLeaf (ap (mark w map (w .pcap)) less ∙ leaf-marks P (w .words) (w .pcap) (w .next) N map ps (w .pcap) (h .1 .1) (s .1) m)
+  right-some (innerP x bs) radius map h s u few c m some =
       let ps : List ℕ = metB bs radius [] in
       let same : met (w .b) radius (tree (innerP x bs)) (w .bytes) ≡ ps = ap (metIn (w .b) radius (kids bs)) (drop-cons (w .bytes) 0 0 (u .0)) in
-      let under = root-through x bs radius map h s u c (omega (arith, ap length same)) in
-      sym (from-inner w x radius map (stateAt (w .cap) x) refl (h .0))
+      let under = root-through x bs radius map h s u few c (omega (arith, ap length same)) in
+      sym (from-inner w x radius map some (stateAt (w .cap) x) refl (h .0))
       ∙ under .ran .same
       ∙ step-end w (under .ran .rest) (omega (arith, under .ran .enough)) (markAll map (w .words) ps) (w .pcap - length ps) (under .done)
       (step-last N (w .cap) (w .b) (under .done) (here w []) (under .empty) (under .last))
       ∙ ap (λ qs. walked (markAll map (w .words) qs) true) (sym same)
 
   -- the nodes that it goes through
-  pub right-trail : (t : Phys) (radius : ℕ) (map : List ℕ) → Holds (cells (w .cap) (w .next) t) N P → Sound (w .cap) (w .pcap) t → Fit (w .b) len t 0
-      → steps t ≤ 10 * (w .cap + 1) → length (met (w .b) radius (tree t) (w .bytes)) ≤ w .pcap
+  trail-some : (t : Phys) (radius : ℕ) (map : List ℕ) → Holds (cells (w .cap) (w .next) t) N P → Sound (w .cap) (w .pcap) t → Fit (w .b) len t 0
+      → stepsBelow t ≤ w .cap → steps t ≤ 10 * (w .cap + 1) → length (met (w .b) radius (tree t) (w .bytes)) ≤ w .pcap → 0 < radius
       → trailFrom w (root t) radius map ≡ near (w .b) radius t (w .bytes)
   unfolding met near
-  right-trail (leafP x ps) radius map h s u c m =
+  trail-some (leafP x ps) radius map h s u few c m some =
       let word : getD N (stateAt (w .cap) x) 0 ≡ 2 + first ps = h .0 in
-      trail-leaf w x radius map (omega arith)
-  right-trail (innerP x bs) radius map h s u c m =
+      trail-leaf w x radius map (omega arith) some
+  trail-some (innerP x bs) radius map h s u few c m some =
       let ps : List ℕ = metB bs radius [] in
       let xs : List ℕ = nearUnder bs radius [] in
       let cons : w .bytes ≡ here w [] ∷ behind w [] = drop-cons (w .bytes) 0 0 (u .0) in
       let same : met (w .b) radius (tree (innerP x bs)) (w .bytes) ≡ ps = ap (metIn (w .b) radius (kids bs)) cons in
-      let under = root-through x bs radius map h s u c (omega (arith, ap length same)) in
+      let under = root-through x bs radius map h s u few c (omega (arith, ap length same)) in
       let ended : trail w (under .ran .rest) (after w map (w .pcap) ps (under .done) []) ≡ [] =
       trail-end w (under .ran .rest) (omega (arith, under .ran .enough)) (markAll map (w .words) ps) (w .pcap - length ps) (under .done)
       (step-last N (w .cap) (w .b) (under .done) (here w []) (under .empty) (under .last)) in
-      trail-inner w x radius map (h .0)
+      trail-inner w x radius map (h .0) some
       ∙ ap (λ ys. x ∷ ys) (under .ran .nodes ∙ ap (λ ys. xs ++ ys) ended ∙ append-nil xs)
       ∙ ap (λ ys. x ∷ nearB (w .b) radius bs ys) (sym cons)
+
+  -- ---- at any radius
+  root-some : (t : Phys) → Holds (cells (w .cap) (w .next) t) N P → 0 < getD N (stateAt (w .cap) (root t)) 0
+  root-some (leafP x ps) h = omega (arith, h .0)
+  root-some (innerP x bs) h = omega (arith, h .0)
+
+  module _ (t : Phys) (radius : ℕ) (map : List ℕ) (h : Holds (cells (w .cap) (w .next) t) N P) (s : Sound (w .cap) (w .pcap) t) (u : Fit (w .b) len t 0)
+      (few : stepsBelow t ≤ w .cap) (c : steps t ≤ 10 * (w .cap + 1)) (m : length (met (w .b) radius (tree t) (w .bytes)) ≤ w .pcap) where
+    -- the pages that are met, marked in order
+    pub right : walkFrom w (root t) radius map ≡ walked (markAll map (w .words) (met (w .b) radius (tree t) (w .bytes))) true
+    right = elim (ℕ-discrete radius 0) [
+      | yes z ↦
+          let same : met (w .b) radius (tree t) (w .bytes) ≡ met (w .b) 0 (tree t) (w .bytes) = ap (λ r. met (w .b) r (tree t) (w .bytes)) z in
+          sym (from-exact w (root t) radius map z)
+          ∙ ap walkedLeaf (sub-marks w small query t 0 h s u few map (w .pcap) (omega (arith, ap length same)))
+          ∙ ap (λ ps. walked (markAll map (w .words) ps) true) (sym same)
+      | no z ↦ right-some t radius map h s u few c m (omega arith)
+    ]
+
+    -- the nodes that it goes through
+    pub right-trail : trailFrom w (root t) radius map ≡ near (w .b) radius t (w .bytes)
+    right-trail = elim (ℕ-discrete radius 0) [
+      | yes z ↦
+          trail-exact w (root t) radius map (root-some t h) z
+          ∙ sub-near w small query t 0 h s u few
+          ∙ ap (λ r. near (w .b) r t (w .bytes)) (sym z)
+      | no z ↦ trail-some t radius map h s u few c m (omega arith)
+    ]
 
 -- ---- what a walk can cost: at most ten steps a node
 module _ (cap pcap : ℕ) where

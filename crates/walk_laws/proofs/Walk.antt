@@ -21,6 +21,7 @@ use Rattle.walk.specs.Walk.{Given, walked, walkFrom}
 use Rattle.walk_laws.specs.Near.{near, nearNodes, pathsIn, pathNear}
 use Rattle.walk_laws.specs.Trail.{trailFrom}
 use Rattle.walk_laws.proofs.Fit.{fit}
+use Rattle.walk_laws.proofs.Leads.{steps-below}
 use Rattle.walk_laws.proofs.Near.{near-count, near-le, near-path, near-zero}
 use Rattle.walk_laws.proofs.Right.{right, right-trail, steps-nodes}
 
@@ -32,7 +33,7 @@ pub walk-right : (w : Given) (bytesOf : ℕ → List ℕ) (n : ℕ) (t : Phys) (
     → nodes (tree t) ≤ w .cap → length (met (w .b) radius (tree t) (w .bytes)) ≤ w .pcap
     → walkFrom w (root t) radius map ≡ walked (markAll map (w .words) (met (w .b) radius (tree t) (w .bytes))) true
 walk-right w bytesOf n t radius map small query h s sound few pages =
-    right w small query t radius map h s (fit bytesOf (w .b) n (length (w .bytes)) t 0 sound)
+    right w small query t radius map h s (fit bytesOf (w .b) n (length (w .bytes)) t 0 sound) (omega (arith, steps-below t))
     (omega (arith, steps-nodes (w .cap) (w .pcap) t s)) pages
 
 -- ---- the nodes it goes through there
@@ -44,7 +45,7 @@ module _ (w : Given) (bytesOf : ℕ → List ℕ) (n : ℕ) (t : Phys) (radius :
   -- those of `near`, in order
   pub walk-trail : trailFrom w (root t) radius map ≡ near (w .b) radius t (w .bytes)
   walk-trail =
-      right-trail w small query t radius map h s (fit bytesOf (w .b) n (length (w .bytes)) t 0 sound)
+      right-trail w small query t radius map h s (fit bytesOf (w .b) n (length (w .bytes)) t 0 sound) (omega (arith, steps-below t))
       (omega (arith, steps-nodes (w .cap) (w .pcap) t s)) pages
 
   pub walk-count : length (trailFrom w (root t) radius map) ≡ nearNodes (w .b) radius (tree t) (w .bytes)

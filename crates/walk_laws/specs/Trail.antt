@@ -1,51 +1,90 @@
--- The nodes that a walk goes through: those that its steps lead to, and the root.
+-- The nodes that a walk goes through: those that its steps and its exact descents lead to, and the root.
 use Prim.Native.Nat.{ℕ, zero, suc, _+_, _*_, _-_}
 use mathlib.Core.Bool.{cond}
 use mathlib.Core.List.{List, [], _∷_, _++_}
-use lib.Dec.{eqb}
+use lib.Dec.{ltb, eqb}
 use lib.ListN.{length, getD}
-use Rattle.layout.specs.Nodes.{stateAt, freeState, innerState}
+use Rattle.layout.specs.Nodes.{byteOf, stateAt, freeState, innerState}
+use Rattle.descent.specs.declared.Cursor.{Cursor}
+use Rattle.descent.specs.Cursor.{advance}
+use Rattle.walk.specs.declared.mark.Left.{Left}
+use Rattle.walk.specs.declared.mark.Left.the-variants as budget
 use Rattle.walk.specs.declared.frame.Frame.{Frame}
 use Rattle.walk.specs.declared.frame.Step.{Step}
 use Rattle.walk.specs.declared.frame.Step.the-variants as step
-use Rattle.walk.specs.declared.walk.Move.{Move}
-use Rattle.walk.specs.declared.walk.Move.the-variants as move
+use Rattle.walk.specs.Mark.{Marks}
 use Rattle.walk.specs.Frame.{entered, stepIn}
-use Rattle.walk.specs.Walk.{Given, Visited, visit, State, state, atLink}
+use Rattle.walk.specs.Walk.{Given, State, state, atLink, mark, exactFrom, leafFrom}
 
--- where a step goes that looks at node x; one that stays in the chain, since the byte is too far, does not go there
-abbrev pub goes : ℕ → Step → List ℕ
-goes x (step.Stay at link) = []
-goes x (step.Leaf first link) = x ∷ []
-goes x (step.Down y radius link) = x ∷ []
-goes x step.Up = []
-goes x step.Broken = []
+-- ---- of an exact descent
+module _ (nodes : List ℕ) (cap : ℕ) (bytes : List ℕ) where
+  -- the child that a descent is ahead of, where its byte is the query's; otherwise it does not go there
+  unfoldable pub reached : Cursor → List ℕ
+  reached c =
+      cond (eqb (c .link) 0) []
+      (cond (ltb cap (c .link)) []
+      (cond (eqb (byteOf (getD nodes (c .link - 1) 0)) (getD bytes (c .at) 0)) ((c .link - 1) ∷ []) []))
+
+  -- the nodes that f steps go to
+  unfoldable pub exactTrail : ℕ → Cursor → List ℕ
+  exactTrail zero c = []
+  exactTrail (suc f) c = reached c ++ exactTrail f (advance nodes cap bytes c)
+
+-- ---- of a walk
+-- the nodes behind a leaf, unless a link was not in order
+abbrev pub traceLeft : (List ℕ → ℕ → List ℕ) → List ℕ → Left → List ℕ
+traceLeft go map (budget.Some n) = go map n
+traceLeft go map budget.Broken = []
+
+abbrev pub traceMarks : (List ℕ → ℕ → List ℕ) → Marks → List ℕ
+traceMarks go m = traceLeft go (m .map) (m .answer)
 
 module _ (w : Given) where
-  -- the nodes behind a move, as `follow` follows it
-  abbrev pub trace : (State → List ℕ) → List ℕ → ℕ → Frame → List Frame → Move → List ℕ
-  trace trail map left frame stack (move.Stay at link n) = trail (state map n (atLink frame at link) stack)
-  trace trail map left frame stack (move.Down x radius link) =
-      trail
-      (state map left (entered (w .nodes) (w .cap) x radius (getD (w .bytes) (length stack + 1) 0))
-      (atLink frame (frame .at) link ∷ stack))
-  trace trail map left frame [] move.Up = []
-  trace trail map left frame (f ∷ fs) move.Up = trail (state map left f fs)
-  trace trail map left frame stack move.Broken = []
+  -- below node x, by the query's bytes from a level on
+  abbrev pub exactBelow : ℕ → ℕ → List ℕ
+  exactBelow x level = exactTrail (w .nodes) (w .cap) (w .bytes) (w .cap) (exactFrom w x level)
+
+  -- where a step at a level goes that looks at node x; one that stays in the chain, since the byte is too far, does not go there
+  abbrev pub goes : ℕ → ℕ → Step → List ℕ
+  goes depth x (step.Stay at link) = []
+  goes depth x (step.Leaf first link) = x ∷ []
+  goes depth x (step.Exact y link) = x ∷ exactBelow y (depth + 1)
+  goes depth x (step.Down y radius link) = x ∷ []
+  goes depth x step.Up = []
+  goes depth x step.Broken = []
+
+  -- the nodes behind a step, as `follow` follows it
+  module _ (trail : State → List ℕ) (map : List ℕ) (left : ℕ) (frame : Frame) (stack : List Frame) where
+    abbrev pub traceBehind : ℕ → Marks → List ℕ
+    traceBehind link m = traceMarks (λ after n. trail (state after n (atLink frame (frame .at) link) stack)) m
+
+    abbrev pub traceAbove : List Frame → List ℕ
+    traceAbove [] = []
+    traceAbove (f ∷ fs) = trail (state map left f fs)
+
+    abbrev pub trace : Step → List ℕ
+    trace (step.Stay at link) = trail (state map left (atLink frame at link) stack)
+    trace (step.Leaf first link) = traceBehind link (mark w map left first)
+    trace (step.Exact x link) = traceBehind link (mark w map left (leafFrom w (exactFrom w x (length stack + 1))))
+    trace (step.Down x radius link) =
+        cond (ltb (length stack + 1) (length (w .bytes)))
+        (trail (state map left (entered (w .nodes) (w .cap) x radius) (atLink frame (frame .at) link ∷ stack)))
+        []
+    trace step.Up = traceAbove stack
+    trace step.Broken = []
 
   -- the nodes that the steps of `run` go to
   unfoldable pub trail : ℕ → State → List ℕ
   trail zero s = []
   trail (suc f) s =
-      let v : Visited = visit w (s .map) (s .left) (length (s .stack)) (s .frame) in
-      goes (s .frame .link - 1) (stepIn (w .nodes) (w .cap) (w .b) (s .frame) (getD (w .bytes) (length (s .stack)) 0))
-      ++ trace (trail f) (v .map) (s .left) (s .frame) (s .stack) (v .move)
+      let found : Step = stepIn (w .nodes) (w .cap) (w .b) (s .frame) (getD (w .bytes) (length (s .stack)) 0) in
+      goes (length (s .stack)) (s .frame .link - 1) found ++ trace (trail f) (s .map) (s .left) (s .frame) (s .stack) found
 
   -- of a whole walk: the root, and the trail below it
   unfoldable pub trailFrom : ℕ → ℕ → List ℕ → List ℕ
   trailFrom root radius map =
       let word : ℕ = getD (w .nodes) (stateAt (w .cap) root) 0 in
-      cond (eqb word freeState) []
-      (cond (eqb word innerState)
-      (root ∷ trail (10 * (w .cap + 1)) (state map (w .pcap) (entered (w .nodes) (w .cap) root radius (getD (w .bytes) 0 0)) []))
-      (root ∷ []))
+      let below : List ℕ =
+      cond (eqb radius 0) (exactBelow root 0)
+      (cond (eqb word innerState) (trail (10 * (w .cap + 1)) (state map (w .pcap) (entered (w .nodes) (w .cap) root radius) [])) []) in
+      cond (eqb word freeState) [] (root ∷ below)

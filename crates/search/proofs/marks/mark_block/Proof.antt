@@ -8,7 +8,8 @@ use lib.Seq.{length-take-le}
 use Rattle.meaning.specs.Sketch.{packedLength, blockLength}
 use Rattle.meaning.specs.Forest.{bytesOfSketch}
 use Rattle.layout.specs.Header.{bare}
-use Rattle.search.proofs.Blocks.{block-most, bytes-most, bytes-first, fitting-call, walk-call}
+use Rattle.exact.proofs.Sizes.{block-most, size-most}
+use Rattle.search.proofs.Blocks.{bytes-first, fitting-call, walk-call}
 use Rattle.search.proofs.marks.mark_block.Statement.{statement}
 use Rattle.search.proofs.marks.mark_block.Tie as tie
 
@@ -21,7 +22,7 @@ slice-aggregate-pack-block c = search needs
 pack-block-requires : tie.Need-pack-block-requires
 pack-block-requires c κs =
     let pre = c .before .before .before .before .before .before .pre in
-    (omega arith, (omega arith, (omega arith, (omega arith, (pre .1 .1 .0 .range, omega (arith, bytes-most _ _ _ _ (pre .1 .0) _ (pre .1 .1 .1 .1)))))))
+    (omega arith, (omega arith, (omega arith, (omega arith, (pre .1 .1 .0 .range, omega (arith, size-most _ (pre .1 .0 .limits) _ (pre .1 .1 .1 .1 .0)))))))
 
 block-length-requires : tie.Need-block-length-requires
 block-length-requires c κs = search needs
@@ -29,7 +30,7 @@ block-length-requires c κs = search needs
 packed-length-requires : tie.Need-packed-length-requires
 packed-length-requires c κs =
     let pre = c .before .before .before .before .before .before .before .before .before .pre in
-    (omega arith, rw (c .block-length .ensures) (block-most _ _ _ _ (pre .1 .0) _ (pre .1 .1 .1 .1)))
+    (omega arith, rw (c .block-length .ensures) (block-most _ (pre .1 .0 .limits) _ (pre .1 .1 .1 .1 .0)))
 
 next-at-requires : tie.Need-next-at-requires
 next-at-requires c κs = search needs
@@ -46,7 +47,7 @@ fits-array : (c : tie.After-packed-length) → c .packed-length .result ≤ leng
 fits-array c =
     let pre = start c .pre in
     let kept = c .before .before .before .pack-block .kept in
-    omega (arith, bytes-count c, bytes-most _ _ _ _ (pre .1 .0) _ (pre .1 .1 .1 .1), kept)
+    omega (arith, bytes-count c, size-most _ (pre .1 .0 .limits) _ (pre .1 .1 .1 .1 .0), kept)
 
 block-bytes : (c : tie.After-packed-length)
     → take (c .packed-length .result) (c .before .before .before .pack-block .last .1 .1 .1 .1 .1 .0)
@@ -54,7 +55,7 @@ block-bytes : (c : tie.After-packed-length)
 block-bytes c =
     let pre = start c .pre in
     ap (take (c .packed-length .result)) (c .before .before .before .pack-block .ensures)
-    ∙ bytes-first _ _ (pre .1 .1 .0) _ (pre .1 .1 .1 .1) _ _ (bytes-count c)
+    ∙ bytes-first _ _ (pre .1 .1 .0) _ (pre .1 .1 .1 .1 .0) _ _ (bytes-count c)
 
 array-share-prefix-bytes : tie.Need-array-share-prefix-bytes
 array-share-prefix-bytes c = fits-array (c .before .before)
@@ -68,7 +69,7 @@ walk-requires : tie.Need-walk-requires
 walk-requires c κs =
     let p = c .before .before .before in
     let pre = start p .pre in
-    (pre .0, (fitting-call _ _ _ _ _ _ _ _ _ (c .before .before .next-at .ensures) (pre .1 .1 .1 .0) (block-bytes p) (pre .1 .0) (pre .1 .1 .0) (pre .1 .1 .1 .1), omega arith))
+    (pre .0, (fitting-call _ _ _ _ _ _ _ _ _ (c .before .before .next-at .ensures) (pre .1 .1 .1 .0) (block-bytes p) (pre .1 .0) (pre .1 .1 .0) (pre .1 .1 .1 .1 .0), (omega (arith, pre .1 .0 .limits .nodes-least, pre .1 .1 .1 .1 .0), pre .1 .1 .1 .1 .1)))
 
 same-length : tie.Need-same-length
 same-length c = search needs

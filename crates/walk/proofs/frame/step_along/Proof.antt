@@ -1,4 +1,4 @@
--- `step_along` tests the link, and hands the child's byte, distance and next link on.
+-- `step_along` tests the link, and hands the child's distance and next link on.
 use mathlib.Core.Path.{refl, sym, _∙_}
 use native.Mathlib.Omega.{arith}
 use borrow.Author.Needs.{needs}
@@ -33,9 +33,6 @@ byte-distance-requires c κs = search needs
 link-of-requires : tie.Need-link-of-requires
 link-of-requires c κs = search needs
 
-link-after-requires : tie.Need-link-after-requires
-link-after-requires c κs = search needs
-
 step-to-requires : tie.Need-step-to-requires
 step-to-requires c κs = search needs
 
@@ -43,11 +40,10 @@ returns-2 : tie.Need-returns-2
 returns-2 c =
     c .step-to .ensures
     ∙ sym
-    (along-inside _ _ _ _ _ _ _ _ _ _ (omega arith) refl
-    (c .before .before .before .before .byte-of .ensures)
-    (c .before .before .link-of .ensures)
-    (c .before .before .before .byte-distance .ensures)
-    (c .before .link-after .ensures))
+    (along-inside _ _ _ _ _ _ _ _ _ (omega arith) refl
+    (c .before .before .before .byte-of .ensures)
+    (c .before .link-of .ensures)
+    (c .before .before .byte-distance .ensures))
 
 pub step-along-spec : {M : Type 1} → statement M
 step-along-spec =
@@ -62,6 +58,5 @@ step-along-spec =
     cast-byte
     byte-distance-requires
     link-of-requires
-    link-after-requires
     step-to-requires
     returns-2)

@@ -1,7 +1,7 @@
 -- `walk` is `walkFrom`, by the state of the root.
-use mathlib.Core.Path.{_∙_}
 use native.Mathlib.Omega.{arith}
-use Rattle.walk.proofs.Turns.{from-free, from-inner, from-leaf}
+use mathlib.Core.Path.{_∙_}
+use Rattle.walk.proofs.Turns.{leaf-walked, from-free, from-inner, from-leaf}
 use borrow.Author.Needs.{needs}
 use Rattle.walk.proofs.walk.walk.Statement.{statement}
 use Rattle.walk.proofs.walk.walk.Tie as tie
@@ -16,7 +16,7 @@ shared-slice-read-state : tie.Need-shared-slice-read-state
 shared-slice-read-state c = search needs
 
 returns : tie.Need-returns
-returns c = from-free _ _ _ _ _ (c .before .before .state-at .ensures) (c .if1 .taken)
+returns c = from-free _ _ _ _ (c .before .before .before .before .before .before .before .pre .1 .1 .1) _ (c .before .before .state-at .ensures) (c .if1 .taken)
 
 walk-below-requires : tie.Need-walk-below-requires
 walk-below-requires c κs = search needs
@@ -25,7 +25,7 @@ same-length : tie.Need-same-length
 same-length c = search needs
 
 returns-2 : tie.Need-returns-2
-returns-2 c = c .before .before .walk-below .ensures ∙ from-inner _ _ _ _ _ (c .before .before .before .before .before .before .before .state-at .ensures) (c .before .before .before .before .if2 .taken)
+returns-2 c = c .before .before .walk-below .ensures ∙ from-inner _ _ _ _ (c .before .before .before .before .before .before .before .before .before .before .before .before .pre .1 .1 .1) _ (c .before .before .before .before .before .before .before .state-at .ensures) (c .before .before .before .before .if2 .taken)
 
 sub-mark-leaf : tie.Need-sub-mark-leaf
 sub-mark-leaf c = search needs
@@ -46,13 +46,17 @@ same-length-2 : tie.Need-same-length-2
 same-length-2 c = search needs
 
 returns-3 : tie.Need-returns-3
-returns-3 c = from-leaf _ _ _ _ _ (c .before .before .before .before .before .before .before .before .before .state-at .ensures) (omega arith) _ _ _ (c .before .before .before .before .mark-leaf .ensures) (c .enum-told .given .1)
+returns-3 c =
+    leaf-walked _ _ _ _ (c .before .before .before .before .mark-leaf .ensures) (c .enum-told .given .1)
+    ∙ from-leaf _ _ _ _ (c .before .before .before .before .before .before .before .before .before .before .before .before .before .before .pre .1 .1 .1) _ (c .before .before .before .before .before .before .before .before .before .state-at .ensures) (omega arith)
 
 same-length-3 : tie.Need-same-length-3
 same-length-3 c = search needs
 
 returns-4 : tie.Need-returns-4
-returns-4 c = from-leaf _ _ _ _ _ (c .before .before .before .before .before .before .before .before .before .state-at .ensures) (omega arith) _ _ _ (c .before .before .before .before .mark-leaf .ensures) (c .enum-told2 .given .1)
+returns-4 c =
+    leaf-walked _ _ _ _ (c .before .before .before .before .mark-leaf .ensures) (c .enum-told2 .given .1)
+    ∙ from-leaf _ _ _ _ (c .before .before .before .before .before .before .before .before .before .before .before .before .before .before .pre .1 .1 .1) _ (c .before .before .before .before .before .before .before .before .before .state-at .ensures) (omega arith)
 
 pub walk-spec : {M : Type 1} → statement M
 walk-spec =

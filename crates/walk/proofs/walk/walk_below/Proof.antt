@@ -1,31 +1,46 @@
--- `walk_below` is `walkBelow`: each turn takes one step of the machine.
-use Prim.Native.Nat.{_+_}
-use mathlib.Core.Path.{_≡_, refl, sym, _∙_}
+-- `walk_below` is `walkBelow`: each turn takes one step of the machine, behind the leaves that wait.
+use Prim.Native.Nat.{_<_}
 use native.Mathlib.Omega.{arith}
-use lib.ListN.{length}
+use mathlib.Core.Path.{_≡_, refl, sym, _∙_}
+use mathlib.Core.Bool.{false}
+use mathlib.Core.Logic.{⊎-elim}
+use lib.ListN.{length, take}
 use borrow.Author.Needs.{needs}
-use Rattle.walk.specs.Walk.{given, state, run, walkBelow}
 use Rattle.meaning.proofs.Stacks.{above, above-length, above-put, above-take, Held, held-stay, held-down, held-up, held-start}
+use Rattle.descent.specs.Cursor.{AllInside}
+use Rattle.walk.specs.Walk.{given, walkBelow}
 use Rattle.walk.proofs.Stack.{noFrame, Inside, inside-entered}
-use Rattle.walk.proofs.Turns.{fitting-kept, down-inside, run-start, run-spent, run-stay, run-down, run-up, run-done, run-broken}
+use Rattle.walk.proofs.Steps.{exact-within, down-within}
+use Rattle.walk.proofs.Turns.{fitting-kept}
+use Rattle.walk.proofs.Pending.{take-put, inside-put, inside-none, inside-ended, inside-arrived}
+use Rattle.walk.proofs.Behind.{behind, behind-start, behind-failed, behind-end, behind-stay, behind-leaf, behind-exact, behind-down, behind-up, behind-done, behind-deep, behind-broken}
+use Rattle.walk.proofs.Ready.{Ready, ready-kept, ready-marked}
 use Rattle.walk.proofs.walk.walk_below.Statement.{statement}
 use Rattle.walk.proofs.walk.walk_below.Tie as tie
 
 abbrev Inv-loop : tie.InvT-loop
-Inv-loop table nodes pages map₀ cap pcap next words b bytes x radius frame₀ stack₀ depth₀ left₀ steps₀ map frame stack depth left steps =
-    (run (given nodes pages cap pcap next words b bytes) steps (state map left frame (above noFrame stack depth))
+Inv-loop table nodes pages map₀ cap pcap next words b bytes x radius last frame₀ stack₀ depth₀ waiting₀ n₀ left₀ steps₀ whole₀ map frame stack depth waiting n left steps whole =
+    (behind (given nodes pages cap pcap next words b bytes) map left (take n waiting) whole steps frame (above noFrame stack depth)
     ≡ walkBelow (given nodes pages cap pcap next words b bytes) x radius map₀)
     × (length map ≡ length map₀)
     × Held noFrame (Inside cap) (length bytes) frame stack depth
+    × AllInside bytes waiting n
+    × (0 < steps → whole ≡ false)
 
 abbrev μ-loop : tie.MeasureT-loop
-μ-loop table nodes pages map₀ cap pcap next words b bytes x radius frame₀ stack₀ depth₀ left₀ steps₀ map frame stack depth left steps = steps
+μ-loop table nodes pages map₀ cap pcap next words b bytes x radius last frame₀ stack₀ depth₀ waiting₀ n₀ left₀ steps₀ whole₀ map frame stack depth waiting n left steps whole = steps
 
-shared-slice-read-enter : tie.Need-shared-slice-read-enter Inv-loop μ-loop
-shared-slice-read-enter c = search needs
+sub-last : tie.Need-sub-last Inv-loop μ-loop
+sub-last c = search needs
+
+cast-last : tie.Need-cast-last Inv-loop μ-loop
+cast-last c = search needs
 
 enter-requires : tie.Need-enter-requires Inv-loop μ-loop
 enter-requires c κs = search needs
+
+ended-requires : tie.Need-ended-requires Inv-loop μ-loop
+ended-requires c κs = search needs
 
 cast-left : tie.Need-cast-left Inv-loop μ-loop
 cast-left c = search needs
@@ -34,90 +49,236 @@ add-steps : tie.Need-add-steps Inv-loop μ-loop
 add-steps c = search needs
 
 mul-steps : tie.Need-mul-steps Inv-loop μ-loop
-mul-steps c = omega arith
+mul-steps c = record { fits = omega (arith, c .before .before .before .before .before .before .pre .1 .0 .cap) }
 
 loop-holds : tie.Need-loop-holds Inv-loop μ-loop
 loop-holds c =
     let fit = c .before .before .before .before .before .before .pre .1 .0 in (
-      run-start _ _ _ _ _ _ (c .enter .ensures),
+      behind-start _ _ _ _ _ _ (c .before .enter .ensures) (above-length noFrame _ 0),
       refl,
-      held-start noFrame _ _ _ _
-          (inside-entered _ _ _ _ _ _ (c .enter .ensures) (c .before .before .before .before .before .before .pre .1 .1) (omega (arith, c .before .shared-slice-known4 .given 0)))
-          refl
-          (fit .some)
-          (fit .bytes),
+      held-start noFrame _ _ _ _ (inside-entered _ _ _ _ _ (c .before .enter .ensures) (c .before .before .before .before .before .before .pre .1 .1)) refl (fit .some) (fit .bytes),
+      inside-none _ _ refl,
+      λ h. refl,
     )
 
 sub-steps : tie.Need-sub-steps Inv-loop μ-loop
-sub-steps c = omega arith
+sub-steps c = search needs
 
-visit-requires : tie.Need-visit-requires Inv-loop μ-loop
-visit-requires c κs = (c .before .before .before .before .before .before .before .before .before .pre .0, (fitting-kept _ _ _ (c .before .before .loop .inv .1) (c .before .before .before .before .before .before .before .before .before .pre .1 .0), (c .before .before .loop .inv .2 .inside, c .before .before .loop .inv .2 .level)))
+mark-waiting-requires : tie.Need-mark-waiting-requires Inv-loop μ-loop
+mark-waiting-requires c κs = (fitting-kept _ _ _ (c .before .before .before .loop .inv .1) (c .before .before .before .before .before .before .before .before .before .before .pre .1 .0), c .before .before .before .loop .inv .3)
 
-enum-known-at : tie.Need-enum-known-at Inv-loop μ-loop
-enum-known-at c = search needs
-
-loop-less : tie.Need-loop-less Inv-loop μ-loop
-loop-less c = omega arith
-
-loop-again : tie.Need-loop-again Inv-loop μ-loop
-loop-again c =
-    let at = c .before .before .before .before .before .before .before .before .loop in
-    let moved = c .before .before .before .before .before .visit in (
-      sym (run-stay _ _ _ _ _ _ (omega arith) _ (above-length _ _ _) _ _ (moved .ensures) _ _ _ (c .before .at .given .1)) ∙ at .inv .0,
-      moved .kept .1 .1 .1 .0 ∙ at .inv .1,
-      held-stay _ _ _ _ _ _ (at .inv .2) _ (at .inv .2 .inside),
-    )
-
-enum-known-child : tie.Need-enum-known-child Inv-loop μ-loop
-enum-known-child c = search needs
-
-mul-stack : tie.Need-mul-stack Inv-loop μ-loop
-mul-stack c = let h = c .before .before .before .before .before .before .before .before .loop .inv .2 in record { fits = omega (arith, h .level, h .levels) }
-
-array-set-from-stack : tie.Need-array-set-from-stack Inv-loop μ-loop
-array-set-from-stack c = let h = c .before .before .before .before .before .before .before .before .loop .inv .2 in omega (arith, h .level, h .levels)
-
-add-depth : tie.Need-add-depth Inv-loop μ-loop
-add-depth c = let h = c .before .before .before .before .before .before .before .before .loop .inv .2 in record { fits = omega (arith, h .level, h .levels) }
-
-cast-enter : tie.Need-cast-enter Inv-loop μ-loop
-cast-enter c = let in-table = down-inside _ _ _ _ _ _ _ _ _ _ (c .before .before .before .before .before .visit .ensures) (c .before .child .given .1) in record { fits = omega (arith, in-table .0, c .before .before .before .before .before .before .before .before .before .before .before .before .before .before .before .pre .1 .0 .cap) }
-
-shared-slice-read-enter-2 : tie.Need-shared-slice-read-enter-2 Inv-loop μ-loop
-shared-slice-read-enter-2 c = let in-table = down-inside _ _ _ _ _ _ _ _ _ _ (c .before .before .before .before .before .before .visit .ensures) (c .before .before .child .given .1) in in-table .1
-
-enter-requires-2 : tie.Need-enter-requires-2 Inv-loop μ-loop
-enter-requires-2 c κs = let in-table = down-inside _ _ _ _ _ _ _ _ _ _ (c .before .before .before .before .before .before .visit .ensures) (c .before .before .child .given .1) in (c .before .before .before .before .before .before .before .before .before .before .before .before .before .before .before .before .pre .1 .0 .nodes, c .before .before .before .before .before .before .before .before .before .before .before .before .before .before .before .before .pre .1 .0 .cap, in-table .0)
-
-loop-less-2 : tie.Need-loop-less-2 Inv-loop μ-loop
-loop-less-2 c = omega arith
-
-loop-again-2 : tie.Need-loop-again-2 Inv-loop μ-loop
-loop-again-2 c =
-    let at = c .before .before .before .before .before .before .before .before .before .before .loop in
-    let moved = c .before .before .before .before .before .before .before .visit in
-    let room = at .inv .2 in
-    let in-table = down-inside _ _ _ _ _ _ _ _ _ _ (c .before .before .before .before .before .before .before .visit .ensures) (c .before .before .before .child .given .1) in (
-      sym
-          (run-down _ _ _ _ _ _ (omega arith) _ (above-length _ _ _) _ _ (moved .ensures) _ _ _ _ _ (c .before .before .before .child .given .1)
-          (c .enter2 .ensures)
-          (above-put _ _ _ _ (omega (arith, room .level, room .levels, room .room))))
-          ∙ at .inv .0,
-      moved .kept .1 .1 .1 .0 ∙ at .inv .1,
-      held-down _ _ _ _ _ _ room _ _ (room .inside)
-          (inside-entered _ _ _ _ _ _ (c .enter2 .ensures) (in-table .0) (omega (arith, c .before .shared-slice-known5 .given (at .depth + 1))))
-          (in-table .1),
-    )
+enum-known-k : tie.Need-enum-known-k Inv-loop μ-loop
+enum-known-k c = search needs
 
 enum-told : tie.Need-enum-told Inv-loop μ-loop
 enum-told c = search needs
 
 same-length : tie.Need-same-length Inv-loop μ-loop
-same-length c = c .before .before .before .before .before .visit .kept .1 .1 .1 .0 ∙ c .before .before .before .before .before .before .before .before .loop .inv .1
+same-length c = c .before .before .before .before .mark-waiting .kept .1 .1 .0 ∙ c .before .before .before .before .before .before .before .before .loop .inv .1
 
 returns : tie.Need-returns Inv-loop μ-loop
-returns c = sym (run-done _ _ _ _ _ _ (omega arith) _ (above-length _ _ _) _ _ (c .before .before .before .before .before .visit .ensures) (c .before .enum-told .given .1) (c .if1 .taken)) ∙ c .before .before .before .before .before .before .before .before .loop .inv .0
+returns c =
+    let at = c .before .before .before .before .before .before .before .before .loop in
+    sym
+    (behind-failed _ _ _ _ _ _ (c .before .before .before .before .mark-waiting .ensures) (at .whole) (at .steps) (at .frame) (above noFrame (at .stack) (at .depth)) (c .enum-told .given .1))
+    ∙ at .inv .0
+
+-- fewer than 16 leaves wait
+settled : (c : tie.Joined1 Inv-loop μ-loop) →
+    let args = c .before .before .before .before .before .before .before .before .before .args in
+    let w = given (args .nodes .now) (args .pages .now) (args .cap) (args .pcap) (args .next) (args .words) (args .b) (args .bytes .now) in
+    let at = c .before .before .loop in
+    Ready w (walkBelow w (args .x) (args .radius) (args .map .now)) (length (args .map .now)) (at .waiting) (at .whole) (at .steps) (at .frame)
+    (above noFrame (at .stack) (at .depth)) (c .if1 .map) (c .if1 .n) (c .if1 .left)
+settled c =
+    let inv = c .before .before .loop .inv in
+    ⊎-elim
+    (λ w.
+    ready-marked _ _ _ _ _ _ _ _ _ _ _ (inv .0) (inv .3) _ _ _ _ _ _ (w .2 .ensures) (w .6 .given .1) (w .2 .kept .1 .1 .0 ∙ inv .1) (w .8) (w .9) (w .10))
+    (λ w. ready-kept _ _ _ _ _ _ _ _ _ _ _ (inv .0) (inv .3) _ _ _ (inv .1) (w .0 .left) (w .1) (w .2) (w .3))
+    (c .if1 .came)
+
+shared-slice-read-next-step : tie.Need-shared-slice-read-next-step Inv-loop μ-loop
+shared-slice-read-next-step c = search needs
+
+next-step-requires : tie.Need-next-step-requires Inv-loop μ-loop
+next-step-requires c κs = search needs
+
+enum-known-at : tie.Need-enum-known-at Inv-loop μ-loop
+enum-known-at c = search needs
+
+loop-less : tie.Need-loop-less Inv-loop μ-loop
+loop-less c = omega (arith, c .before .before .before .before .before .before .loop-test .taken)
+
+loop-again : tie.Need-loop-again Inv-loop μ-loop
+loop-again c =
+    let at = c .before .before .before .before .before .before .before .loop in
+    let now = settled (c .before .before .before .before .before) in
+    let some = c .before .before .before .before .before .before .loop-test .taken in (
+      sym (behind-stay _ _ _ _ _ _ _ _ (at .inv .4 some) some _ (above-length _ _ _) _ (c .before .before .before .next-step .ensures) _ _ (c .before .at .given .1)) ∙ now .walk,
+      now .long,
+      held-stay _ _ _ _ _ _ (at .inv .2) _ (at .inv .2 .inside),
+      now .inside,
+      λ h. at .inv .4 some,
+    )
+
+enum-known-first : tie.Need-enum-known-first Inv-loop μ-loop
+enum-known-first c = search needs
+
+ended-requires-2 : tie.Need-ended-requires-2 Inv-loop μ-loop
+ended-requires-2 c κs = search needs
+
+mul-waiting : tie.Need-mul-waiting Inv-loop μ-loop
+mul-waiting c = record { fits = omega (arith, settled (c .before .before .before .before .before .before .before) .room) }
+
+array-set-from-waiting : tie.Need-array-set-from-waiting Inv-loop μ-loop
+array-set-from-waiting c = let now = settled (c .before .before .before .before .before .before .before) in omega (arith, now .room, now .inside .long)
+
+add-n : tie.Need-add-n Inv-loop μ-loop
+add-n c = record { fits = omega (arith, settled (c .before .before .before .before .before .before .before) .room) }
+
+loop-less-2 : tie.Need-loop-less-2 Inv-loop μ-loop
+loop-less-2 c = omega (arith, c .before .before .before .before .before .before .before .before .loop-test .taken)
+
+loop-again-2 : tie.Need-loop-again-2 Inv-loop μ-loop
+loop-again-2 c =
+    let at = c .before .before .before .before .before .before .before .before .before .loop in
+    let now = settled (c .before .before .before .before .before .before .before) in
+    let some = c .before .before .before .before .before .before .before .before .loop-test .taken in (
+      sym
+          (behind-leaf _ _ _ _ _ _ _ _ (at .inv .4 some) some _ (above-length _ _ _) _ (c .before .before .before .before .before .next-step .ensures) _ _ _ _ (c .before .before .before .first .given .1) (c .before .ended2 .ensures)
+          (take-put (at .waiting) (c .before .before .before .before .before .before .before .if1 .n) _ (omega (arith, now .room, now .inside .long))))
+          ∙ now .walk,
+      now .long,
+      held-stay _ _ _ _ _ _ (at .inv .2) _ (at .inv .2 .inside),
+      inside-put _ _ _ _ (now .inside) (now .room) (inside-ended _ _ _ (c .before .ended2 .ensures) (c .before .before .before .before .before .before .before .before .before .before .before .before .before .before .before .before .pre .1 .0 .some)),
+      λ h. at .inv .4 some,
+    )
+
+enum-known-child : tie.Need-enum-known-child Inv-loop μ-loop
+enum-known-child c = search needs
+
+cast-arrive : tie.Need-cast-arrive Inv-loop μ-loop
+cast-arrive c = search needs
+
+add-arrive : tie.Need-add-arrive Inv-loop μ-loop
+add-arrive c = search needs
+
+cast-arrive-2 : tie.Need-cast-arrive-2 Inv-loop μ-loop
+cast-arrive-2 c = search needs
+
+arrive-requires : tie.Need-arrive-requires Inv-loop μ-loop
+arrive-requires c κs =
+    let fit = c .before .before .before .before .before .before .before .before .before .before .before .before .before .before .pre .1 .0 in (
+      record { long = fit .nodes; most = fit .cap; few = omega (arith, fit .bytes) },
+      (exact-within _ _ _ _ _ _ (c .before .before .before .next-step .ensures) _ _ (c .before .child .given .1), omega (arith, fit .some)),
+    )
+
+mul-waiting-2 : tie.Need-mul-waiting-2 Inv-loop μ-loop
+mul-waiting-2 c = record { fits = omega (arith, settled (c .before .before .before .before .before .before .before) .room) }
+
+array-set-from-waiting-2 : tie.Need-array-set-from-waiting-2 Inv-loop μ-loop
+array-set-from-waiting-2 c = let now = settled (c .before .before .before .before .before .before .before) in omega (arith, now .room, now .inside .long)
+
+add-n-2 : tie.Need-add-n-2 Inv-loop μ-loop
+add-n-2 c = record { fits = omega (arith, settled (c .before .before .before .before .before .before .before) .room) }
+
+loop-less-3 : tie.Need-loop-less-3 Inv-loop μ-loop
+loop-less-3 c = omega (arith, c .before .before .before .before .before .before .before .before .loop-test .taken)
+
+loop-again-3 : tie.Need-loop-again-3 Inv-loop μ-loop
+loop-again-3 c =
+    let at = c .before .before .before .before .before .before .before .before .before .loop in
+    let now = settled (c .before .before .before .before .before .before .before) in
+    let some = c .before .before .before .before .before .before .before .before .loop-test .taken in (
+      sym
+          (behind-exact _ _ _ _ _ _ _ _ (at .inv .4 some) some _ (above-length _ _ _) _ (c .before .before .before .before .before .next-step .ensures) _ _ _ _ (c .before .before .before .child .given .1) (c .before .arrive .ensures)
+          (take-put (at .waiting) (c .before .before .before .before .before .before .before .if1 .n) _ (omega (arith, now .room, now .inside .long))))
+          ∙ now .walk,
+      now .long,
+      held-stay _ _ _ _ _ _ (at .inv .2) _ (at .inv .2 .inside),
+      inside-put _ _ _ _ (now .inside) (now .room) (inside-arrived _ _ _ _ _ _ _ (c .before .arrive .ensures) (omega (arith, c .before .before .before .before .before .before .before .before .before .before .before .before .before .before .before .before .pre .1 .0 .some))),
+      λ h. at .inv .4 some,
+    )
+
+enum-known-child-2 : tie.Need-enum-known-child-2 Inv-loop μ-loop
+enum-known-child-2 c = search needs
+
+add-if2 : tie.Need-add-if2 Inv-loop μ-loop
+add-if2 c = search needs
+
+loop-less-4 : tie.Need-loop-less-4 Inv-loop μ-loop
+loop-less-4 c = omega (arith, c .before .before .before .before .before .before .before .loop-test .taken)
+
+loop-again-4 : tie.Need-loop-again-4 Inv-loop μ-loop
+loop-again-4 c =
+    let at = c .before .before .before .before .before .before .before .before .loop in
+    let now = settled (c .before .before .before .before .before .before) in
+    let some = c .before .before .before .before .before .before .before .loop-test .taken in (
+      sym (behind-deep _ _ _ _ _ _ _ _ (at .inv .4 some) some _ (above-length _ _ _) _ (c .before .before .before .before .next-step .ensures) _ _ _ (c .before .before .child2 .given .1) (c .if2 .taken))
+          ∙ now .walk,
+      now .long,
+      at .inv .2,
+      now .inside,
+      λ h. at .inv .4 some,
+    )
+
+mul-stack : tie.Need-mul-stack Inv-loop μ-loop
+mul-stack c = search needs
+
+array-set-from-stack : tie.Need-array-set-from-stack Inv-loop μ-loop
+array-set-from-stack c = search needs
+
+add-depth : tie.Need-add-depth Inv-loop μ-loop
+add-depth c = search needs
+
+cast-enter : tie.Need-cast-enter Inv-loop μ-loop
+cast-enter c = search needs
+
+enter-requires-2 : tie.Need-enter-requires-2 Inv-loop μ-loop
+enter-requires-2 c κs =
+    let fit = c .before .before .before .before .before .before .before .before .before .before .before .before .before .before .before .pre .1 .0 in
+    (fit .nodes, fit .cap, down-within _ _ _ _ _ _ (c .before .before .before .before .next-step .ensures) _ _ _ (c .before .before .child2 .given .1))
+
+loop-less-5 : tie.Need-loop-less-5 Inv-loop μ-loop
+loop-less-5 c = omega (arith, c .before .before .before .before .before .before .before .before .loop-test .taken)
+
+loop-again-5 : tie.Need-loop-again-5 Inv-loop μ-loop
+loop-again-5 c =
+    let at = c .before .before .before .before .before .before .before .before .before .loop in
+    let now = settled (c .before .before .before .before .before .before .before) in
+    let some = c .before .before .before .before .before .before .before .before .loop-test .taken in
+    let held = at .inv .2 in
+    let in-table = down-within _ _ _ _ _ _ (c .before .before .before .before .before .next-step .ensures) _ _ _ (c .before .before .before .child2 .given .1) in (
+      sym
+          (behind-down _ _ _ _ _ _ _ _ (at .inv .4 some) some _ (above-length _ _ _) _ (c .before .before .before .before .before .next-step .ensures) _ _ _ _ _ (c .before .before .before .child2 .given .1) (c .before .if2 .left)
+          (c .enter2 .ensures)
+          (above-put _ _ _ _ (omega (arith, held .level, held .levels, held .room))))
+          ∙ now .walk,
+      now .long,
+      held-down _ _ _ _ _ _ held _ _ (held .inside) (inside-entered _ _ _ _ _ (c .enter2 .ensures) in-table) (c .before .if2 .left),
+      now .inside,
+      λ h. at .inv .4 some,
+    )
+
+enum-told-2 : tie.Need-enum-told-2 Inv-loop μ-loop
+enum-told-2 c = search needs
+
+loop-less-6 : tie.Need-loop-less-6 Inv-loop μ-loop
+loop-less-6 c = omega (arith, c .before .before .before .before .before .before .loop-test .taken)
+
+loop-again-6 : tie.Need-loop-again-6 Inv-loop μ-loop
+loop-again-6 c =
+    let at = c .before .before .before .before .before .before .before .loop in
+    let now = settled (c .before .before .before .before .before) in
+    let some = c .before .before .before .before .before .before .loop-test .taken in (
+      sym (behind-done _ _ _ _ _ _ _ _ (at .inv .4 some) some _ (above-length _ _ _) _ (c .before .before .before .next-step .ensures) (c .before .enum-told2 .given .1) (c .if3 .taken))
+          ∙ now .walk,
+      now .long,
+      at .inv .2,
+      now .inside,
+      λ h. absurd (omega arith),
+    )
 
 sub-depth : tie.Need-sub-depth Inv-loop μ-loop
 sub-depth c = search needs
@@ -128,35 +289,67 @@ mul-frame c = search needs
 array-copy-out-frame : tie.Need-array-copy-out-frame Inv-loop μ-loop
 array-copy-out-frame c = search needs
 
-loop-less-3 : tie.Need-loop-less-3 Inv-loop μ-loop
-loop-less-3 c = omega arith
+loop-less-7 : tie.Need-loop-less-7 Inv-loop μ-loop
+loop-less-7 c = omega (arith, c .before .before .before .before .before .before .before .loop-test .taken)
 
-loop-again-3 : tie.Need-loop-again-3 Inv-loop μ-loop
-loop-again-3 c =
-    let at = c .before .before .before .before .before .before .before .before .before .loop in
-    let moved = c .before .before .before .before .before .before .visit in (
+loop-again-7 : tie.Need-loop-again-7 Inv-loop μ-loop
+loop-again-7 c =
+    let at = c .before .before .before .before .before .before .before .before .loop in
+    let now = settled (c .before .before .before .before .before .before) in
+    let some = c .before .before .before .before .before .before .before .loop-test .taken in (
       sym
-          (run-up _ _ _ _ _ _ (omega arith) _ (above-length _ _ _) _ _ (moved .ensures) _ _ (c .before .before .enum-told .given .1)
+          (behind-up _ _ _ _ _ _ _ _ (at .inv .4 some) some _ (above-length _ _ _) _ (c .before .before .before .before .next-step .ensures) _ _ (c .before .before .enum-told2 .given .1)
           (above-take _ _ _ (omega arith)))
-          ∙ at .inv .0,
-      moved .kept .1 .1 .1 .0 ∙ at .inv .1,
+          ∙ now .walk,
+      now .long,
       held-up _ _ _ _ _ _ (at .inv .2) (omega arith),
+      now .inside,
+      λ h. at .inv .4 some,
     )
 
-enum-told-2 : tie.Need-enum-told-2 Inv-loop μ-loop
-enum-told-2 c = search needs
+enum-told-3 : tie.Need-enum-told-3 Inv-loop μ-loop
+enum-told-3 c = search needs
+
+loop-less-8 : tie.Need-loop-less-8 Inv-loop μ-loop
+loop-less-8 c = omega (arith, c .before .before .before .before .before .loop-test .taken)
+
+loop-again-8 : tie.Need-loop-again-8 Inv-loop μ-loop
+loop-again-8 c =
+    let at = c .before .before .before .before .before .before .loop in
+    let now = settled (c .before .before .before .before) in
+    let some = c .before .before .before .before .before .loop-test .taken in (
+      sym (behind-broken _ _ _ _ _ _ _ _ (at .inv .4 some) some _ (above-length _ _ _) _ (c .before .before .next-step .ensures) (c .enum-told3 .given .1)) ∙ now .walk,
+      now .long,
+      at .inv .2,
+      now .inside,
+      λ h. at .inv .4 some,
+    )
+
+mark-waiting-requires-2 : tie.Need-mark-waiting-requires-2 Inv-loop μ-loop
+mark-waiting-requires-2 c κs = (fitting-kept _ _ _ (c .before .before .loop .inv .1) (c .before .before .before .before .before .before .before .before .before .pre .1 .0), c .before .before .loop .inv .3)
+
+enum-told-4 : tie.Need-enum-told-4 Inv-loop μ-loop
+enum-told-4 c = search needs
+
+enum-told-5 : tie.Need-enum-told-5 Inv-loop μ-loop
+enum-told-5 c = search needs
 
 same-length-2 : tie.Need-same-length-2 Inv-loop μ-loop
-same-length-2 c = c .before .before .before .before .visit .kept .1 .1 .1 .0 ∙ c .before .before .before .before .before .before .before .loop .inv .1
+same-length-2 c = c .before .before .before .before .mark-waiting2 .kept .1 .1 .0 ∙ c .before .before .before .before .before .before .before .loop .inv .1
 
 returns-2 : tie.Need-returns-2 Inv-loop μ-loop
-returns-2 c = sym (run-broken _ _ _ _ _ _ (omega arith) _ (above-length _ _ _) _ _ (c .before .before .before .before .visit .ensures) (c .enum-told2 .given .1)) ∙ c .before .before .before .before .before .before .before .loop .inv .0
+returns-2 c =
+    sym (behind-end _ _ _ _ _ _ (c .before .before .before .before .mark-waiting2 .ensures) _ _ _ _ _ (c .enum-told4 .given .1) (omega (arith, c .before .before .before .before .before .before .loop-test .left))) ∙ c .before .before .before .before .before .before .before .loop .inv .0
 
 same-length-3 : tie.Need-same-length-3 Inv-loop μ-loop
-same-length-3 c = c .before .loop .inv .1
+same-length-3 c = c .before .before .before .before .mark-waiting2 .kept .1 .1 .0 ∙ c .before .before .before .before .before .before .before .loop .inv .1
 
 returns-3 : tie.Need-returns-3 Inv-loop μ-loop
-returns-3 c = sym (run-spent _ _ _ _ _ _ (omega arith)) ∙ c .before .loop .inv .0
+returns-3 c =
+    let at = c .before .before .before .before .before .before .before .loop in
+    sym
+    (behind-failed _ _ _ _ _ _ (c .before .before .before .before .mark-waiting2 .ensures) (at .whole) (at .steps) (at .frame) (above noFrame (at .stack) (at .depth)) (c .enum-told5 .given .1))
+    ∙ at .inv .0
 
 pub walk-below-spec : {M : Type 1} → statement M
 walk-below-spec =
@@ -164,35 +357,67 @@ walk-below-spec =
     (tie.spec
     Inv-loop
     μ-loop
-    shared-slice-read-enter
+    sub-last
+    cast-last
     enter-requires
+    ended-requires
     cast-left
     add-steps
     mul-steps
     loop-holds
     sub-steps
-    visit-requires
+    mark-waiting-requires
+    enum-known-k
+    enum-told
+    same-length
+    returns
+    shared-slice-read-next-step
+    next-step-requires
     enum-known-at
     loop-less
     loop-again
+    enum-known-first
+    ended-requires-2
+    mul-waiting
+    array-set-from-waiting
+    add-n
+    loop-less-2
+    loop-again-2
     enum-known-child
+    cast-arrive
+    add-arrive
+    cast-arrive-2
+    arrive-requires
+    mul-waiting-2
+    array-set-from-waiting-2
+    add-n-2
+    loop-less-3
+    loop-again-3
+    enum-known-child-2
+    add-if2
+    loop-less-4
+    loop-again-4
     mul-stack
     array-set-from-stack
     add-depth
     cast-enter
-    shared-slice-read-enter-2
     enter-requires-2
-    loop-less-2
-    loop-again-2
-    enum-told
-    same-length
-    returns
+    loop-less-5
+    loop-again-5
+    enum-told-2
+    loop-less-6
+    loop-again-6
     sub-depth
     mul-frame
     array-copy-out-frame
-    loop-less-3
-    loop-again-3
-    enum-told-2
+    loop-less-7
+    loop-again-7
+    enum-told-3
+    loop-less-8
+    loop-again-8
+    mark-waiting-requires-2
+    enum-told-4
+    enum-told-5
     same-length-2
     returns-2
     same-length-3

@@ -1,0 +1,97 @@
+-- `mark_waiting` is `markWaiting`: the descents end, then each turn marks a leaf.
+use Prim.Native.Nat.{_-_, _≤_}
+use native.Mathlib.Nat.{sub-zero}
+use native.Mathlib.Omega.{arith}
+use mathlib.Core.Path.{_≡_, refl, sym, _∙_}
+use lib.ListN.{length}
+use borrow.Author.Needs.{needs}
+use Rattle.walk.specs.Walk.{given}
+use Rattle.walk.proofs.Marking.{markFrom, from-next, from-broken, from-end, from-start}
+use Rattle.walk.proofs.waiting.mark_waiting.Statement.{statement}
+use Rattle.walk.proofs.waiting.mark_waiting.Tie as tie
+
+abbrev Inv-loop : tie.InvT-loop
+Inv-loop nodes pages map₀ cap pcap next words b bytes n budget cursors left₀ i₀ map left i =
+    (markFrom (given nodes pages cap pcap next words b bytes) cursors map left i (n - i)
+    ≡ markFrom (given nodes pages cap pcap next words b bytes) cursors map₀ budget 0 n)
+    × (length map ≡ length map₀)
+    × (i ≤ n)
+
+abbrev μ-loop : tie.MeasureT-loop
+μ-loop nodes pages map₀ cap pcap next words b bytes n budget cursors left₀ i₀ map left i = n - i
+
+descend-requires : tie.Need-descend-requires Inv-loop μ-loop
+descend-requires c κs =
+    let fit = c .before .before .before .before .pre .0 in
+    (record { long = fit .nodes; most = fit .cap; few = omega (arith, fit .bytes) }, c .before .before .before .before .pre .1)
+
+loop-holds : tie.Need-loop-holds Inv-loop μ-loop
+loop-holds c = (rw sub-zero refl, refl, omega arith)
+
+mul-leaf-of : tie.Need-mul-leaf-of Inv-loop μ-loop
+mul-leaf-of c = search needs
+
+array-copy-out-leaf-of : tie.Need-array-copy-out-leaf-of Inv-loop μ-loop
+array-copy-out-leaf-of c = search needs
+
+leaf-of-requires : tie.Need-leaf-of-requires Inv-loop μ-loop
+leaf-of-requires c κs = search needs
+
+mark-leaf-requires : tie.Need-mark-leaf-requires Inv-loop μ-loop
+mark-leaf-requires c κs = search needs
+
+enum-known-k : tie.Need-enum-known-k Inv-loop μ-loop
+enum-known-k c = search needs
+
+enum-told : tie.Need-enum-told Inv-loop μ-loop
+enum-told c = search needs
+
+same-length : tie.Need-same-length Inv-loop μ-loop
+same-length c = c .before .before .before .before .mark-leaf .kept .1 .0 ∙ c .before .before .before .before .before .before .before .before .before .loop .inv .1
+
+returns : tie.Need-returns Inv-loop μ-loop
+returns c =
+    sym (from-broken _ _ _ _ _ _ (c .before .before .before .before .before .before .before .before .loop-test .taken) _ (c .before .before .before .before .before .before .leaf-of .ensures) _ _ (c .before .before .before .before .mark-leaf .ensures) (c .enum-told .given .1))
+    ∙ c .before .before .before .before .before .before .before .before .before .loop .inv .0
+    ∙ from-start _ _ _ _ (c .before .before .before .before .before .before .before .before .before .before .before .before .before .before .before .pre .1) (c .before .before .before .before .before .before .before .before .before .before .descend .ensures) _ _
+
+add-i : tie.Need-add-i Inv-loop μ-loop
+add-i c = search needs
+
+loop-less : tie.Need-loop-less Inv-loop μ-loop
+loop-less c = omega arith
+
+loop-again : tie.Need-loop-again Inv-loop μ-loop
+loop-again c = (
+  sym (from-next _ _ _ _ _ _ (c .before .before .before .before .before .before .before .before .before .loop-test .taken) _ (c .before .before .before .before .before .before .before .leaf-of .ensures) _ _ (c .before .before .before .before .before .mark-leaf .ensures) _ (c .before .k .given .1)) ∙ c .before .before .before .before .before .before .before .before .before .before .loop .inv .0,
+  c .before .before .before .before .before .mark-leaf .kept .1 .0 ∙ c .before .before .before .before .before .before .before .before .before .before .loop .inv .1,
+  omega (arith, c .before .before .before .before .before .before .before .before .before .loop-test .taken),
+)
+
+same-length-2 : tie.Need-same-length-2 Inv-loop μ-loop
+same-length-2 c = c .before .loop .inv .1
+
+returns-2 : tie.Need-returns-2 Inv-loop μ-loop
+returns-2 c = sym (from-end _ _ _ _ _ _ (c .loop-test .left)) ∙ c .before .loop .inv .0 ∙ from-start _ _ _ _ (c .before .before .before .before .before .before .before .pre .1) (c .before .before .descend .ensures) _ _
+
+pub mark-waiting-spec : {M : Type 1} → statement M
+mark-waiting-spec =
+    tie.close
+    (tie.spec
+    Inv-loop
+    μ-loop
+    descend-requires
+    loop-holds
+    mul-leaf-of
+    array-copy-out-leaf-of
+    leaf-of-requires
+    mark-leaf-requires
+    enum-known-k
+    enum-told
+    same-length
+    returns
+    add-i
+    loop-less
+    loop-again
+    same-length-2
+    returns-2)

@@ -1,0 +1,130 @@
+-- Exact descents on tables that hold a sound trie: they end at the leaf whose pages are met at radius 0, and go through the nodes of `near`.
+use Prim.Native.Nat.{ℕ, _+_, _-_, _*_, _^_, _≤_, _<_}
+use native.Mathlib.Omega.{arith}
+use mathlib.Core.Path.{_≡_, ap, _∙_}
+use mathlib.Core.Bool.{true}
+use mathlib.Core.List.{List, _∷_}
+use lib.ListN.{length, getD, drop, length-drop}
+use Rattle.meaning.specs.Sketch.{perByte}
+use Rattle.meaning.specs.Trie.{met, nodes}
+use Rattle.trie.specs.Heap.{Holds}
+use Rattle.trie.specs.Phys.{Phys, root, first, tree, pageCells, cells, Below, Sound}
+use Rattle.trie_laws.specs.Sound.{soundTrie}
+use Rattle.walk.specs.declared.mark.Left.the-variants.{Some}
+use Rattle.walk.specs.Mark.{marks, markAll, markLeaf}
+use Rattle.walk.specs.Walk.{Given, mark, exactFrom, leafFrom}
+use Rattle.descent.specs.declared.Cursor.{Cursor}
+use Rattle.descent.specs.Cursor.{arrive, descended, leafOf}
+use Rattle.walk_laws.specs.Near.{near}
+use Rattle.walk_laws.specs.Trail.{exactTrail, exactBelow}
+use Rattle.walk_laws.proofs.Ran.{leaf-marks}
+use Rattle.walk_laws.proofs.Descent.{led-leaf}
+use Rattle.walk_laws.proofs.Fit.{Fit, fit}
+use Rattle.walk_laws.proofs.Spelt.{Spelt, spelt, spelt-drop}
+use Rattle.walk_laws.proofs.Leads.{Leads, tree-leads, stepsBelow, steps-below, nearBelow, near-below}
+
+-- ---- from a node at level k, with the bytes ys left to go
+module _ (N P : List ℕ) (cap pcap next b len : ℕ) (bytes : List ℕ) (at last : ℕ) (small : cap ≤ 262144) (t : Phys) (ys : List ℕ) (k : ℕ)
+    (h : Holds (cells cap next t) N P) (s : Sound cap pcap t) (u : Fit b len t k) (l : len ≤ k + length ys) (q : Spelt b bytes last ys at) where
+  abbrev from : Cursor
+  from = arrive N cap bytes (root t) at last
+
+  abbrev pages : List ℕ
+  pages = met b 0 (tree t) ys
+
+  leads : Leads N P cap pcap next b len bytes last small from pages (nearBelow b t ys) (stepsBelow t)
+  leads = tree-leads N P cap pcap next b len bytes last small t ys k at h s u l q
+
+  -- it ends, within a step for each node below this one
+  pub exact-over : (f : ℕ) → stepsBelow t ≤ f → descended N cap bytes f from .link ≡ 0
+  exact-over f m = leads .led .over f m
+
+  -- at the leaf of the pages that are met
+  pub exact-leaf : (f : ℕ) → stepsBelow t ≤ f → leafOf (descended N cap bytes f from) ≡ first pages
+  exact-leaf f m = led-leaf N cap bytes from (first pages) (stepsBelow t) (nearBelow b t ys) (leads .led) f m
+
+  -- their chain lies in the page table
+  pub exact-held : Holds (pageCells next pages) N P
+  exact-held = leads .held
+
+  pub exact-below : Below pcap pages
+  exact-below = leads .below
+
+  -- so they are marked
+  pub exact-marks : (words : ℕ) (map : List ℕ) (f left : ℕ) → stepsBelow t ≤ f → length pages ≤ left
+      → markLeaf P words pcap next map (leafOf (descended N cap bytes f from)) left ≡ marks (markAll map words pages) (Some (left - length pages))
+  exact-marks words map f left m few =
+      ap (λ n. markLeaf P words pcap next map n left) (exact-leaf f m) ∙ leaf-marks P words pcap next N map pages left exact-held exact-below few
+
+  -- it goes through the nodes of `near`
+  pub exact-near : (f : ℕ) → stepsBelow t ≤ f → root t ∷ exactTrail N cap bytes f from ≡ near b 0 t ys
+  exact-near f m = ap (λ xs. root t ∷ xs) (leads .led .went f m) ∙ near-below b t ys
+
+-- ---- from the root of a sound trie, with the query's bytes ys anywhere in a table of bytes
+module _ (N P : List ℕ) (cap pcap next b n : ℕ) (bytes : List ℕ) (at last : ℕ) (bytesOf : ℕ → List ℕ) (t : Phys) (ys : List ℕ) (small : cap ≤ 262144)
+    (there : (i : ℕ) → i < length ys → getD bytes (at + i) 0 ≡ getD ys i 0) (ends : last + 1 ≡ at + length ys)
+    (query : (i : ℕ) → getD ys i 0 < 2 ^ (b * perByte b)) (h : Holds (cells cap next t) N P) (s : Sound cap pcap t)
+    (sound : soundTrie bytesOf b n (length ys) 0 (tree t) ≡ true) (few : nodes (tree t) ≤ cap) where
+  abbrev fits : Fit b (length ys) t 0
+  fits = fit bytesOf b n (length ys) t 0 sound
+
+  spelt-all : Spelt b bytes last ys at
+  spelt-all = spelt b bytes last ys at there (λ i m. omega arith) (λ i m. query i)
+
+  pub block-leaf : leafOf (descended N cap bytes cap (arrive N cap bytes (root t) at last)) ≡ first (met b 0 (tree t) ys)
+  block-leaf = exact-leaf N P cap pcap next b (length ys) bytes at last small t ys 0 h s fits (omega arith) spelt-all cap (omega (arith, steps-below t))
+
+  pub block-marks : (words : ℕ) (map : List ℕ) (left : ℕ) → length (met b 0 (tree t) ys) ≤ left
+      → markLeaf P words pcap next map (leafOf (descended N cap bytes cap (arrive N cap bytes (root t) at last))) left
+      ≡ marks (markAll map words (met b 0 (tree t) ys)) (Some (left - length (met b 0 (tree t) ys)))
+  block-marks words map left m =
+      exact-marks N P cap pcap next b (length ys) bytes at last small t ys 0 h s fits (omega arith) spelt-all words map cap left (omega (arith, steps-below t)) m
+
+  pub block-near : root t ∷ exactTrail N cap bytes cap (arrive N cap bytes (root t) at last) ≡ near b 0 t ys
+  block-near = exact-near N P cap pcap next b (length ys) bytes at last small t ys 0 h s fits (omega arith) spelt-all cap (omega (arith, steps-below t))
+
+-- ---- in a walk over the query's bytes
+module _ (w : Given) (small : w .cap ≤ 262144) (query : (i : ℕ) → getD (w .bytes) i 0 < 2 ^ (w .b * perByte (w .b))) where
+  abbrev end : ℕ
+  end = length (w .bytes) - 1
+
+  -- a subtree at level k
+  module _ (t : Phys) (k : ℕ) (h : Holds (cells (w .cap) (w .next) t) (w .nodes) (w .pages)) (s : Sound (w .cap) (w .pcap) t)
+      (u : Fit (w .b) (length (w .bytes)) t k) (few : stepsBelow t ≤ w .cap) where
+    abbrev pages-below : List ℕ
+    pages-below = met (w .b) 0 (tree t) (drop k (w .bytes))
+
+    pub sub-leaf : leafFrom w (exactFrom w (root t) k) ≡ first pages-below
+    sub-leaf =
+        exact-leaf (w .nodes) (w .pages) (w .cap) (w .pcap) (w .next) (w .b) (length (w .bytes)) (w .bytes) k end small t (drop k (w .bytes)) k h s u
+        (omega (arith, length-drop k (w .bytes))) (spelt-drop (w .b) (w .bytes) query k) (w .cap) few
+
+    pub sub-marks : (map : List ℕ) (left : ℕ) → length pages-below ≤ left
+        → mark w map left (leafFrom w (exactFrom w (root t) k)) ≡ marks (markAll map (w .words) pages-below) (Some (left - length pages-below))
+    sub-marks map left m =
+        exact-marks (w .nodes) (w .pages) (w .cap) (w .pcap) (w .next) (w .b) (length (w .bytes)) (w .bytes) k end small t (drop k (w .bytes)) k h s u
+        (omega (arith, length-drop k (w .bytes))) (spelt-drop (w .b) (w .bytes) query k) (w .words) map (w .cap) left few m
+
+    pub sub-near : root t ∷ exactBelow w (root t) k ≡ near (w .b) 0 t (drop k (w .bytes))
+    sub-near =
+        exact-near (w .nodes) (w .pages) (w .cap) (w .pcap) (w .next) (w .b) (length (w .bytes)) (w .bytes) k end small t (drop k (w .bytes)) k h s u
+        (omega (arith, length-drop k (w .bytes))) (spelt-drop (w .b) (w .bytes) query k) (w .cap) few
+
+-- ---- there, from the root of a sound trie
+pub exact-right : (w : Given) (bytesOf : ℕ → List ℕ) (n : ℕ) (t : Phys) (map : List ℕ) → w .cap ≤ 262144
+    → ((i : ℕ) → getD (w .bytes) i 0 < 2 ^ (w .b * perByte (w .b)))
+    → Holds (cells (w .cap) (w .next) t) (w .nodes) (w .pages) → Sound (w .cap) (w .pcap) t
+    → soundTrie bytesOf (w .b) n (length (w .bytes)) 0 (tree t) ≡ true
+    → nodes (tree t) ≤ w .cap → length (met (w .b) 0 (tree t) (w .bytes)) ≤ w .pcap
+    → mark w map (w .pcap) (leafFrom w (exactFrom w (root t) 0))
+    ≡ marks (markAll map (w .words) (met (w .b) 0 (tree t) (w .bytes))) (Some (w .pcap - length (met (w .b) 0 (tree t) (w .bytes))))
+exact-right w bytesOf n t map small query h s sound few pages =
+    sub-marks w small query t 0 h s (fit bytesOf (w .b) n (length (w .bytes)) t 0 sound) (omega (arith, steps-below t)) map (w .pcap) pages
+
+pub exact-trail : (w : Given) (bytesOf : ℕ → List ℕ) (n : ℕ) (t : Phys) → w .cap ≤ 262144
+    → ((i : ℕ) → getD (w .bytes) i 0 < 2 ^ (w .b * perByte (w .b)))
+    → Holds (cells (w .cap) (w .next) t) (w .nodes) (w .pages) → Sound (w .cap) (w .pcap) t
+    → soundTrie bytesOf (w .b) n (length (w .bytes)) 0 (tree t) ≡ true → nodes (tree t) ≤ w .cap
+    → root t ∷ exactBelow w (root t) 0 ≡ near (w .b) 0 t (w .bytes)
+exact-trail w bytesOf n t small query h s sound few =
+    sub-near w small query t 0 h s (fit bytesOf (w .b) n (length (w .bytes)) t 0 sound) (omega (arith, steps-below t))
