@@ -14,7 +14,7 @@ use Rattle.walk.specs.declared.frame.Step.{Step}
 use Rattle.walk.specs.declared.frame.Step.the-variants as step
 use Rattle.walk.specs.Mark.{marks}
 use Rattle.walk.specs.Frame.{entered, stepIn}
-use Rattle.walk.specs.Walk.{Given, Walked, state, walked, atLink, onMarks, mark, exactFrom, leafFrom, behindLeaf, run, walkBelow}
+use Rattle.walk.specs.Walk.{Given, Walked, state, walked, atLink, onLeft, onMarks, mark, exactFrom, leafFrom, behindLeaf, run, walkBelow}
 use Rattle.walk.specs.Waiting.{markWaiting}
 use Rattle.walk.proofs.Turns.{run-spent, run-stay, run-leaf, run-exact, run-down, run-deep, run-up, run-done, run-broken}
 use Rattle.walk.proofs.Pending.{onMarks-same, waiting-more, waiting-none, leaf-ended}
@@ -103,6 +103,31 @@ module _ (w : Given) where
     behind-leaf first link c cs′ q known put =
         wait first link c cs′ (ap (leafFrom w) known ∙ leaf-ended w first) put
         (λ m l. run-leaf w steps m l frame stack some depth level found e first link q)
+
+    -- a leaf that is marked at once, where none waits
+    module _ (none : cs ≡ []) (first link : ℕ) (q : found ≡ step.Leaf first link) (after : List ℕ) (answer : Left)
+        (m : marks after answer ≡ mark w map left first) where
+      leaf-by : (a : Left) → answer ≡ a
+          → behind map left cs whole steps frame stack
+          ≡ onLeft (λ n k. run w (steps - 1) (state n k (atLink frame (frame .at) link) stack)) after a
+      leaf-by a f =
+          ap (λ x. behind map left x whole steps frame stack) none
+          ∙ waiting-none (rest whole steps frame stack) w map left
+          ∙ rest-run steps frame stack map left
+          ∙ run-leaf w steps map left frame stack some depth level found e first link q
+          ∙ ap (onMarks (λ n k. run w (steps - 1) (state n k (atLink frame (frame .at) link) stack))) (sym m)
+          ∙ ap (onLeft (λ n k. run w (steps - 1) (state n k (atLink frame (frame .at) link) stack)) after) f
+
+      pub leaf-marked : (k : ℕ) → answer ≡ budget.Some k
+          → behind map left cs whole steps frame stack ≡ behind after k cs whole (steps - 1) (atLink frame (frame .at) link) stack
+      leaf-marked k f =
+          leaf-by (budget.Some k) f
+          ∙ sym (rest-run (steps - 1) (atLink frame (frame .at) link) stack after k)
+          ∙ sym (waiting-none (rest whole (steps - 1) (atLink frame (frame .at) link) stack) w after k)
+          ∙ ap (λ x. behind after k x whole (steps - 1) (atLink frame (frame .at) link) stack) (sym none)
+
+      pub leaf-failed : answer ≡ budget.Broken → behind map left cs whole steps frame stack ≡ walked after false
+      leaf-failed f = leaf-by budget.Broken f
 
     pub behind-exact : (x link : ℕ) (c : Cursor) (cs′ : List Cursor) → found ≡ step.Exact x link → c ≡ exactFrom w x (depth + 1) → cs′ ≡ cs ++ (c ∷ [])
         → behind map left cs whole steps frame stack ≡ behind map left cs′ whole (steps - 1) (atLink frame (frame .at) link) stack

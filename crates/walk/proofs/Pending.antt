@@ -59,6 +59,9 @@ leaf-ended w first = rw (descended-ended (w .nodes) (w .cap) (w .bytes) (w .cap)
 pub take-put : (cs : List Cursor) (n : ℕ) (c : Cursor) → n < length cs → take (n + 1) (set cs n c) ≡ take n cs ++ (c ∷ [])
 take-put cs n c h = rw add-one (take-suc-set cs n c h)
 
+pub none-yet : (cs : List Cursor) {n : ℕ} → n ≡ 0 → take n cs ≡ []
+none-yet cs e = ap (λ k. take k cs) e
+
 module _ (bytes : List ℕ) where
   pub inside-put : (cs : List Cursor) (n : ℕ) (c : Cursor) → AllInside bytes cs n → n < 16 → Inside bytes c → AllInside bytes (set cs n c) (n + 1)
   inside-put cs n c h l i = record { long = simp length-set (h .long); few = omega arith; each = each }

@@ -77,11 +77,23 @@ fn walk_below(
                 frame.link = link;
             }
             Step::Leaf(first, link) => {
-                waiting[n] = descent::ended(first);
-                n += 1;
                 frame.link = link;
+                if n == 0 {
+                    match crate::mark::mark_leaf(pages, map, words, pcap, next, first, left) {
+                        Left::Some(k) => {
+                            left = k;
+                        }
+                        Left::Broken => {
+                            return false;
+                        }
+                    }
+                } else {
+                    waiting[n] = descent::ended(first);
+                    n += 1;
+                }
             }
             Step::Exact(child, link) => {
+                frame.link = link;
                 waiting[n] = descent::arrive(
                     nodes,
                     cap,
@@ -91,7 +103,6 @@ fn walk_below(
                     last,
                 );
                 n += 1;
-                frame.link = link;
             }
             Step::Down(child, within, link) => {
                 if depth + 1 >= bytes.len() {

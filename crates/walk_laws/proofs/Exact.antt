@@ -20,7 +20,7 @@ use Rattle.walk_laws.specs.Trail.{exactTrail, exactBelow}
 use Rattle.walk_laws.proofs.Ran.{leaf-marks}
 use Rattle.walk_laws.proofs.Descent.{led-leaf}
 use Rattle.walk_laws.proofs.Fit.{Fit, fit}
-use Rattle.walk_laws.proofs.Spelt.{Spelt, spelt, spelt-drop}
+use Rattle.walk_laws.proofs.Spelt.{Spelt, spelt-drop}
 use Rattle.walk_laws.proofs.Leads.{Leads, tree-leads, stepsBelow, steps-below, nearBelow, near-below}
 
 -- ---- from a node at level k, with the bytes ys left to go
@@ -34,10 +34,6 @@ module _ (N P : List ℕ) (cap pcap next b len : ℕ) (bytes : List ℕ) (at las
 
   leads : Leads N P cap pcap next b len bytes last small from pages (nearBelow b t ys) (stepsBelow t)
   leads = tree-leads N P cap pcap next b len bytes last small t ys k at h s u l q
-
-  -- it ends, within a step for each node below this one
-  pub exact-over : (f : ℕ) → stepsBelow t ≤ f → descended N cap bytes f from .link ≡ 0
-  exact-over f m = leads .led .over f m
 
   -- at the leaf of the pages that are met
   pub exact-leaf : (f : ℕ) → stepsBelow t ≤ f → leafOf (descended N cap bytes f from) ≡ first pages
@@ -60,29 +56,6 @@ module _ (N P : List ℕ) (cap pcap next b len : ℕ) (bytes : List ℕ) (at las
   pub exact-near : (f : ℕ) → stepsBelow t ≤ f → root t ∷ exactTrail N cap bytes f from ≡ near b 0 t ys
   exact-near f m = ap (λ xs. root t ∷ xs) (leads .led .went f m) ∙ near-below b t ys
 
--- ---- from the root of a sound trie, with the query's bytes ys anywhere in a table of bytes
-module _ (N P : List ℕ) (cap pcap next b n : ℕ) (bytes : List ℕ) (at last : ℕ) (bytesOf : ℕ → List ℕ) (t : Phys) (ys : List ℕ) (small : cap ≤ 262144)
-    (there : (i : ℕ) → i < length ys → getD bytes (at + i) 0 ≡ getD ys i 0) (ends : last + 1 ≡ at + length ys)
-    (query : (i : ℕ) → getD ys i 0 < 2 ^ (b * perByte b)) (h : Holds (cells cap next t) N P) (s : Sound cap pcap t)
-    (sound : soundTrie bytesOf b n (length ys) 0 (tree t) ≡ true) (few : nodes (tree t) ≤ cap) where
-  abbrev fits : Fit b (length ys) t 0
-  fits = fit bytesOf b n (length ys) t 0 sound
-
-  spelt-all : Spelt b bytes last ys at
-  spelt-all = spelt b bytes last ys at there (λ i m. omega arith) (λ i m. query i)
-
-  pub block-leaf : leafOf (descended N cap bytes cap (arrive N cap bytes (root t) at last)) ≡ first (met b 0 (tree t) ys)
-  block-leaf = exact-leaf N P cap pcap next b (length ys) bytes at last small t ys 0 h s fits (omega arith) spelt-all cap (omega (arith, steps-below t))
-
-  pub block-marks : (words : ℕ) (map : List ℕ) (left : ℕ) → length (met b 0 (tree t) ys) ≤ left
-      → markLeaf P words pcap next map (leafOf (descended N cap bytes cap (arrive N cap bytes (root t) at last))) left
-      ≡ marks (markAll map words (met b 0 (tree t) ys)) (Some (left - length (met b 0 (tree t) ys)))
-  block-marks words map left m =
-      exact-marks N P cap pcap next b (length ys) bytes at last small t ys 0 h s fits (omega arith) spelt-all words map cap left (omega (arith, steps-below t)) m
-
-  pub block-near : root t ∷ exactTrail N cap bytes cap (arrive N cap bytes (root t) at last) ≡ near b 0 t ys
-  block-near = exact-near N P cap pcap next b (length ys) bytes at last small t ys 0 h s fits (omega arith) spelt-all cap (omega (arith, steps-below t))
-
 -- ---- in a walk over the query's bytes
 module _ (w : Given) (small : w .cap ≤ 262144) (query : (i : ℕ) → getD (w .bytes) i 0 < 2 ^ (w .b * perByte (w .b))) where
   abbrev end : ℕ
@@ -93,11 +66,6 @@ module _ (w : Given) (small : w .cap ≤ 262144) (query : (i : ℕ) → getD (w 
       (u : Fit (w .b) (length (w .bytes)) t k) (few : stepsBelow t ≤ w .cap) where
     abbrev pages-below : List ℕ
     pages-below = met (w .b) 0 (tree t) (drop k (w .bytes))
-
-    pub sub-leaf : leafFrom w (exactFrom w (root t) k) ≡ first pages-below
-    sub-leaf =
-        exact-leaf (w .nodes) (w .pages) (w .cap) (w .pcap) (w .next) (w .b) (length (w .bytes)) (w .bytes) k end small t (drop k (w .bytes)) k h s u
-        (omega (arith, length-drop k (w .bytes))) (spelt-drop (w .b) (w .bytes) query k) (w .cap) few
 
     pub sub-marks : (map : List ℕ) (left : ℕ) → length pages-below ≤ left
         → mark w map left (leafFrom w (exactFrom w (root t) k)) ≡ marks (markAll map (w .words) pages-below) (Some (left - length pages-below))

@@ -13,7 +13,7 @@ module _ (b : ℕ) (bytes : List ℕ) (last : ℕ) where
   Spelt [] at = Unit {0}
   Spelt (y ∷ ys) at = (getD bytes at 0 ≡ y) × (at ≤ last) × (y < 2 ^ (b * perByte b)) × Spelt ys (at + 1)
 
-  pub spelt : (ys : List ℕ) (at : ℕ) → ((i : ℕ) → i < length ys → getD bytes (at + i) 0 ≡ getD ys i 0) → ((i : ℕ) → i < length ys → at + i ≤ last)
+  spelt : (ys : List ℕ) (at : ℕ) → ((i : ℕ) → i < length ys → getD bytes (at + i) 0 ≡ getD ys i 0) → ((i : ℕ) → i < length ys → at + i ≤ last)
       → ((i : ℕ) → i < length ys → getD ys i 0 < 2 ^ (b * perByte b)) → Spelt ys at
   spelt [] at e l q = tt
   spelt (y ∷ ys) at e l q =

@@ -4,7 +4,7 @@ use native.Mathlib.Omega.{arith}
 use mathlib.Core.Path.{_≡_, refl, sym, _∙_}
 use mathlib.Core.Bool.{false}
 use mathlib.Core.Logic.{⊎-elim}
-use lib.ListN.{length, take}
+use lib.ListN.{length, take, length-set}
 use borrow.Author.Needs.{needs}
 use Rattle.meaning.proofs.Stacks.{above, above-length, above-put, above-take, Held, held-stay, held-down, held-up, held-start}
 use Rattle.descent.specs.Cursor.{AllInside}
@@ -12,8 +12,8 @@ use Rattle.walk.specs.Walk.{given, walkBelow}
 use Rattle.walk.proofs.Stack.{noFrame, Inside, inside-entered}
 use Rattle.walk.proofs.Steps.{exact-within, down-within}
 use Rattle.walk.proofs.Turns.{fitting-kept}
-use Rattle.walk.proofs.Pending.{take-put, inside-put, inside-none, inside-ended, inside-arrived}
-use Rattle.walk.proofs.Behind.{behind, behind-start, behind-failed, behind-end, behind-stay, behind-leaf, behind-exact, behind-down, behind-up, behind-done, behind-deep, behind-broken}
+use Rattle.walk.proofs.Pending.{take-put, inside-put, inside-none, inside-ended, inside-arrived, none-yet}
+use Rattle.walk.proofs.Behind.{behind, behind-start, behind-failed, behind-end, behind-stay, behind-leaf, leaf-marked, leaf-failed, behind-exact, behind-down, behind-up, behind-done, behind-deep, behind-broken}
 use Rattle.walk.proofs.Ready.{Ready, ready-kept, ready-marked}
 use Rattle.walk.proofs.walk.walk_below.Statement.{statement}
 use Rattle.walk.proofs.walk.walk_below.Tie as tie
@@ -125,33 +125,72 @@ loop-again c =
 enum-known-first : tie.Need-enum-known-first Inv-loop μ-loop
 enum-known-first c = search needs
 
+mark-leaf-requires : tie.Need-mark-leaf-requires Inv-loop μ-loop
+mark-leaf-requires c κs =
+    let fit = fitting-kept _ _ (c .before .before .before .before .before .before .before .if1 .map) (settled (c .before .before .before .before .before .before .before) .long) (c .before .before .before .before .before .before .before .before .before .before .before .before .before .before .before .before .pre .1 .0) in
+    (fit .pages, ((fit .pcap, fit .words, fit .bits), fit .summary))
+
+enum-known-k-2 : tie.Need-enum-known-k-2 Inv-loop μ-loop
+enum-known-k-2 c = search needs
+
+loop-less-2 : tie.Need-loop-less-2 Inv-loop μ-loop
+loop-less-2 c = omega (arith, c .before .before .before .before .before .before .before .before .before .before .before .before .before .before .loop-test .taken)
+
+loop-again-2 : tie.Need-loop-again-2 Inv-loop μ-loop
+loop-again-2 c =
+    let at = c .before .before .before .before .before .before .before .before .before .before .before .before .before .before .before .loop in
+    let now = settled (c .before .before .before .before .before .before .before .before .before .before .before .before .before) in
+    let some = c .before .before .before .before .before .before .before .before .before .before .before .before .before .before .loop-test .taken in (
+      sym
+          (leaf-marked _ _ _ _ _ _ _ _ (at .inv .4 some) some _ (above-length _ _ _) _ (c .before .before .before .before .before .before .before .before .before .before .before .next-step .ensures) (none-yet (at .waiting) (c .before .before .before .before .before .before .before .if2 .taken)) _ _ (c .before .before .before .before .before .before .before .before .before .first .given .1) _ _ (c .before .before .before .before .before .mark-leaf .ensures) _ (c .before .k2 .given .1))
+          ∙ now .walk,
+      c .before .before .before .before .before .mark-leaf .kept .1 .0 ∙ now .long,
+      held-stay _ _ _ _ _ _ (at .inv .2) _ (at .inv .2 .inside),
+      now .inside,
+      λ h. at .inv .4 some,
+    )
+
+enum-told-2 : tie.Need-enum-told-2 Inv-loop μ-loop
+enum-told-2 c = search needs
+
+same-length-2 : tie.Need-same-length-2 Inv-loop μ-loop
+same-length-2 c = c .before .before .before .before .mark-leaf .kept .1 .0 ∙ settled (c .before .before .before .before .before .before .before .before .before .before .before .before) .long
+
+returns-2 : tie.Need-returns-2 Inv-loop μ-loop
+returns-2 c =
+    let at = c .before .before .before .before .before .before .before .before .before .before .before .before .before .before .loop in
+    let some = c .before .before .before .before .before .before .before .before .before .before .before .before .before .loop-test .taken in
+    sym
+    (leaf-failed _ _ _ _ _ _ _ _ (at .inv .4 some) some _ (above-length noFrame (at .stack) (at .depth)) _ (c .before .before .before .before .before .before .before .before .before .before .next-step .ensures) (none-yet (at .waiting) (c .before .before .before .before .before .before .if2 .taken)) _ _ (c .before .before .before .before .before .before .before .before .first .given .1) _ _ (c .before .before .before .before .mark-leaf .ensures) (c .enum-told2 .given .1))
+    ∙ settled (c .before .before .before .before .before .before .before .before .before .before .before .before) .walk
+
 ended-requires-2 : tie.Need-ended-requires-2 Inv-loop μ-loop
 ended-requires-2 c κs = search needs
 
 mul-waiting : tie.Need-mul-waiting Inv-loop μ-loop
-mul-waiting c = record { fits = omega (arith, settled (c .before .before .before .before .before .before .before) .room) }
+mul-waiting c = record { fits = omega (arith, settled (c .before .before .before .before .before .before .before .before) .room) }
 
 array-set-from-waiting : tie.Need-array-set-from-waiting Inv-loop μ-loop
-array-set-from-waiting c = let now = settled (c .before .before .before .before .before .before .before) in omega (arith, now .room, now .inside .long)
+array-set-from-waiting c = let now = settled (c .before .before .before .before .before .before .before .before) in omega (arith, now .room, now .inside .long)
 
 add-n : tie.Need-add-n Inv-loop μ-loop
-add-n c = record { fits = omega (arith, settled (c .before .before .before .before .before .before .before) .room) }
+add-n c = record { fits = omega (arith, settled (c .before .before .before .before .before .before .before .before) .room) }
 
-loop-less-2 : tie.Need-loop-less-2 Inv-loop μ-loop
-loop-less-2 c = omega (arith, c .before .before .before .before .before .before .before .before .loop-test .taken)
+loop-less-3 : tie.Need-loop-less-3 Inv-loop μ-loop
+loop-less-3 c = omega (arith, c .before .before .before .before .before .before .before .before .before .loop-test .taken)
 
-loop-again-2 : tie.Need-loop-again-2 Inv-loop μ-loop
-loop-again-2 c =
-    let at = c .before .before .before .before .before .before .before .before .before .loop in
-    let now = settled (c .before .before .before .before .before .before .before) in
-    let some = c .before .before .before .before .before .before .before .before .loop-test .taken in (
+loop-again-3 : tie.Need-loop-again-3 Inv-loop μ-loop
+loop-again-3 c =
+    let at = c .before .before .before .before .before .before .before .before .before .before .loop in
+    let now = settled (c .before .before .before .before .before .before .before .before) in
+    let some = c .before .before .before .before .before .before .before .before .before .loop-test .taken in (
       sym
-          (behind-leaf _ _ _ _ _ _ _ _ (at .inv .4 some) some _ (above-length _ _ _) _ (c .before .before .before .before .before .next-step .ensures) _ _ _ _ (c .before .before .before .first .given .1) (c .before .ended2 .ensures)
-          (take-put (at .waiting) (c .before .before .before .before .before .before .before .if1 .n) _ (omega (arith, now .room, now .inside .long))))
+          (behind-leaf _ _ _ _ _ _ _ _ (at .inv .4 some) some _ (above-length _ _ _) _ (c .before .before .before .before .before .before .next-step .ensures) _ _ _ _ (c .before .before .before .before .first .given .1) (c .before .ended2 .ensures)
+          (take-put (at .waiting) (c .before .before .before .before .before .before .before .before .if1 .n) _ (omega (arith, now .room, now .inside .long))))
           ∙ now .walk,
       now .long,
       held-stay _ _ _ _ _ _ (at .inv .2) _ (at .inv .2 .inside),
-      inside-put _ _ _ _ (now .inside) (now .room) (inside-ended _ _ _ (c .before .ended2 .ensures) (c .before .before .before .before .before .before .before .before .before .before .before .before .before .before .before .before .pre .1 .0 .some)),
+      inside-put _ _ _ _ (now .inside) (now .room) (inside-ended _ _ _ (c .before .ended2 .ensures) (c .before .before .before .before .before .before .before .before .before .before .before .before .before .before .before .before .before .pre .1 .0 .some)),
       λ h. at .inv .4 some,
     )
 
@@ -183,11 +222,11 @@ array-set-from-waiting-2 c = let now = settled (c .before .before .before .befor
 add-n-2 : tie.Need-add-n-2 Inv-loop μ-loop
 add-n-2 c = record { fits = omega (arith, settled (c .before .before .before .before .before .before .before) .room) }
 
-loop-less-3 : tie.Need-loop-less-3 Inv-loop μ-loop
-loop-less-3 c = omega (arith, c .before .before .before .before .before .before .before .before .loop-test .taken)
+loop-less-4 : tie.Need-loop-less-4 Inv-loop μ-loop
+loop-less-4 c = omega (arith, c .before .before .before .before .before .before .before .before .loop-test .taken)
 
-loop-again-3 : tie.Need-loop-again-3 Inv-loop μ-loop
-loop-again-3 c =
+loop-again-4 : tie.Need-loop-again-4 Inv-loop μ-loop
+loop-again-4 c =
     let at = c .before .before .before .before .before .before .before .before .before .loop in
     let now = settled (c .before .before .before .before .before .before .before) in
     let some = c .before .before .before .before .before .before .before .before .loop-test .taken in (
@@ -204,18 +243,18 @@ loop-again-3 c =
 enum-known-child-2 : tie.Need-enum-known-child-2 Inv-loop μ-loop
 enum-known-child-2 c = search needs
 
-add-if2 : tie.Need-add-if2 Inv-loop μ-loop
-add-if2 c = search needs
+add-if3 : tie.Need-add-if3 Inv-loop μ-loop
+add-if3 c = search needs
 
-loop-less-4 : tie.Need-loop-less-4 Inv-loop μ-loop
-loop-less-4 c = omega (arith, c .before .before .before .before .before .before .before .loop-test .taken)
+loop-less-5 : tie.Need-loop-less-5 Inv-loop μ-loop
+loop-less-5 c = omega (arith, c .before .before .before .before .before .before .before .loop-test .taken)
 
-loop-again-4 : tie.Need-loop-again-4 Inv-loop μ-loop
-loop-again-4 c =
+loop-again-5 : tie.Need-loop-again-5 Inv-loop μ-loop
+loop-again-5 c =
     let at = c .before .before .before .before .before .before .before .before .loop in
     let now = settled (c .before .before .before .before .before .before) in
     let some = c .before .before .before .before .before .before .before .loop-test .taken in (
-      sym (behind-deep _ _ _ _ _ _ _ _ (at .inv .4 some) some _ (above-length _ _ _) _ (c .before .before .before .before .next-step .ensures) _ _ _ (c .before .before .child2 .given .1) (c .if2 .taken))
+      sym (behind-deep _ _ _ _ _ _ _ _ (at .inv .4 some) some _ (above-length _ _ _) _ (c .before .before .before .before .next-step .ensures) _ _ _ (c .before .before .child2 .given .1) (c .if3 .taken))
           ∙ now .walk,
       now .long,
       at .inv .2,
@@ -240,39 +279,39 @@ enter-requires-2 c κs =
     let fit = c .before .before .before .before .before .before .before .before .before .before .before .before .before .before .before .pre .1 .0 in
     (fit .nodes, fit .cap, down-within _ _ _ _ _ _ (c .before .before .before .before .next-step .ensures) _ _ _ (c .before .before .child2 .given .1))
 
-loop-less-5 : tie.Need-loop-less-5 Inv-loop μ-loop
-loop-less-5 c = omega (arith, c .before .before .before .before .before .before .before .before .loop-test .taken)
+loop-less-6 : tie.Need-loop-less-6 Inv-loop μ-loop
+loop-less-6 c = omega (arith, c .before .before .before .before .before .before .before .before .loop-test .taken)
 
-loop-again-5 : tie.Need-loop-again-5 Inv-loop μ-loop
-loop-again-5 c =
+loop-again-6 : tie.Need-loop-again-6 Inv-loop μ-loop
+loop-again-6 c =
     let at = c .before .before .before .before .before .before .before .before .before .loop in
     let now = settled (c .before .before .before .before .before .before .before) in
     let some = c .before .before .before .before .before .before .before .before .loop-test .taken in
     let held = at .inv .2 in
     let in-table = down-within _ _ _ _ _ _ (c .before .before .before .before .before .next-step .ensures) _ _ _ (c .before .before .before .child2 .given .1) in (
       sym
-          (behind-down _ _ _ _ _ _ _ _ (at .inv .4 some) some _ (above-length _ _ _) _ (c .before .before .before .before .before .next-step .ensures) _ _ _ _ _ (c .before .before .before .child2 .given .1) (c .before .if2 .left)
+          (behind-down _ _ _ _ _ _ _ _ (at .inv .4 some) some _ (above-length _ _ _) _ (c .before .before .before .before .before .next-step .ensures) _ _ _ _ _ (c .before .before .before .child2 .given .1) (c .before .if3 .left)
           (c .enter2 .ensures)
           (above-put _ _ _ _ (omega (arith, held .level, held .levels, held .room))))
           ∙ now .walk,
       now .long,
-      held-down _ _ _ _ _ _ held _ _ (held .inside) (inside-entered _ _ _ _ _ (c .enter2 .ensures) in-table) (c .before .if2 .left),
+      held-down _ _ _ _ _ _ held _ _ (held .inside) (inside-entered _ _ _ _ _ (c .enter2 .ensures) in-table) (c .before .if3 .left),
       now .inside,
       λ h. at .inv .4 some,
     )
 
-enum-told-2 : tie.Need-enum-told-2 Inv-loop μ-loop
-enum-told-2 c = search needs
+enum-told-3 : tie.Need-enum-told-3 Inv-loop μ-loop
+enum-told-3 c = search needs
 
-loop-less-6 : tie.Need-loop-less-6 Inv-loop μ-loop
-loop-less-6 c = omega (arith, c .before .before .before .before .before .before .loop-test .taken)
+loop-less-7 : tie.Need-loop-less-7 Inv-loop μ-loop
+loop-less-7 c = omega (arith, c .before .before .before .before .before .before .loop-test .taken)
 
-loop-again-6 : tie.Need-loop-again-6 Inv-loop μ-loop
-loop-again-6 c =
+loop-again-7 : tie.Need-loop-again-7 Inv-loop μ-loop
+loop-again-7 c =
     let at = c .before .before .before .before .before .before .before .loop in
     let now = settled (c .before .before .before .before .before) in
     let some = c .before .before .before .before .before .before .loop-test .taken in (
-      sym (behind-done _ _ _ _ _ _ _ _ (at .inv .4 some) some _ (above-length _ _ _) _ (c .before .before .before .next-step .ensures) (c .before .enum-told2 .given .1) (c .if3 .taken))
+      sym (behind-done _ _ _ _ _ _ _ _ (at .inv .4 some) some _ (above-length _ _ _) _ (c .before .before .before .next-step .ensures) (c .before .enum-told3 .given .1) (c .if4 .taken))
           ∙ now .walk,
       now .long,
       at .inv .2,
@@ -289,16 +328,16 @@ mul-frame c = search needs
 array-copy-out-frame : tie.Need-array-copy-out-frame Inv-loop μ-loop
 array-copy-out-frame c = search needs
 
-loop-less-7 : tie.Need-loop-less-7 Inv-loop μ-loop
-loop-less-7 c = omega (arith, c .before .before .before .before .before .before .before .loop-test .taken)
+loop-less-8 : tie.Need-loop-less-8 Inv-loop μ-loop
+loop-less-8 c = omega (arith, c .before .before .before .before .before .before .before .loop-test .taken)
 
-loop-again-7 : tie.Need-loop-again-7 Inv-loop μ-loop
-loop-again-7 c =
+loop-again-8 : tie.Need-loop-again-8 Inv-loop μ-loop
+loop-again-8 c =
     let at = c .before .before .before .before .before .before .before .before .loop in
     let now = settled (c .before .before .before .before .before .before) in
     let some = c .before .before .before .before .before .before .before .loop-test .taken in (
       sym
-          (behind-up _ _ _ _ _ _ _ _ (at .inv .4 some) some _ (above-length _ _ _) _ (c .before .before .before .before .next-step .ensures) _ _ (c .before .before .enum-told2 .given .1)
+          (behind-up _ _ _ _ _ _ _ _ (at .inv .4 some) some _ (above-length _ _ _) _ (c .before .before .before .before .next-step .ensures) _ _ (c .before .before .enum-told3 .given .1)
           (above-take _ _ _ (omega arith)))
           ∙ now .walk,
       now .long,
@@ -307,18 +346,18 @@ loop-again-7 c =
       λ h. at .inv .4 some,
     )
 
-enum-told-3 : tie.Need-enum-told-3 Inv-loop μ-loop
-enum-told-3 c = search needs
+enum-told-4 : tie.Need-enum-told-4 Inv-loop μ-loop
+enum-told-4 c = search needs
 
-loop-less-8 : tie.Need-loop-less-8 Inv-loop μ-loop
-loop-less-8 c = omega (arith, c .before .before .before .before .before .loop-test .taken)
+loop-less-9 : tie.Need-loop-less-9 Inv-loop μ-loop
+loop-less-9 c = omega (arith, c .before .before .before .before .before .loop-test .taken)
 
-loop-again-8 : tie.Need-loop-again-8 Inv-loop μ-loop
-loop-again-8 c =
+loop-again-9 : tie.Need-loop-again-9 Inv-loop μ-loop
+loop-again-9 c =
     let at = c .before .before .before .before .before .before .loop in
     let now = settled (c .before .before .before .before) in
     let some = c .before .before .before .before .before .loop-test .taken in (
-      sym (behind-broken _ _ _ _ _ _ _ _ (at .inv .4 some) some _ (above-length _ _ _) _ (c .before .before .next-step .ensures) (c .enum-told3 .given .1)) ∙ now .walk,
+      sym (behind-broken _ _ _ _ _ _ _ _ (at .inv .4 some) some _ (above-length _ _ _) _ (c .before .before .next-step .ensures) (c .enum-told4 .given .1)) ∙ now .walk,
       now .long,
       at .inv .2,
       now .inside,
@@ -328,27 +367,27 @@ loop-again-8 c =
 mark-waiting-requires-2 : tie.Need-mark-waiting-requires-2 Inv-loop μ-loop
 mark-waiting-requires-2 c κs = (fitting-kept _ _ _ (c .before .before .loop .inv .1) (c .before .before .before .before .before .before .before .before .before .pre .1 .0), c .before .before .loop .inv .3)
 
-enum-told-4 : tie.Need-enum-told-4 Inv-loop μ-loop
-enum-told-4 c = search needs
-
 enum-told-5 : tie.Need-enum-told-5 Inv-loop μ-loop
 enum-told-5 c = search needs
 
-same-length-2 : tie.Need-same-length-2 Inv-loop μ-loop
-same-length-2 c = c .before .before .before .before .mark-waiting2 .kept .1 .1 .0 ∙ c .before .before .before .before .before .before .before .loop .inv .1
-
-returns-2 : tie.Need-returns-2 Inv-loop μ-loop
-returns-2 c =
-    sym (behind-end _ _ _ _ _ _ (c .before .before .before .before .mark-waiting2 .ensures) _ _ _ _ _ (c .enum-told4 .given .1) (omega (arith, c .before .before .before .before .before .before .loop-test .left))) ∙ c .before .before .before .before .before .before .before .loop .inv .0
+enum-told-6 : tie.Need-enum-told-6 Inv-loop μ-loop
+enum-told-6 c = search needs
 
 same-length-3 : tie.Need-same-length-3 Inv-loop μ-loop
 same-length-3 c = c .before .before .before .before .mark-waiting2 .kept .1 .1 .0 ∙ c .before .before .before .before .before .before .before .loop .inv .1
 
 returns-3 : tie.Need-returns-3 Inv-loop μ-loop
 returns-3 c =
+    sym (behind-end _ _ _ _ _ _ (c .before .before .before .before .mark-waiting2 .ensures) _ _ _ _ _ (c .enum-told5 .given .1) (omega (arith, c .before .before .before .before .before .before .loop-test .left))) ∙ c .before .before .before .before .before .before .before .loop .inv .0
+
+same-length-4 : tie.Need-same-length-4 Inv-loop μ-loop
+same-length-4 c = c .before .before .before .before .mark-waiting2 .kept .1 .1 .0 ∙ c .before .before .before .before .before .before .before .loop .inv .1
+
+returns-4 : tie.Need-returns-4 Inv-loop μ-loop
+returns-4 c =
     let at = c .before .before .before .before .before .before .before .loop in
     sym
-    (behind-failed _ _ _ _ _ _ (c .before .before .before .before .mark-waiting2 .ensures) (at .whole) (at .steps) (at .frame) (above noFrame (at .stack) (at .depth)) (c .enum-told5 .given .1))
+    (behind-failed _ _ _ _ _ _ (c .before .before .before .before .mark-waiting2 .ensures) (at .whole) (at .steps) (at .frame) (above noFrame (at .stack) (at .depth)) (c .enum-told6 .given .1))
     ∙ at .inv .0
 
 pub walk-below-spec : {M : Type 1} → statement M
@@ -377,12 +416,19 @@ walk-below-spec =
     loop-less
     loop-again
     enum-known-first
+    mark-leaf-requires
+    enum-known-k-2
+    loop-less-2
+    loop-again-2
+    enum-told-2
+    same-length-2
+    returns-2
     ended-requires-2
     mul-waiting
     array-set-from-waiting
     add-n
-    loop-less-2
-    loop-again-2
+    loop-less-3
+    loop-again-3
     enum-known-child
     cast-arrive
     add-arrive
@@ -391,34 +437,34 @@ walk-below-spec =
     mul-waiting-2
     array-set-from-waiting-2
     add-n-2
-    loop-less-3
-    loop-again-3
-    enum-known-child-2
-    add-if2
     loop-less-4
     loop-again-4
+    enum-known-child-2
+    add-if3
+    loop-less-5
+    loop-again-5
     mul-stack
     array-set-from-stack
     add-depth
     cast-enter
     enter-requires-2
-    loop-less-5
-    loop-again-5
-    enum-told-2
     loop-less-6
     loop-again-6
+    enum-told-3
+    loop-less-7
+    loop-again-7
     sub-depth
     mul-frame
     array-copy-out-frame
-    loop-less-7
-    loop-again-7
-    enum-told-3
     loop-less-8
     loop-again-8
-    mark-waiting-requires-2
     enum-told-4
+    loop-less-9
+    loop-again-9
+    mark-waiting-requires-2
     enum-told-5
-    same-length-2
-    returns-2
+    enum-told-6
     same-length-3
-    returns-3)
+    returns-3
+    same-length-4
+    returns-4)
