@@ -83,26 +83,43 @@ returns c =
     (behind-failed _ _ _ _ _ _ (c .before .before .before .before .mark-waiting .ensures) (at .whole) (at .steps) (at .frame) (above noFrame (at .stack) (at .depth)) (c .enum-told .given .1))
     ∙ at .inv .0
 
--- fewer than 16 leaves wait
-settled : (c : tie.Joined1 Inv-loop μ-loop) →
-    let args = c .before .before .before .before .before .before .before .before .before .args in
-    let w = given (args .nodes .now) (args .pages .now) (args .cap) (args .pcap) (args .next) (args .words) (args .b) (args .bytes .now) in
-    let at = c .before .before .loop in
-    Ready w (walkBelow w (args .x) (args .radius) (args .map .now)) (length (args .map .now)) (at .waiting) (at .whole) (at .steps) (at .frame)
-    (above noFrame (at .stack) (at .depth)) (c .if1 .map) (c .if1 .n) (c .if1 .left)
-settled c =
-    let inv = c .before .before .loop .inv in
-    ⊎-elim
-    (λ w.
-    ready-marked _ _ _ _ _ _ _ _ _ _ _ (inv .0) (inv .3) _ _ _ _ _ _ (w .2 .ensures) (w .6 .given .1) (w .2 .kept .1 .1 .0 ∙ inv .1) (w .8) (w .9) (w .10))
-    (λ w. ready-kept _ _ _ _ _ _ _ _ _ _ _ (inv .0) (inv .3) _ _ _ (inv .1) (w .0 .left) (w .1) (w .2) (w .3))
-    (c .if1 .came)
-
 shared-slice-read-next-step : tie.Need-shared-slice-read-next-step Inv-loop μ-loop
 shared-slice-read-next-step c = search needs
 
 next-step-requires : tie.Need-next-step-requires Inv-loop μ-loop
 next-step-requires c κs = search needs
+
+-- a turn, once its step is found
+abbrev Turn : Type 0
+Turn = tie.After-next-step Inv-loop μ-loop
+
+abbrev start : Turn → tie.Start Inv-loop μ-loop
+start t = t .before .before .before .before .before .before .before .before .before .before .before
+
+abbrev at : Turn → tie.At-loop Inv-loop μ-loop
+at t = t .before .before .before .before
+
+-- there was a step left, and the walk was not over
+some : (t : Turn) → 0 < at t .loop .steps
+some t = t .before .before .before .loop-test .taken
+
+going : (t : Turn) → at t .loop .whole ≡ false
+going t = at t .loop .inv .4 (some t)
+
+-- fewer than 16 leaves wait
+settled : (t : Turn) →
+    let args = start t .args in
+    let w = given (args .nodes .now) (args .pages .now) (args .cap) (args .pcap) (args .next) (args .words) (args .b) (args .bytes .now) in
+    let loop = at t .loop in
+    Ready w (walkBelow w (args .x) (args .radius) (args .map .now)) (length (args .map .now)) (loop .waiting) (loop .whole) (loop .steps) (loop .frame)
+    (above noFrame (loop .stack) (loop .depth)) (t .before .before .if1 .map) (t .before .before .if1 .n) (t .before .before .if1 .left)
+settled t =
+    let inv = at t .loop .inv in
+    ⊎-elim
+    (λ w.
+    ready-marked _ _ _ _ _ _ _ _ _ _ _ (inv .0) (inv .3) _ _ _ _ _ _ (w .2 .ensures) (w .6 .given .1) (w .2 .kept .1 .1 .0 ∙ inv .1) (w .8) (w .9) (w .10))
+    (λ w. ready-kept _ _ _ _ _ _ _ _ _ _ _ (inv .0) (inv .3) _ _ _ (inv .1) (w .0 .left) (w .1) (w .2) (w .3))
+    (t .before .before .if1 .came)
 
 enum-known-at : tie.Need-enum-known-at Inv-loop μ-loop
 enum-known-at c = search needs
@@ -112,14 +129,12 @@ loop-less c = omega (arith, c .before .before .before .before .before .before .l
 
 loop-again : tie.Need-loop-again Inv-loop μ-loop
 loop-again c =
-    let at = c .before .before .before .before .before .before .before .loop in
-    let now = settled (c .before .before .before .before .before) in
-    let some = c .before .before .before .before .before .before .loop-test .taken in (
-      sym (behind-stay _ _ _ _ _ _ _ _ (at .inv .4 some) some _ (above-length _ _ _) _ (c .before .before .before .next-step .ensures) _ _ (c .before .at .given .1)) ∙ now .walk,
-      now .long,
-      held-stay _ _ _ _ _ _ (at .inv .2) _ (at .inv .2 .inside),
-      now .inside,
-      λ h. at .inv .4 some,
+    let t = c .before .before .before in (
+      sym (behind-stay _ _ _ _ _ _ _ _ (going t) (some t) _ (above-length _ _ _) _ (t .next-step .ensures) _ _ (c .before .at .given .1)) ∙ settled t .walk,
+      settled t .long,
+      held-stay _ _ _ _ _ _ (at t .loop .inv .2) _ (at t .loop .inv .2 .inside),
+      settled t .inside,
+      λ h. going t,
     )
 
 enum-known-first : tie.Need-enum-known-first Inv-loop μ-loop
@@ -127,7 +142,7 @@ enum-known-first c = search needs
 
 mark-leaf-requires : tie.Need-mark-leaf-requires Inv-loop μ-loop
 mark-leaf-requires c κs =
-    let fit = fitting-kept _ _ (c .before .before .before .before .before .before .before .if1 .map) (settled (c .before .before .before .before .before .before .before) .long) (c .before .before .before .before .before .before .before .before .before .before .before .before .before .before .before .before .pre .1 .0) in
+    let fit = fitting-kept _ _ (c .before .before .before .before .before .before .before .if1 .map) (settled (c .before .before .before .before .before) .long) (start (c .before .before .before .before .before) .pre .1 .0) in
     (fit .pages, ((fit .pcap, fit .words, fit .bits), fit .summary))
 
 enum-known-k-2 : tie.Need-enum-known-k-2 Inv-loop μ-loop
@@ -138,60 +153,55 @@ loop-less-2 c = omega (arith, c .before .before .before .before .before .before 
 
 loop-again-2 : tie.Need-loop-again-2 Inv-loop μ-loop
 loop-again-2 c =
-    let at = c .before .before .before .before .before .before .before .before .before .before .before .before .before .before .before .loop in
-    let now = settled (c .before .before .before .before .before .before .before .before .before .before .before .before .before) in
-    let some = c .before .before .before .before .before .before .before .before .before .before .before .before .before .before .loop-test .taken in (
+    let t = c .before .before .before .before .before .before .before .before .before .before .before in (
       sym
-          (leaf-marked _ _ _ _ _ _ _ _ (at .inv .4 some) some _ (above-length _ _ _) _ (c .before .before .before .before .before .before .before .before .before .before .before .next-step .ensures) (none-yet (at .waiting) (c .before .before .before .before .before .before .before .if2 .taken)) _ _ (c .before .before .before .before .before .before .before .before .before .first .given .1) _ _ (c .before .before .before .before .before .mark-leaf .ensures) _ (c .before .k2 .given .1))
-          ∙ now .walk,
-      c .before .before .before .before .before .mark-leaf .kept .1 .0 ∙ now .long,
-      held-stay _ _ _ _ _ _ (at .inv .2) _ (at .inv .2 .inside),
-      now .inside,
-      λ h. at .inv .4 some,
+          (leaf-marked _ _ _ _ _ _ _ _ (going t) (some t) _ (above-length _ _ _) _ (t .next-step .ensures) (none-yet (at t .loop .waiting) (c .before .before .before .before .before .before .before .if2 .taken)) _ _ (c .before .before .before .before .before .before .before .before .before .first .given .1) _ _ (c .before .before .before .before .before .mark-leaf .ensures) _ (c .before .k2 .given .1))
+          ∙ settled t .walk,
+      c .before .before .before .before .before .mark-leaf .kept .1 .0 ∙ settled t .long,
+      held-stay _ _ _ _ _ _ (at t .loop .inv .2) _ (at t .loop .inv .2 .inside),
+      settled t .inside,
+      λ h. going t,
     )
 
 enum-told-2 : tie.Need-enum-told-2 Inv-loop μ-loop
 enum-told-2 c = search needs
 
 same-length-2 : tie.Need-same-length-2 Inv-loop μ-loop
-same-length-2 c = c .before .before .before .before .mark-leaf .kept .1 .0 ∙ settled (c .before .before .before .before .before .before .before .before .before .before .before .before) .long
+same-length-2 c = c .before .before .before .before .mark-leaf .kept .1 .0 ∙ settled (c .before .before .before .before .before .before .before .before .before .before) .long
 
 returns-2 : tie.Need-returns-2 Inv-loop μ-loop
 returns-2 c =
-    let at = c .before .before .before .before .before .before .before .before .before .before .before .before .before .before .loop in
-    let some = c .before .before .before .before .before .before .before .before .before .before .before .before .before .loop-test .taken in
+    let t = c .before .before .before .before .before .before .before .before .before .before in
     sym
-    (leaf-failed _ _ _ _ _ _ _ _ (at .inv .4 some) some _ (above-length noFrame (at .stack) (at .depth)) _ (c .before .before .before .before .before .before .before .before .before .before .next-step .ensures) (none-yet (at .waiting) (c .before .before .before .before .before .before .if2 .taken)) _ _ (c .before .before .before .before .before .before .before .before .first .given .1) _ _ (c .before .before .before .before .mark-leaf .ensures) (c .enum-told2 .given .1))
-    ∙ settled (c .before .before .before .before .before .before .before .before .before .before .before .before) .walk
+    (leaf-failed _ _ _ _ _ _ _ _ (going t) (some t) _ (above-length noFrame (at t .loop .stack) (at t .loop .depth)) _ (t .next-step .ensures) (none-yet (at t .loop .waiting) (c .before .before .before .before .before .before .if2 .taken)) _ _ (c .before .before .before .before .before .before .before .before .first .given .1) _ _ (c .before .before .before .before .mark-leaf .ensures) (c .enum-told2 .given .1))
+    ∙ settled t .walk
 
 ended-requires-2 : tie.Need-ended-requires-2 Inv-loop μ-loop
 ended-requires-2 c κs = search needs
 
 mul-waiting : tie.Need-mul-waiting Inv-loop μ-loop
-mul-waiting c = record { fits = omega (arith, settled (c .before .before .before .before .before .before .before .before) .room) }
+mul-waiting c = record { fits = omega (arith, settled (c .before .before .before .before .before .before) .room) }
 
 array-set-from-waiting : tie.Need-array-set-from-waiting Inv-loop μ-loop
-array-set-from-waiting c = let now = settled (c .before .before .before .before .before .before .before .before) in omega (arith, now .room, now .inside .long)
+array-set-from-waiting c = let now = settled (c .before .before .before .before .before .before) in omega (arith, now .room, now .inside .long)
 
 add-n : tie.Need-add-n Inv-loop μ-loop
-add-n c = record { fits = omega (arith, settled (c .before .before .before .before .before .before .before .before) .room) }
+add-n c = record { fits = omega (arith, settled (c .before .before .before .before .before .before) .room) }
 
 loop-less-3 : tie.Need-loop-less-3 Inv-loop μ-loop
 loop-less-3 c = omega (arith, c .before .before .before .before .before .before .before .before .before .loop-test .taken)
 
 loop-again-3 : tie.Need-loop-again-3 Inv-loop μ-loop
 loop-again-3 c =
-    let at = c .before .before .before .before .before .before .before .before .before .before .loop in
-    let now = settled (c .before .before .before .before .before .before .before .before) in
-    let some = c .before .before .before .before .before .before .before .before .before .loop-test .taken in (
+    let t = c .before .before .before .before .before .before in (
       sym
-          (behind-leaf _ _ _ _ _ _ _ _ (at .inv .4 some) some _ (above-length _ _ _) _ (c .before .before .before .before .before .before .next-step .ensures) _ _ _ _ (c .before .before .before .before .first .given .1) (c .before .ended2 .ensures)
-          (take-put (at .waiting) (c .before .before .before .before .before .before .before .before .if1 .n) _ (omega (arith, now .room, now .inside .long))))
-          ∙ now .walk,
-      now .long,
-      held-stay _ _ _ _ _ _ (at .inv .2) _ (at .inv .2 .inside),
-      inside-put _ _ _ _ (now .inside) (now .room) (inside-ended _ _ _ (c .before .ended2 .ensures) (c .before .before .before .before .before .before .before .before .before .before .before .before .before .before .before .before .before .pre .1 .0 .some)),
-      λ h. at .inv .4 some,
+          (behind-leaf _ _ _ _ _ _ _ _ (going t) (some t) _ (above-length _ _ _) _ (t .next-step .ensures) _ _ _ _ (c .before .before .before .before .first .given .1) (c .before .ended2 .ensures)
+          (take-put (at t .loop .waiting) (t .before .before .if1 .n) _ (omega (arith, settled t .room, settled t .inside .long))))
+          ∙ settled t .walk,
+      settled t .long,
+      held-stay _ _ _ _ _ _ (at t .loop .inv .2) _ (at t .loop .inv .2 .inside),
+      inside-put _ _ _ _ (settled t .inside) (settled t .room) (inside-ended _ _ _ (c .before .ended2 .ensures) (start t .pre .1 .0 .some)),
+      λ h. going t,
     )
 
 enum-known-child : tie.Need-enum-known-child Inv-loop μ-loop
@@ -214,30 +224,28 @@ arrive-requires c κs =
     )
 
 mul-waiting-2 : tie.Need-mul-waiting-2 Inv-loop μ-loop
-mul-waiting-2 c = record { fits = omega (arith, settled (c .before .before .before .before .before .before .before) .room) }
+mul-waiting-2 c = record { fits = omega (arith, settled (c .before .before .before .before .before) .room) }
 
 array-set-from-waiting-2 : tie.Need-array-set-from-waiting-2 Inv-loop μ-loop
-array-set-from-waiting-2 c = let now = settled (c .before .before .before .before .before .before .before) in omega (arith, now .room, now .inside .long)
+array-set-from-waiting-2 c = let now = settled (c .before .before .before .before .before) in omega (arith, now .room, now .inside .long)
 
 add-n-2 : tie.Need-add-n-2 Inv-loop μ-loop
-add-n-2 c = record { fits = omega (arith, settled (c .before .before .before .before .before .before .before) .room) }
+add-n-2 c = record { fits = omega (arith, settled (c .before .before .before .before .before) .room) }
 
 loop-less-4 : tie.Need-loop-less-4 Inv-loop μ-loop
 loop-less-4 c = omega (arith, c .before .before .before .before .before .before .before .before .loop-test .taken)
 
 loop-again-4 : tie.Need-loop-again-4 Inv-loop μ-loop
 loop-again-4 c =
-    let at = c .before .before .before .before .before .before .before .before .before .loop in
-    let now = settled (c .before .before .before .before .before .before .before) in
-    let some = c .before .before .before .before .before .before .before .before .loop-test .taken in (
+    let t = c .before .before .before .before .before in (
       sym
-          (behind-exact _ _ _ _ _ _ _ _ (at .inv .4 some) some _ (above-length _ _ _) _ (c .before .before .before .before .before .next-step .ensures) _ _ _ _ (c .before .before .before .child .given .1) (c .before .arrive .ensures)
-          (take-put (at .waiting) (c .before .before .before .before .before .before .before .if1 .n) _ (omega (arith, now .room, now .inside .long))))
-          ∙ now .walk,
-      now .long,
-      held-stay _ _ _ _ _ _ (at .inv .2) _ (at .inv .2 .inside),
-      inside-put _ _ _ _ (now .inside) (now .room) (inside-arrived _ _ _ _ _ _ _ (c .before .arrive .ensures) (omega (arith, c .before .before .before .before .before .before .before .before .before .before .before .before .before .before .before .before .pre .1 .0 .some))),
-      λ h. at .inv .4 some,
+          (behind-exact _ _ _ _ _ _ _ _ (going t) (some t) _ (above-length _ _ _) _ (t .next-step .ensures) _ _ _ _ (c .before .before .before .child .given .1) (c .before .arrive .ensures)
+          (take-put (at t .loop .waiting) (t .before .before .if1 .n) _ (omega (arith, settled t .room, settled t .inside .long))))
+          ∙ settled t .walk,
+      settled t .long,
+      held-stay _ _ _ _ _ _ (at t .loop .inv .2) _ (at t .loop .inv .2 .inside),
+      inside-put _ _ _ _ (settled t .inside) (settled t .room) (inside-arrived _ _ _ _ _ _ _ (c .before .arrive .ensures) (omega (arith, start t .pre .1 .0 .some))),
+      λ h. going t,
     )
 
 enum-known-child-2 : tie.Need-enum-known-child-2 Inv-loop μ-loop
@@ -251,15 +259,13 @@ loop-less-5 c = omega (arith, c .before .before .before .before .before .before 
 
 loop-again-5 : tie.Need-loop-again-5 Inv-loop μ-loop
 loop-again-5 c =
-    let at = c .before .before .before .before .before .before .before .before .loop in
-    let now = settled (c .before .before .before .before .before .before) in
-    let some = c .before .before .before .before .before .before .before .loop-test .taken in (
-      sym (behind-deep _ _ _ _ _ _ _ _ (at .inv .4 some) some _ (above-length _ _ _) _ (c .before .before .before .before .next-step .ensures) _ _ _ (c .before .before .child2 .given .1) (c .if3 .taken))
-          ∙ now .walk,
-      now .long,
-      at .inv .2,
-      now .inside,
-      λ h. at .inv .4 some,
+    let t = c .before .before .before .before in (
+      sym (behind-deep _ _ _ _ _ _ _ _ (going t) (some t) _ (above-length _ _ _) _ (t .next-step .ensures) _ _ _ (c .before .before .child2 .given .1) (c .if3 .taken))
+          ∙ settled t .walk,
+      settled t .long,
+      at t .loop .inv .2,
+      settled t .inside,
+      λ h. going t,
     )
 
 mul-stack : tie.Need-mul-stack Inv-loop μ-loop
@@ -284,20 +290,18 @@ loop-less-6 c = omega (arith, c .before .before .before .before .before .before 
 
 loop-again-6 : tie.Need-loop-again-6 Inv-loop μ-loop
 loop-again-6 c =
-    let at = c .before .before .before .before .before .before .before .before .before .loop in
-    let now = settled (c .before .before .before .before .before .before .before) in
-    let some = c .before .before .before .before .before .before .before .before .loop-test .taken in
-    let held = at .inv .2 in
-    let in-table = down-within _ _ _ _ _ _ (c .before .before .before .before .before .next-step .ensures) _ _ _ (c .before .before .before .child2 .given .1) in (
+    let t = c .before .before .before .before .before in
+    let held = at t .loop .inv .2 in
+    let in-table = down-within _ _ _ _ _ _ (t .next-step .ensures) _ _ _ (c .before .before .before .child2 .given .1) in (
       sym
-          (behind-down _ _ _ _ _ _ _ _ (at .inv .4 some) some _ (above-length _ _ _) _ (c .before .before .before .before .before .next-step .ensures) _ _ _ _ _ (c .before .before .before .child2 .given .1) (c .before .if3 .left)
+          (behind-down _ _ _ _ _ _ _ _ (going t) (some t) _ (above-length _ _ _) _ (t .next-step .ensures) _ _ _ _ _ (c .before .before .before .child2 .given .1) (c .before .if3 .left)
           (c .enter2 .ensures)
           (above-put _ _ _ _ (omega (arith, held .level, held .levels, held .room))))
-          ∙ now .walk,
-      now .long,
+          ∙ settled t .walk,
+      settled t .long,
       held-down _ _ _ _ _ _ held _ _ (held .inside) (inside-entered _ _ _ _ _ (c .enter2 .ensures) in-table) (c .before .if3 .left),
-      now .inside,
-      λ h. at .inv .4 some,
+      settled t .inside,
+      λ h. going t,
     )
 
 enum-told-3 : tie.Need-enum-told-3 Inv-loop μ-loop
@@ -308,14 +312,12 @@ loop-less-7 c = omega (arith, c .before .before .before .before .before .before 
 
 loop-again-7 : tie.Need-loop-again-7 Inv-loop μ-loop
 loop-again-7 c =
-    let at = c .before .before .before .before .before .before .before .loop in
-    let now = settled (c .before .before .before .before .before) in
-    let some = c .before .before .before .before .before .before .loop-test .taken in (
-      sym (behind-done _ _ _ _ _ _ _ _ (at .inv .4 some) some _ (above-length _ _ _) _ (c .before .before .before .next-step .ensures) (c .before .enum-told3 .given .1) (c .if4 .taken))
-          ∙ now .walk,
-      now .long,
-      at .inv .2,
-      now .inside,
+    let t = c .before .before .before in (
+      sym (behind-done _ _ _ _ _ _ _ _ (going t) (some t) _ (above-length _ _ _) _ (t .next-step .ensures) (c .before .enum-told3 .given .1) (c .if4 .taken))
+          ∙ settled t .walk,
+      settled t .long,
+      at t .loop .inv .2,
+      settled t .inside,
       λ h. absurd (omega arith),
     )
 
@@ -333,17 +335,15 @@ loop-less-8 c = omega (arith, c .before .before .before .before .before .before 
 
 loop-again-8 : tie.Need-loop-again-8 Inv-loop μ-loop
 loop-again-8 c =
-    let at = c .before .before .before .before .before .before .before .before .loop in
-    let now = settled (c .before .before .before .before .before .before) in
-    let some = c .before .before .before .before .before .before .before .loop-test .taken in (
+    let t = c .before .before .before .before in (
       sym
-          (behind-up _ _ _ _ _ _ _ _ (at .inv .4 some) some _ (above-length _ _ _) _ (c .before .before .before .before .next-step .ensures) _ _ (c .before .before .enum-told3 .given .1)
+          (behind-up _ _ _ _ _ _ _ _ (going t) (some t) _ (above-length _ _ _) _ (t .next-step .ensures) _ _ (c .before .before .enum-told3 .given .1)
           (above-take _ _ _ (omega arith)))
-          ∙ now .walk,
-      now .long,
-      held-up _ _ _ _ _ _ (at .inv .2) (omega arith),
-      now .inside,
-      λ h. at .inv .4 some,
+          ∙ settled t .walk,
+      settled t .long,
+      held-up _ _ _ _ _ _ (at t .loop .inv .2) (omega arith),
+      settled t .inside,
+      λ h. going t,
     )
 
 enum-told-4 : tie.Need-enum-told-4 Inv-loop μ-loop
@@ -354,14 +354,12 @@ loop-less-9 c = omega (arith, c .before .before .before .before .before .loop-te
 
 loop-again-9 : tie.Need-loop-again-9 Inv-loop μ-loop
 loop-again-9 c =
-    let at = c .before .before .before .before .before .before .loop in
-    let now = settled (c .before .before .before .before) in
-    let some = c .before .before .before .before .before .loop-test .taken in (
-      sym (behind-broken _ _ _ _ _ _ _ _ (at .inv .4 some) some _ (above-length _ _ _) _ (c .before .before .next-step .ensures) (c .enum-told4 .given .1)) ∙ now .walk,
-      now .long,
-      at .inv .2,
-      now .inside,
-      λ h. at .inv .4 some,
+    let t = c .before .before in (
+      sym (behind-broken _ _ _ _ _ _ _ _ (going t) (some t) _ (above-length _ _ _) _ (t .next-step .ensures) (c .enum-told4 .given .1)) ∙ settled t .walk,
+      settled t .long,
+      at t .loop .inv .2,
+      settled t .inside,
+      λ h. going t,
     )
 
 mark-waiting-requires-2 : tie.Need-mark-waiting-requires-2 Inv-loop μ-loop
