@@ -4,11 +4,12 @@ ghost use mathlib.Core.Path.{_≡_};
 ghost use Prim.Native.Nat.{_≤_};
 ghost use mathlib.Core.List.{[]};
 ghost use lib.Dec.{eqb};
-ghost use Rattle.meaning.specs.Ledger.{join, leave, grant, revoke, show};
+ghost use lib.ListN.{take};
+ghost use lib.ListN.{drop as skip};
+ghost use Rattle.meaning.specs.Ledger.{opening, add, drop, join, leave, grant, revoke, search, show, check};
 ghost use Rattle.promises.specs.Tables.{tables, showTables};
-ghost use Rattle.promises.specs.Answers.{number};
-ghost use Rattle.promises.specs.Calls.{OpenPromise, settingsGiven, RightsPromise, startShown, lengthShown};
-ghost use Rattle.store.specs.Calls.{AddPromise, DropPromise, SearchPromise, CheckPromise};
+ghost use Rattle.promises.specs.Calls.{settingsGiven, startShown, lengthShown};
+ghost use Rattle.store.specs.Relation.{numberAlone, withList, withVerdict, Promised, OnSettings, OnStore, OnShow};
 ghost use Rattle.index.specs.Lengths.{lengthsOf};
 
 #[no_mangle]
@@ -54,7 +55,7 @@ pub extern "C" fn vetch_open(
     node_capacity: u32,
     thresholds: &[u16],
 ) -> u32
-    ensures { λ r. ⌜ OpenPromise (settingsGiven b m q «page_capacity» «node_capacity» (now (thresholds .entry))) (tables (now (settings .entry)) (now (nodes .entry)) (now (pages .entry)) (now (sketches .entry)) (now (working .entry))) r (now (settings .exit)) (now (nodes .exit)) (now (pages .exit)) ⌝ }
+    ensures { λ r. ⌜ Promised (opening (settingsGiven b m q «page_capacity» «node_capacity» (now (thresholds .entry)))) (tables (now (settings .entry)) (now (nodes .entry)) (now (pages .entry)) (now (sketches .entry)) (now (working .entry))) (numberAlone r) (tables (now (settings .exit)) (now (nodes .exit)) (now (pages .exit)) (now (sketches .entry)) (now (working .entry))) ⌝ }
 {
     index::open::open(
         settings,
@@ -81,7 +82,7 @@ pub extern "C" fn vetch_add(
     class: u32,
     sketch: &[u8],
 ) -> u32
-    ensures { λ r. ⌜ AddPromise (tables (now (settings .entry)) (now (nodes .entry)) (now (pages .entry)) (now (sketches .entry)) []) page «class» (now (sketch .entry)) r (tables (now (settings .exit)) (now (nodes .exit)) (now (pages .exit)) (now (sketches .exit)) []) ⌝ }
+    ensures { λ r. ⌜ OnStore (add page «class» (now (sketch .entry))) (tables (now (settings .entry)) (now (nodes .entry)) (now (pages .entry)) (now (sketches .entry)) []) r (tables (now (settings .exit)) (now (nodes .exit)) (now (pages .exit)) (now (sketches .exit)) []) ⌝ }
 {
     add_page::add::add(settings, nodes, pages, sketches, page, class, sketch)
 }
@@ -94,7 +95,7 @@ pub extern "C" fn vetch_drop(
     sketches: &[u8],
     page: u32,
 ) -> u32
-    ensures { λ r. ⌜ DropPromise (tables (now (settings .entry)) (now (nodes .entry)) (now (pages .entry)) (now (sketches .entry)) []) page r (tables (now (settings .exit)) (now (nodes .exit)) (now (pages .exit)) (now (sketches .entry)) []) ⌝ }
+    ensures { λ r. ⌜ OnStore (drop page) (tables (now (settings .entry)) (now (nodes .entry)) (now (pages .entry)) (now (sketches .entry)) []) r (tables (now (settings .exit)) (now (nodes .exit)) (now (pages .exit)) (now (sketches .entry)) []) ⌝ }
 {
     drop_page::drop::drop_page(settings, nodes, pages, sketches, page)
 }
@@ -112,7 +113,7 @@ pub extern "C" fn vetch_search(
     output: &mut [u16],
     count: &mut u32,
 ) -> u32
-    ensures { λ r. ⌜ SearchPromise (tables (now (settings .entry)) (now (nodes .entry)) (now (pages .entry)) (now (sketches .entry)) (now (working .entry))) reader radius (now (sketch .entry)) (now (output .entry)) r (now (count .exit)) (now (output .exit)) (now (working .exit)) ⌝ }
+    ensures { λ r. ⌜ Promised (search reader radius (now (sketch .entry)) (now (output .entry))) (tables (now (settings .entry)) (now (nodes .entry)) (now (pages .entry)) (now (sketches .entry)) (now (working .entry))) (withList r (now (count .exit)) (now (output .exit))) (tables (now (settings .entry)) (now (nodes .entry)) (now (pages .entry)) (now (sketches .entry)) (now (working .exit))) ⌝ }
 {
     let found = search::search::search(
         settings,
@@ -131,28 +132,28 @@ pub extern "C" fn vetch_search(
 
 #[no_mangle]
 pub extern "C" fn vetch_join(settings: &mut [u32], reader: u32, group: u32) -> u32
-    ensures { λ r. ⌜ RightsPromise (join reader group) (now (settings .entry)) r (now (settings .exit)) ⌝ }
+    ensures { λ r. ⌜ OnSettings (join reader group) (now (settings .entry)) r (now (settings .exit)) ⌝ }
 {
     index::register::join(settings, reader, group)
 }
 
 #[no_mangle]
 pub extern "C" fn vetch_leave(settings: &mut [u32], reader: u32, group: u32) -> u32
-    ensures { λ r. ⌜ RightsPromise (leave reader group) (now (settings .entry)) r (now (settings .exit)) ⌝ }
+    ensures { λ r. ⌜ OnSettings (leave reader group) (now (settings .entry)) r (now (settings .exit)) ⌝ }
 {
     index::register::leave(settings, reader, group)
 }
 
 #[no_mangle]
 pub extern "C" fn vetch_grant(settings: &mut [u32], group: u32, class: u32) -> u32
-    ensures { λ r. ⌜ RightsPromise (grant group class) (now (settings .entry)) r (now (settings .exit)) ⌝ }
+    ensures { λ r. ⌜ OnSettings (grant group class) (now (settings .entry)) r (now (settings .exit)) ⌝ }
 {
     index::register::grant(settings, group, class)
 }
 
 #[no_mangle]
 pub extern "C" fn vetch_revoke(settings: &mut [u32], group: u32, class: u32) -> u32
-    ensures { λ r. ⌜ RightsPromise (revoke group class) (now (settings .entry)) r (now (settings .exit)) ⌝ }
+    ensures { λ r. ⌜ OnSettings (revoke group class) (now (settings .entry)) r (now (settings .exit)) ⌝ }
 {
     index::register::revoke(settings, group, class)
 }
@@ -168,7 +169,7 @@ pub extern "C" fn vetch_show(
     start: &mut u32,
     length: &mut u32,
 ) -> u32
-    ensures { λ r. ⌜ r ≡ number (showTables (now (settings .entry)) (now (pages .entry)) (now (sketches .entry))) [] (show reader page) ⌝ }
+    ensures { λ r. ⌜ OnShow reader page (showTables (now (settings .entry)) (now (pages .entry)) (now (sketches .entry))) r (take (now (length .exit)) (skip (now (start .exit)) (now (sketches .entry)))) ⌝ }
     ensures { λ r. ⌜ now (start .exit) ≡ startShown (showTables (now (settings .entry)) (now (pages .entry)) (now (sketches .entry))) reader page ⌝ }
     ensures { λ r. ⌜ now (length .exit) ≡ lengthShown (showTables (now (settings .entry)) (now (pages .entry)) (now (sketches .entry))) reader page ⌝ }
 {
@@ -188,7 +189,7 @@ pub extern "C" fn vetch_check(
     working: &mut [u32],
     sound: &mut u32,
 ) -> u32
-    ensures { λ r. ⌜ CheckPromise (tables (now (settings .entry)) (now (nodes .entry)) (now (pages .entry)) (now (sketches .entry)) (now (working .entry))) r (eqb (now (sound .exit)) 1) (now (working .exit)) ⌝ }
+    ensures { λ r. ⌜ Promised check (tables (now (settings .entry)) (now (nodes .entry)) (now (pages .entry)) (now (sketches .entry)) (now (working .entry))) (withVerdict r (eqb (now (sound .exit)) 1)) (tables (now (settings .entry)) (now (nodes .entry)) (now (pages .entry)) (now (sketches .entry)) (now (working .exit))) ⌝ }
     ensures { λ r. ⌜ now (sound .exit) ≤ 1 ⌝ }
 {
     let verdict = check_store::check(settings, nodes, pages, sketches, working);

@@ -2,12 +2,13 @@
 ghost use mathlib.Core.Path.{_≡_};
 ghost use Prim.Native.Nat.{_≤_};
 ghost use lib.ListN.{length};
+ghost use Rattle.meaning.specs.Ledger.{check};
 ghost use Rattle.layout.specs.Header.{bare};
 ghost use Rattle.promises.specs.Tables.{tables};
 ghost use Rattle.check_store.specs.Lent.{Lent};
 ghost use Rattle.check_store.specs.Windows.{passed};
 ghost use Rattle.check_store.specs.Store.{testStore};
-ghost use Rattle.store.specs.Calls.{CheckPromise};
+ghost use Rattle.store.specs.Relation.{withVerdict, Promised};
 use layout::Header;
 use layout::Opening;
 use trie_check::leaf::Left;
@@ -54,7 +55,7 @@ pub fn check(
     sketches: &[u8],
     working: &mut [u32],
 ) -> Verdict
-    ensures { λ r. ⌜ CheckPromise (tables (now (settings .entry)) (now (nodes .entry)) (now (pages .entry)) (now (sketches .entry)) (now (working .entry))) (r .number) (r .sound) (now (working .exit)) ⌝ }
+    ensures { λ r. ⌜ Promised check (tables (now (settings .entry)) (now (nodes .entry)) (now (pages .entry)) (now (sketches .entry)) (now (working .entry))) (withVerdict (r .number) (r .sound)) (tables (now (settings .entry)) (now (nodes .entry)) (now (pages .entry)) (now (sketches .entry)) (now (working .exit))) ⌝ }
 {
     let h = match index::tables::enter(settings, nodes, pages, sketches, working) {
         Opening::Refused(number) => {

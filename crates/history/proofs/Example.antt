@@ -1,9 +1,9 @@
 -- A small history whose tables compute, so that no hypothesis of the theorem is empty; and a page added to its tables.
-use mathlib.Core.Path.{_≡_, refl, sym}
+use mathlib.Core.Path.{_≡_, refl}
 use mathlib.Core.Bool.{true}
 use mathlib.Core.List.{List, [], _∷_}
-use Prim.Native.Nat.{ℕ, _+_}
-use lib.ListN.{length, getD, set, replicate}
+use Prim.Native.Nat.{ℕ}
+use lib.ListN.{getD, set, replicate}
 use Rattle.meaning.specs.Lists.{all, any, keep, onto, from, upto, sum}
 use Rattle.meaning.specs.Refusal.{firstNo}
 use Rattle.meaning.specs.Ledger.{Settings, Event, opening, add, join, grant, accept, step, ledger, withRows, withMembers, withGrants, putRow, calledFor, listed}
@@ -23,13 +23,11 @@ use Rattle.promises.specs.Tables.{Tables, withSettings}
 use Rattle.promises.specs.Answers.{longFor, longSettings, longNodes, longPages, longWorking, entered, shown56, number, freeLink, freshSettings, freshChain, freshState, freshNodes, freshPages, opened, registered}
 use Rattle.promises.specs.Calls.{OpenPromise, RightsPromise}
 use Rattle.store.specs.Calls.{SameRest, PageAdded}
-use Rattle.history.specs.Relation.{toStore}
+use Rattle.store.specs.Relation.{toStore, numberAlone}
 use Rattle.history.specs.History.{event, History, begun, called, admitted, judged}
 use Rattle.history.proofs.Represents.{Represents}
 use Rattle.history.proofs.Steps.{adds}
-use Rattle.history.proofs.Contracts.{numberAlone, from-open, from-rights}
 use Rattle.history.proofs.Main.{represents}
-use Rattle.history.proofs.Exist.{of-length}
 
 s : Settings
 s = record { bits = 2; symbols = 4; blocks = 2; pages = 3; nodes = 5; thresholds = replicate 64 1 }
@@ -68,16 +66,12 @@ opened-tables = withSettings first third
 history : History events opened-tables
 unfolding events opened-tables first opened
 history =
-    let begins = begun s held (numberAlone 0) first (from-open held 0 s (first .settings) (first .nodes) (first .pages) opening-promise) refl in
-    let joins = called begins (join 5 1) (numberAlone 0) (withSettings first second) (from-rights first 0 (join 5 1) second join-promise) in
-    called joins (grant 1 3) (numberAlone 0) (withSettings first third) (from-rights (withSettings first second) 0 (grant 1 3) third grant-promise)
+    let begins = begun s held (numberAlone 0) first (opening-promise, refl) refl in
+    let joins = called begins (join 5 1) (numberAlone 0) (withSettings first second) (join-promise, refl) in
+    called joins (grant 1 3) (numberAlone 0) (withSettings first third) (grant-promise, refl)
 
 shown : Represents opened-tables (ledger events)
 shown = represents history .tables
-
--- and there is one of every length
-of-any-length : (n : ℕ) → (es : List Event) × (T : Tables) × (History es T) × (length es ≡ n + 1)
-of-any-length = of-length s held (sym (opening-promise .answers))
 
 -- the words of reader 5 and of group 1
 words : (getD third 75 0 ≡ 2) × (getD third 328 0 ≡ 8)

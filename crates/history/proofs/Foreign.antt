@@ -16,7 +16,7 @@ use Rattle.layout.specs.Settings.{showsOpening}
 use Rattle.promises.specs.Tables.{Tables, given, scan, byTables}
 use Rattle.promises.specs.Answers.{longFor, longSettings, entered, shown56, number}
 use Rattle.store.specs.Calls.{Lists, SearchPromise, workingLeft, listedOf}
-use Rattle.history.specs.Relation.{Answer, Registers, Promised}
+use Rattle.store.specs.Relation.{Answer, Registers, Promised}
 use Rattle.history.proofs.Lists.{passed}
 use Rattle.history.proofs.Opening.{left-by}
 use Rattle.history.proofs.Numbers.{early}

@@ -20,7 +20,7 @@ use Rattle.promises.specs.Tables.{Tables, withSettings, pageClass, pageRow, row
 use Rattle.promises.specs.Answers.{entered, shown56, registered}
 use Rattle.store.specs.Sound.{Sound}
 use Rattle.store.specs.Calls.{workingLeft}
-use Rattle.history.specs.Relation.{Answer, toStore, withWorking, Registers, Promised}
+use Rattle.store.specs.Relation.{Answer, toStore, withWorking, Registers, Promised}
 use Rattle.history.specs.History.{event, admitted, judged, zeroed}
 use Rattle.history.proofs.Represents.{Represents, given-eq, long-working, past-6}
 use Rattle.history.proofs.Opening.{onto-length, started, entered-4-5, left-by}

@@ -11,6 +11,4 @@ pub mod Numbers
 pub mod Keeps
 pub mod Main
 pub mod Foreign
-pub mod Contracts
-pub mod Exist
 pub mod Example

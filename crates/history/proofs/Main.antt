@@ -17,7 +17,7 @@ use Rattle.meaning.specs.Forest.{forest, forestAfter}
 use Rattle.promises.specs.Tables.{Tables, pageRow, scan}
 use Rattle.promises.specs.Answers.{entered}
 use Rattle.promises.specs.Calls.{rowShown}
-use Rattle.history.specs.Relation.{Answer, toShow, Promised}
+use Rattle.store.specs.Relation.{Answer, toShow, Promised}
 use Rattle.history.specs.History.{History, begun, called, foreign, admitted, judged, RightlyPut, Found, sketchIn, Claim, Agree}
 use Rattle.history.proofs.Lists.{passed}
 use Rattle.history.proofs.Represents.{found-eq, number-eq}

@@ -16,7 +16,7 @@ use Rattle.promises.specs.Tables.{Tables, given, pageClass, pageRow, isShown, s
 use Rattle.promises.specs.Answers.{longFor, longSettings, longNodes, longPages, shown56, entered, number}
 use Rattle.layout.specs.Settings.{showsOpening}
 use Rattle.store.specs.Sound.{Sound}
-use Rattle.history.specs.Relation.{Answer, toStore, toShow, Promised}
+use Rattle.store.specs.Relation.{Answer, toStore, toShow, Promised}
 use Rattle.history.specs.History.{judged}
 use Rattle.history.proofs.Represents.{Represents, number-eq}
 use Rattle.history.proofs.Store.{sound-working}

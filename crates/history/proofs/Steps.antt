@@ -24,7 +24,7 @@ use Rattle.rights.proofs.Pairs.{Holds, holds-same, holds-join, holds-leave, hol
 use Rattle.promises.specs.Tables.{Tables, withSettings, pageClass, pageRow, rowsOf}
 use Rattle.promises.specs.Answers.{longSettings, registered}
 use Rattle.store.specs.Calls.{SameRest, PageAdded, PageDropped}
-use Rattle.history.specs.Relation.{toStore, withWorking}
+use Rattle.store.specs.Relation.{toStore, withWorking}
 use Rattle.history.specs.History.{admitted, judged}
 use Rattle.history.proofs.Lists.{passed}
 use Rattle.history.proofs.Pages.{rowsIn, rows-add, rows-drop, live-add, live-drop, class-add, class-drop}

@@ -15,7 +15,7 @@ use Rattle.layout.specs.Lengths.{workingLength}
 use Rattle.promises.specs.Tables.{Tables}
 use Rattle.promises.specs.Answers.{entered}
 use Rattle.store.specs.Sound.{Sound}
-use Rattle.history.specs.Relation.{Answer, Promised}
+use Rattle.store.specs.Relation.{Answer, Promised}
 
 -- a call that gave this number
 abbrev pub event : Call → ℕ → Event

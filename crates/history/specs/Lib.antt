@@ -1,2 +1,1 @@
-pub mod Relation
 pub mod History

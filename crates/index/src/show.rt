@@ -7,6 +7,7 @@ ghost use Rattle.meaning.specs.Ledger.{show};
 ghost use Rattle.promises.specs.Tables.{showTables};
 ghost use Rattle.promises.specs.Answers.{number};
 ghost use Rattle.promises.specs.Calls.{startShown, rowShown};
+ghost use Rattle.store.specs.Relation.{OnShow};
 ghost use Rattle.index.specs.Show.{noRow, placeOf};
 use crate::tables;
 use layout::Opening;
@@ -66,7 +67,7 @@ pub fn find_row(settings: &[u32], pages: &[u32], sketches: &[u8], reader: u32, p
 
 // The refusal's number, or 0 where the row is shown.
 pub fn show_number(settings: &[u32], pages: &[u32], sketches: &[u8], reader: u32, page: u32) -> u32
-    ensures { λ r. ⌜ r ≡ number (showTables (now (settings .entry)) (now (pages .entry)) (now (sketches .entry))) [] (show reader page) ⌝ }
+    ensures { λ r. ⌜ OnShow reader page (showTables (now (settings .entry)) (now (pages .entry)) (now (sketches .entry))) r (rowShown (showTables (now (settings .entry)) (now (pages .entry)) (now (sketches .entry))) reader page) ⌝ }
 {
     find_row(settings, pages, sketches, reader, page).number
 }
@@ -79,7 +80,7 @@ pub fn show<'a>(
     reader: u32,
     page: u32,
 ) -> &'a [u8]
-    ensures { λ r. ⌜ now r ≡ rowShown (showTables (now (settings .entry)) (now (pages .entry)) (now (sketches .entry))) reader page ⌝ }
+    ensures { λ r. ⌜ OnShow reader page (showTables (now (settings .entry)) (now (pages .entry)) (now (sketches .entry))) (number (showTables (now (settings .entry)) (now (pages .entry)) (now (sketches .entry))) [] (show reader page)) (now r) ⌝ }
     ensures { λ r. ⌜ r .ptr .0 ≡ sketches .entry .ptr .0 ⌝ }
     ensures { λ r. ⌜ r .ptr .1 ≡ sketches .entry .ptr .1 + startShown (showTables (now (settings .entry)) (now (pages .entry)) (now (sketches .entry))) reader page ⌝ }
 {

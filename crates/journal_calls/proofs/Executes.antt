@@ -10,31 +10,30 @@ use lib.ListN.{length, replicate}
 use borrow.Author.Tests.{leb-true, eqb-true, eqb-false}
 use Rattle.meaning.specs.Ledger.{join, leave, grant, revoke}
 use Rattle.meaning.specs.Journal.{opens, adds, drops, joins, leaves, grants, revokes, searches, callOf}
-use Rattle.promises.specs.Tables.{Tables, withSettings}
+use Rattle.promises.specs.Tables.{Tables, tables, withSettings}
 use Rattle.promises.specs.Calls.{OpenPromise, RightsPromise, settingsGiven}
 use Rattle.store.specs.Calls.{AddPromise, DropPromise, SearchPromise, Lists, earlyNumber, listedOf}
-use Rattle.history.specs.Relation.{toStore, withOpening, withWorking}
+use Rattle.store.specs.Relation.{toStore, withOpening, withWorking}
 use Rattle.history.proofs.Lists.{passed}
-use Rattle.history.proofs.Contracts.{leftStore}
-use Rattle.journal_calls.specs.Turns.{foundAfter, Executed}
+use Rattle.journal_calls.specs.Turns.{pageCapacity, nodeCapacity, foundAfter, Executed}
 
 -- a call that gives a number alone
 module _ (T : Tables) (found : List ℕ) (r : ℕ) {n k : ℕ} (e : n ≡ r) (z : k ≡ 0) where
-  pub open-executed : (b m q t : ℕ) (settings nodes pages : List ℕ) → OpenPromise (settingsGiven b m q 512 1024 (replicate 64 t)) T r settings nodes pages
+  pub open-executed : (b m q t : ℕ) (settings nodes pages : List ℕ) → OpenPromise (settingsGiven b m q pageCapacity nodeCapacity (replicate 64 t)) T r settings nodes pages
       → Executed (opens b m q t) T found n k (withOpening T settings nodes pages) found
   unfolding callOf foundAfter
   open-executed b m q t settings nodes pages p = record { promised = (rw e p, refl); output = refl; inside = λ _. omega (arith, z) }
 
-  module _ (settings nodes pages sketches : List ℕ) where
-    pub add-executed : (p c : ℕ) (x : List ℕ) → AddPromise (toStore T) p c x r (leftStore settings nodes pages sketches [])
-        → Executed (adds p c x) T found n k (leftStore settings nodes pages sketches (T .working)) found
+  module _ (settings nodes pages : List ℕ) where
+    pub add-executed : (sketches : List ℕ) (p c : ℕ) (x : List ℕ) → AddPromise (toStore T) p c x r (tables settings nodes pages sketches [])
+        → Executed (adds p c x) T found n k (tables settings nodes pages sketches (T .working)) found
     unfolding callOf foundAfter
-    add-executed p c x h = record { promised = (rw e h, refl); output = refl; inside = λ _. omega (arith, z) }
+    add-executed sketches p c x h = record { promised = (rw e h, refl); output = refl; inside = λ _. omega (arith, z) }
 
-    pub drop-executed : (p : ℕ) → DropPromise (toStore T) p r (leftStore settings nodes pages sketches [])
-        → Executed (drops p) T found n k (leftStore settings nodes pages sketches (T .working)) found
+    pub drop-executed : (p : ℕ) → DropPromise (toStore T) p r (tables settings nodes pages (T .sketches) [])
+        → Executed (drops p) T found n k (tables settings nodes pages (T .sketches) (T .working)) found
     unfolding callOf foundAfter
-    drop-executed p h = record { promised = (rw e h, refl); output = refl; inside = λ _. omega (arith, z) }
+    drop-executed p h = record { promised = (rw e h, refl, refl); output = refl; inside = λ _. omega (arith, z) }
 
   module _ (x y : ℕ) (settings : List ℕ) where
     pub join-executed : RightsPromise (join x y) (T .settings) r settings → Executed (joins x y) T found n k (withSettings T settings) found

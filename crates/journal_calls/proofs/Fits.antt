@@ -19,23 +19,23 @@ use Rattle.layout.proofs.Limits.{bounds}
 use Rattle.promises.specs.Tables.{Tables}
 use Rattle.promises.specs.Answers.{longNodes, longPages, longWorking, longFor, longSettings, entered, number}
 use Rattle.promises.specs.Calls.{settingsGiven}
-use Rattle.history.specs.Relation.{Answer, Promised}
-use Rattle.journal_calls.specs.Turns.{made}
-use Rattle.journal_calls.specs.Runs.{Roomy}
+use Rattle.store.specs.Relation.{Answer, Promised}
+use Rattle.journal_calls.specs.Turns.{pageCapacity, nodeCapacity, made}
+use Rattle.journal_calls.specs.Runs.{nodesLent, workingLent, Roomy}
 
 module _ (T : Tables) (r : Roomy T) (b m q t : ℕ) where
   abbrev s : Settings
-  s = settingsGiven b m q 512 1024 (replicate 64 t)
+  s = settingsGiven b m q pageCapacity nodeCapacity (replicate 64 t)
 
   long : Bounds s → longSettings T && longFor s T (opening s) ≡ true
   unfolding longSettings longFor longNodes longPages longWorking nodesLength pagesLength sketchesLength workingLength mapWords summaryWords
   long k =
       rw (
         le-leb settingsLength (length (T .settings)) (r .settings),
-        le-leb 10240 (length (T .nodes)) (r .nodes),
-        le-leb ((2 + q) * 512) (length (T .pages)) (omega (arith, r .pages, k .header .blocks-most)),
-        le-leb (512 * m) (length (T .sketches)) (omega (arith, r .sketches, k .header .symbols-most)),
-        le-leb 17 (length (T .working)) (r .working),
+        le-leb nodesLent (length (T .nodes)) (r .nodes),
+        le-leb ((2 + q) * pageCapacity) (length (T .pages)) (omega (arith, r .pages, k .header .blocks-most)),
+        le-leb (pageCapacity * m) (length (T .sketches)) (omega (arith, r .sketches, k .header .symbols-most)),
+        le-leb workingLent (length (T .working)) (r .working),
       )
 
   numbers : (number T [] (opening s) ≡ 0) ⊎ (number T [] (opening s) ≡ 4)

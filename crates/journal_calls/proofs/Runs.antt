@@ -12,11 +12,11 @@ use Rattle.meaning.specs.Ledger.{Event, ledger}
 use Rattle.meaning.specs.Forest.{forest}
 use Rattle.meaning.specs.Journal.{Command, opens, byteAt, wordAt, next, command-to}
 use Rattle.promises.specs.Tables.{Tables}
-use Rattle.history.specs.Relation.{Answer, Promised}
+use Rattle.store.specs.Relation.{Answer, Promised}
 use Rattle.history.specs.History.{History, event, Claim}
 use Rattle.history.proofs.Main.{theorem}
 use Rattle.journal_calls.specs.Turns.{State, state, made, goesOn, Carried, ends, refuses, carries}
-use Rattle.journal_calls.specs.Runs.{Run, begins, turns, opened, Roomy}
+use Rattle.journal_calls.specs.Runs.{Run, begins, turns, opened, Roomy, Ended, Completed}
 use Rattle.journal_calls.proofs.Reading.{first-opens}
 use Rattle.journal_calls.proofs.Fits.{opens-or-4}
 use Rattle.journal_calls.proofs.Turns.{turn-none, turn-called, turn-begun}
@@ -124,3 +124,15 @@ module _ {bytes : List ℕ} {T : Tables} {found : List ℕ} (long : Roomy T) whe
   pub long-claim : {es : List Event} {written : List ℕ} {going : Bool} {s : State} → Run bytes T found es written going s → 2 ≤ length es
       → Claim (s .tables) (ledger es) (forest es)
   long-claim r l = run-claim r (two-opened r l)
+
+  pub completes : {T′ : Tables} {found′ : List ℕ} {at : ℕ} → Ended bytes T found T′ found′ at → Completed bytes at
+  completes {T′} {found′} e = record {
+    before = T;
+    after = T′;
+    found = found;
+    found′ = found′;
+    roomy = long;
+    ended = e;
+    history = λ l. is-history (e .ran .run) (two-opened (e .ran .run) l);
+    claim = λ l. long-claim (e .ran .run) l;
+  }

@@ -1,12 +1,14 @@
 -- A run of the program over a journal: turns, as long as it goes on.
-use Prim.Native.Nat.{ℕ, _≤_}
+use Prim.Native.Nat.{ℕ, _+_, _*_, _≤_}
 use mathlib.Core.Bool.{Bool, true, false, not}
 use mathlib.Core.List.{List, [], _∷_, _++_}
 use lib.ListN.{length}
-use Rattle.meaning.specs.Ledger.{Event}
+use Rattle.meaning.specs.Ledger.{Event, ledger}
+use Rattle.meaning.specs.Forest.{forest}
+use Rattle.layout.specs.Settings.{settingsLength}
 use Rattle.promises.specs.Tables.{Tables}
-use Rattle.history.specs.History.{event}
-use Rattle.journal_calls.specs.Turns.{State, state, made, Turned, ends, refuses, carries}
+use Rattle.history.specs.History.{event, History, Claim}
+use Rattle.journal_calls.specs.Turns.{pageCapacity, nodeCapacity, State, state, made, Turned, ends, refuses, carries}
 
 -- the call that a turn made, for the ledger: none at the end, and none where 1 to 3 refuse
 abbrev pub events : {bytes : List ℕ} {s : State} {line : List ℕ} {going : Bool} {s′ : State} → Turned bytes s line going s′ → List Event
@@ -27,13 +29,26 @@ opened [] = false
 opened (e ∷ []) = not (e .refused)
 opened (e ∷ (e′ ∷ es)) = opened (e′ ∷ es)
 
+-- the lengths of the program's tables, which suffice for its capacities and any settings: at most 8 blocks, at most 64 symbols
+abbrev pub nodesLent : ℕ
+nodesLent = 10 * nodeCapacity
+
+abbrev pub pagesLent : ℕ
+pagesLent = (2 + 8) * pageCapacity
+
+abbrev pub sketchesLent : ℕ
+sketchesLent = 64 * pageCapacity
+
+abbrev pub workingLent : ℕ
+workingLent = 17
+
 -- tables as long as the program's
 pub record Roomy (T : Tables) : Type 0 where
-  pub settings : 391 ≤ length (T .settings)
-  pub nodes : 10240 ≤ length (T .nodes)
-  pub pages : 5120 ≤ length (T .pages)
-  pub sketches : 32768 ≤ length (T .sketches)
-  pub working : 17 ≤ length (T .working)
+  pub settings : settingsLength ≤ length (T .settings)
+  pub nodes : nodesLent ≤ length (T .nodes)
+  pub pages : pagesLent ≤ length (T .pages)
+  pub sketches : sketchesLent ≤ length (T .sketches)
+  pub working : workingLent ≤ length (T .working)
 
 -- some run has come to stand there
 pub record Ran (bytes : List ℕ) (T : Tables) (found : List ℕ) (going : Bool) (s : State) : Type 0 where
@@ -45,3 +60,15 @@ pub record Ran (bytes : List ℕ) (T : Tables) (found : List ℕ) (going : Bool)
 pub record Ended (bytes : List ℕ) (T : Tables) (found : List ℕ) (T′ : Tables) (found′ : List ℕ) (at : ℕ) : Type 0 where
   pub symbols : ℕ
   pub ran : Ran bytes T found false (state T′ found′ at symbols)
+
+-- some run of the program has ended at this offset: from tables as long as the program's, whatever they hold
+pub record Completed (bytes : List ℕ) (at : ℕ) : Type 0 where
+  pub before : Tables
+  pub after : Tables
+  pub found : List ℕ
+  pub found′ : List ℕ
+  pub roomy : Roomy before
+  pub ended : Ended bytes before found after found′ at
+  -- with two calls or more it is a history of these calls, and the claim about histories holds of the tables that it leaves
+  pub history : 2 ≤ length (ended .ran .calls) → History (ended .ran .calls) after
+  pub claim : 2 ≤ length (ended .ran .calls) → Claim after (ledger (ended .ran .calls)) (forest (ended .ran .calls))

@@ -8,11 +8,18 @@ use lib.ListN.{length, take}
 use Rattle.meaning.specs.Journal.{Command, opens, adds, drops, joins, leaves, grants, revokes, searches, callOf, next, ended, refused, command-to, searchLine, refusalLine}
 use Rattle.meaning.specs.Ledger.{Call}
 use Rattle.promises.specs.Tables.{Tables}
-use Rattle.history.specs.Relation.{Answer, Promised}
+use Rattle.store.specs.Relation.{Answer, Promised}
 
--- the call that a command makes: there are 512 pages and 1,024 nodes, and `found` is the output of searches
+-- the program's capacities
+abbrev pub pageCapacity : ℕ
+pageCapacity = 512
+
+abbrev pub nodeCapacity : ℕ
+nodeCapacity = 1024
+
+-- the call that a command makes: `found` is the output of searches
 abbrev pub made : List ℕ → Command → Call
-made found c = callOf 512 1024 found c
+made found c = callOf pageCapacity nodeCapacity found c
 
 -- a number, a count and the output afterwards
 abbrev pub answer : ℕ → ℕ → List ℕ → Answer

@@ -6,7 +6,7 @@ ghost use Rattle.promises.specs.Tables.{tables};
 ghost use Rattle.promises.specs.Calls.{OpenPromise, settingsGiven};
 ghost use Rattle.store.specs.Calls.{SearchPromise};
 ghost use Rattle.journal.specs.Steps.{meant, symbolsEnd};
-ghost use Rattle.journal_calls.specs.Turns.{Executed};
+ghost use Rattle.journal_calls.specs.Turns.{pageCapacity, nodeCapacity, Executed};
 use add_page::add::add;
 use drop_page::drop::drop_page;
 use index::register;
@@ -14,9 +14,9 @@ use journal::commands::Command;
 use journal::commands::symbols_at;
 
 // The capacities of the program's tables.
-const PAGES: u32 = 512;
+pub const PAGES: u32 = 512;
 
-const NODES: u32 = 1024;
+pub const NODES: u32 = 1024;
 
 // What a command came to: the number of its refusal or 0, and the count of a search.
 pub struct Outcome {
@@ -43,7 +43,7 @@ fn open_levels(
     q: u32,
     threshold: u16,
 ) -> u32
-    ensures { λ r. ⌜ OpenPromise (settingsGiven b m q 512 1024 (replicate 64 threshold)) (tables (now (settings .entry)) (now (nodes .entry)) (now (pages .entry)) (now (sketches .entry)) (now (working .entry))) r (now (settings .exit)) (now (nodes .exit)) (now (pages .exit)) ⌝ }
+    ensures { λ r. ⌜ OpenPromise (settingsGiven b m q pageCapacity nodeCapacity (replicate 64 threshold)) (tables (now (settings .entry)) (now (nodes .entry)) (now (pages .entry)) (now (sketches .entry)) (now (working .entry))) r (now (settings .exit)) (now (nodes .exit)) (now (pages .exit)) ⌝ }
 {
     let thresholds = [threshold; 64];
     index::open::open(

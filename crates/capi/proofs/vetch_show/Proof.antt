@@ -1,8 +1,8 @@
--- `vetch_show` gives what `find_row` finds, part by part.
-use mathlib.Core.Path.{ap}
+-- `vetch_show` gives what `find_row` finds, part by part, and the row is the part of the sketch table that stands there.
+use mathlib.Core.Path.{refl, sym}
 use borrow.Author.Needs.{needs}
-use Rattle.index.specs.declared.show.Place.{Place}
 use Rattle.index.specs.Show.{placeOf}
+use Rattle.index.proofs.Shows.{part-shown}
 use Rattle.capi.proofs.vetch_show.Statement.{statement}
 use Rattle.capi.proofs.vetch_show.Tie as tie
 
@@ -12,10 +12,7 @@ find-row-requires c κs = search needs
 returns : tie.Need-returns
 unfolding placeOf
 returns c =
-    let e = c .find-row .ensures in (
-      ap (λ (r : Place). r .number) e,
-      (ap (λ (r : Place). r .start) e, ap (λ (r : Place). r .length) e),
-    )
+    rw (c .find-row .ensures) ((λ nodes working. (refl, sym (part-shown _ _ _ _ _), refl)), (refl, refl))
 
 pub vetch-show-spec : {M : Type 1} → statement M
 vetch-show-spec = tie.close (tie.spec find-row-requires returns)

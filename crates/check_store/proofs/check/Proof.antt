@@ -1,7 +1,7 @@
--- `check` keeps `CheckPromise`.
+-- `check` keeps its promise.
 use Prim.Native.Nat.{_≤_}
 use native.Mathlib.Omega.{arith}
-use mathlib.Core.Path.{_≡_, sym, _∙_}
+use mathlib.Core.Path.{_≡_, refl, sym, _∙_}
 use lib.ListN.{length, take, drop, length-append, length-drop}
 use lib.Seq.{length-take-le}
 use Rattle.layout.specs.declared.Header.{Header}
@@ -26,7 +26,7 @@ same-length c = search needs
 returns : tie.Need-returns
 returns c =
     let number = c .before in
-    check-refused _ _ (sym (number .before .before .enter .ensures) ∙ number .number .given .1)
+    (check-refused _ _ (sym (number .before .before .enter .ensures) ∙ number .number .given .1), refl)
 
 enum-known-h : tie.Need-enum-known-h
 enum-known-h c = search needs
@@ -104,9 +104,11 @@ returns-2 c =
     let z = c .before .before in
     let n = z .before .before in
     let t = n .before .before .before in
-    let m = t .before .before in
-    check-done _ _ (shows (m .before .before)) _ (m .map-words .ensures) _ (m .before .free-link .ensures) _ _ (t .test-store .ensures)
-    (map-kept t) _ (n .working-length .ensures) _ (z .zero-run .ensures)
+    let m = t .before .before in (
+      check-done _ _ (shows (m .before .before)) _ (m .map-words .ensures) _ (m .before .free-link .ensures) _ _ (t .test-store .ensures)
+          (map-kept t) _ (n .working-length .ensures) _ (z .zero-run .ensures),
+      refl,
+    )
 
 pub check-spec : {M : Type 1} → statement M
 check-spec =

@@ -1,4 +1,5 @@
 -- `show_number` gives the number that `find_row` finds.
+use mathlib.Core.Path.{refl}
 use borrow.Author.Needs.{needs}
 use Rattle.index.specs.Show.{placeOf}
 use Rattle.index.proofs.show.show_number.Statement.{statement}
@@ -9,7 +10,7 @@ find-row-requires c κs = search needs
 
 returns : tie.Need-returns
 unfolding placeOf
-returns c = rw (c .find-row .ensures)
+returns c = λ nodes working. (rw (c .find-row .ensures), refl, refl)
 
 pub show-number-spec : {M : Type 1} → statement M
 show-number-spec = tie.close (tie.spec find-row-requires returns)

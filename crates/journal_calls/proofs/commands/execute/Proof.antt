@@ -146,7 +146,7 @@ unfolding meant
 returns-3 c =
     let call = c .before .before .before .before .before .before .before in
     rw (call .before .before .before .before .before .before .command3 .given .1)
-    (drop-executed _ _ _ (c .numbered3 .ensures .0) (c .numbered3 .ensures .1) _ _ _ _ _ (call .drop-page .ensures))
+    (drop-executed _ _ _ (c .numbered3 .ensures .0) (c .numbered3 .ensures .1) _ _ _ _ (call .drop-page .ensures))
 
 same-length-14 : tie.Need-same-length-14
 same-length-14 c = search needs

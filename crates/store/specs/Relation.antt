@@ -2,13 +2,13 @@
 -- the tables that the call takes, and says that every other table, and each one that it takes only to read, is as it was.
 use Prim.Native.Nat.{ℕ}
 use mathlib.Core.Path.{_≡_}
-use mathlib.Core.Bool.{Bool}
+use mathlib.Core.Bool.{Bool, false}
 use mathlib.Core.List.{List, []}
 use Rattle.meaning.specs.Ledger.{Call, opening, add, drop, join, leave, grant, revoke, search, show, check}
-use Rattle.promises.specs.Tables.{Tables, withSettings}
+use Rattle.promises.specs.Tables.{Tables, tables, withSettings}
 use Rattle.promises.specs.Answers.{number}
 use Rattle.promises.specs.Calls.{OpenPromise, RightsPromise, rowShown}
 use Rattle.store.specs.Calls.{AddPromise, DropPromise, SearchPromise, CheckPromise}
 
 -- what a call gives; a part that it does not give is not looked at
 pub record Answer : Type 0 where
@@ -20,6 +20,16 @@ pub record Answer : Type 0 where
   pub list : List ℕ
   -- a check
   pub yes : Bool
+
+-- an answer of a number alone, with a count and a list, and with a yes or no
+abbrev pub numberAlone : ℕ → Answer
+numberAlone n = record { number = n; count = 0; list = []; yes = false }
+
+abbrev pub withList : ℕ → ℕ → List ℕ → Answer
+withList n count list = record { number = n; count = count; list = list; yes = false }
+
+abbrev pub withVerdict : ℕ → Bool → Answer
+withVerdict n t = record { number = n; count = 0; list = []; yes = t }
 
 -- the tables that an add or a drop takes, and those that a show takes; a table that is not taken stands as []
 abbrev pub toStore : Tables → Tables
@@ -44,7 +54,8 @@ abbrev pub Promised : Call → Tables → Answer → Tables → Type 0
 Promised (opening s) T a T′ =
     OpenPromise s T (a .number) (T′ .settings) (T′ .nodes) (T′ .pages) × (T′ ≡ withOpening T (T′ .settings) (T′ .nodes) (T′ .pages))
 Promised (add p c x) T a T′ = AddPromise (toStore T) p c x (a .number) (toStore T′) × (T′ .working ≡ T .working)
-Promised (drop p) T a T′ = DropPromise (toStore T) p (a .number) (toStore T′) × (T′ .working ≡ T .working)
+Promised (drop p) T a T′ =
+    DropPromise (toStore T) p (a .number) (toStore T′) × (T′ .working ≡ T .working) × (T′ .sketches ≡ T .sketches)
 Promised (join r g) T a T′ = Registers (join r g) T a T′
 Promised (leave r g) T a T′ = Registers (leave r g) T a T′
 Promised (grant g c) T a T′ = Registers (grant g c) T a T′
@@ -54,3 +65,21 @@ Promised (search r d x o) T a T′ =
 Promised (show r p) T a T′ =
     (a .number ≡ number (toShow T) [] (show r p)) × (a .list ≡ rowShown (toShow T) r p) × (T′ ≡ T)
 Promised check T a T′ = CheckPromise T (a .number) (a .yes) (T′ .working) × (T′ ≡ withWorking T (T′ .working))
+
+-- ---- a call that takes some of the tables: whatever the others hold
+
+-- a join, leave, grant or revoke, which takes the settings table
+abbrev pub OnSettings : Call → List ℕ → ℕ → List ℕ → Type 0
+OnSettings c settings n settings′ =
+    (nodes pages sketches working : List ℕ)
+    → Promised c (tables settings nodes pages sketches working) (numberAlone n) (tables settings′ nodes pages sketches working)
+
+-- an add or a drop, which takes all but the working table
+abbrev pub OnStore : Call → Tables → ℕ → Tables → Type 0
+OnStore c T n T′ = (working : List ℕ) → Promised c (withWorking T working) (numberAlone n) (withWorking T′ working)
+
+-- a show, which takes the settings, the pages and the sketches: its number and its row
+abbrev pub OnShow : ℕ → ℕ → Tables → ℕ → List ℕ → Type 0
+OnShow reader page T n row =
+    (nodes working : List ℕ)
+    → let U = tables (T .settings) nodes (T .pages) (T .sketches) working in Promised (show reader page) U (withList n 0 row) U
