@@ -5,7 +5,23 @@ use libc::STDOUT_FILENO;
 ghost use Prim.Native.Nat.{_+_, _*_, _≤_};
 ghost use lib.ListN.{length};
 ghost use Rattle.promises.specs.Tables.{tables};
-ghost use Rattle.journal_calls.specs.Runs.{Ended};
+ghost use Rattle.journal_calls.specs.Runs.{Ended, Completed};
+
+// An output for all pages, and a line that lists them.
+const FOUND: usize = journal_calls::commands::PAGES as usize;
+
+const LINE: usize = 24 + 11 * FOUND;
+
+// The lengths of the program's tables: they suffice for any settings, at most 8 blocks and at most 64 symbols.
+const SETTINGS: usize = layout::settings::LENGTH;
+
+const NODES: usize = 10 * (journal_calls::commands::NODES as usize);
+
+const PAGES: usize = (2 + 8) * FOUND;
+
+const SKETCHES: usize = 64 * FOUND;
+
+const WORKING: usize = 17;
 
 // The line at the beginning of a buffer; of length 0, none.
 fn write_line(line: &[u8], count: usize)
@@ -63,18 +79,19 @@ fn run_on(
     at
 }
 
-// The program's tables, for 512 pages and 1,024 nodes of any settings, and its buffer for a line.
+// The program's tables, for its capacities and any settings, and its buffer for a line.
 fn run(bytes: &[u8]) -> usize
     requires { ⌜ length (now bytes) ≤ 65536 ⌝ }
+    ensures { λ r. ⌜ Completed (now (bytes .entry)) r ⌝ }
     ensures { λ r. ⌜ r ≤ 65536 ⌝ }
 {
-    let mut settings = [0u32; 391];
-    let mut nodes = [0u32; 10240];
-    let mut pages = [0u32; 5120];
-    let mut sketches = [0u8; 32768];
-    let mut working = [0u32; 17];
-    let mut found = [0u16; 512];
-    let mut line = [0u8; 5656];
+    let mut settings = [0u32; SETTINGS];
+    let mut nodes = [0u32; NODES];
+    let mut pages = [0u32; PAGES];
+    let mut sketches = [0u8; SKETCHES];
+    let mut working = [0u32; WORKING];
+    let mut found = [0u16; FOUND];
+    let mut line = [0u8; LINE];
     run_on(
         &mut settings,
         &mut nodes,
