@@ -8,7 +8,9 @@ ghost use Rattle.meaning.specs.Ledger.{join, leave, grant, revoke, show};
 ghost use Rattle.promises.specs.Tables.{tables, showTables};
 ghost use Rattle.promises.specs.Answers.{number};
 ghost use Rattle.promises.specs.Calls.{OpenPromise, settingsGiven, RightsPromise, startShown, lengthShown};
-ghost use Rattle.store.specs.Calls.{AddPromise, DropPromise, SearchPromise, CheckPromise};
+ghost use Rattle.store.specs.Calls.{outcome, AddPromise, DropPromise, SearchPromise, CheckPromise};
+ghost use Rattle.add_page.specs.Add.{addPage};
+ghost use Rattle.drop_laws.specs.After.{dropPage};
 ghost use Rattle.index.specs.Lengths.{lengthsOf};
 
 #[no_mangle]
@@ -82,6 +84,7 @@ pub extern "C" fn vetch_add(
     sketch: &[u8],
 ) -> u32
     ensures { λ r. ⌜ AddPromise (tables (now (settings .entry)) (now (nodes .entry)) (now (pages .entry)) (now (sketches .entry)) []) page «class» (now (sketch .entry)) r (tables (now (settings .exit)) (now (nodes .exit)) (now (pages .exit)) (now (sketches .exit)) []) ⌝ }
+    ensures model { λ r. ⌜ outcome r (tables (now (settings .exit)) (now (nodes .exit)) (now (pages .exit)) (now (sketches .exit)) []) ≡ addPage (tables (now (settings .entry)) (now (nodes .entry)) (now (pages .entry)) (now (sketches .entry)) []) page «class» (now (sketch .entry)) ⌝ }
 {
     add_page::add::add(settings, nodes, pages, sketches, page, class, sketch)
 }
@@ -95,6 +98,7 @@ pub extern "C" fn vetch_drop(
     page: u32,
 ) -> u32
     ensures { λ r. ⌜ DropPromise (tables (now (settings .entry)) (now (nodes .entry)) (now (pages .entry)) (now (sketches .entry)) []) page r (tables (now (settings .exit)) (now (nodes .exit)) (now (pages .exit)) (now (sketches .entry)) []) ⌝ }
+    ensures model { λ r. ⌜ outcome r (tables (now (settings .exit)) (now (nodes .exit)) (now (pages .exit)) (now (sketches .entry)) []) ≡ dropPage (tables (now (settings .entry)) (now (nodes .entry)) (now (pages .entry)) (now (sketches .entry)) []) page ⌝ }
 {
     drop_page::drop::drop_page(settings, nodes, pages, sketches, page)
 }
