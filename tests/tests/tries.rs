@@ -3,7 +3,7 @@ use vetchdawn_tests::calls;
 use vetchdawn_tests::guard::GuardedTables;
 use vetchdawn_tests::random::Random;
 use vetchdawn_tests::stores::{damage, filled, opened, scramble, small_settings, Sketches};
-use vetchdawn_tests::tables::{Settings, Tables, FREE};
+use vetchdawn_tests::tables::{lengths, Settings, Tables, FREE, SETTINGS};
 use vetchdawn_tests::trees::{whole, Index};
 
 /// An operand that is now and then out of its range.
@@ -130,11 +130,48 @@ fn early(t: &Tables, s: &Settings, page: u32, added: Option<(u32, &[u8])>) -> u3
     }
 }
 
+/// What an add, or a drop, of a page may have changed, whatever the tables held: with 0 that page's live word, class and row; with 14 that
+/// row at most; and in both cases words of the tries. Says whether the row of the page is the sketch then.
+fn compare_outside_tries(before: &Tables, after: &Tables, s: &Settings, page: u32, added: Option<(u32, &[u8])>, number: u32) -> bool {
+    let mut want = before.clone();
+    if number != 0 && number != 14 {
+        assert!(*after == want, "a refusal changed a table");
+        return false;
+    }
+    let (p, m, page) = (s.pages as usize, s.m as usize, page as usize);
+    let row = page * m..page * m + m;
+    let written = added.is_some_and(|(_, x)| after.sketches[row.clone()] == *x);
+    if let Some((_, x)) = added.filter(|_| written) {
+        want.sketches[row].copy_from_slice(x);
+    }
+    if number == 0 {
+        assert_eq!(written, added.is_some());
+        want.pages[page] = u32::from(added.is_some());
+        want.pages[p + page] = added.map_or(before.pages[p + page], |(class, _)| class);
+        want.settings[FREE] = after.settings[FREE];
+    }
+    let (nodes, links) = (10 * s.nodes as usize, 2 * p..(2 + s.q as usize) * p);
+    want.nodes[..nodes].copy_from_slice(&after.nodes[..nodes]);
+    want.pages[links.clone()].copy_from_slice(&after.pages[links]);
+    assert!(*after == want, "{number}: a word outside the tries, or of another page, changed");
+    written
+}
+
+/// Cut to what is needed, so that a guard page stands right behind.
+fn cut(t: &mut Tables, s: &Settings) {
+    let [nodes, pages, sketches, _] = lengths(s.m, s.q, s.pages, s.nodes);
+    t.settings.truncate(SETTINGS);
+    t.nodes.truncate(nodes);
+    t.pages.truncate(pages);
+    t.sketches.truncate(sketches);
+}
+
 #[test]
 fn damaged_tables() {
     let mut random = Random::new(23);
-    let mut numbers = [0u32; 16];
-    for round in 0..3_000 {
+    let (mut adds, mut drops) = ([0u32; 16], [0u32; 16]);
+    let mut stopped_rows = [0u32; 2];
+    for round in 0..6_000 {
         let s = small_settings(&mut random);
         let (mut t, _, sketches) = filled(&mut random, &s, 40);
         if round % 4 == 0 {
@@ -142,34 +179,89 @@ fn damaged_tables() {
         } else {
             damage(&mut random, &mut t, &s);
         }
-        // the tables end where they are needed no more
-        t.nodes.truncate(10 * s.nodes as usize);
-        t.pages.truncate(((2 + s.q) * s.pages) as usize);
-        t.sketches.truncate((s.m * s.pages) as usize);
-        t.settings.truncate(391);
+        if random.below(2) == 0 {
+            cut(&mut t, &s);
+        }
         let mut lent = GuardedTables::new(&t);
         for _ in 0..10 {
             let before = lent.tables();
             let page = page_of(&mut random, &s);
-            let (number, first) = if random.below(3) == 0 {
-                (calls::drop(&mut lent.lend(), page), early(&before, &s, page, None))
-            } else {
-                let (class, x) = (class_of(&mut random), sketch_of(&mut random, &s, &sketches));
-                (calls::add(&mut lent.lend(), page, class, &x), early(&before, &s, page, Some((class, &x))))
+            let (class, x) = (class_of(&mut random), sketch_of(&mut random, &s, &sketches));
+            let added = (random.below(3) != 0).then_some((class, &x[..]));
+            let number = match added {
+                Some((class, x)) => calls::add(&mut lent.lend(), page, class, x),
+                None => calls::drop(&mut lent.lend(), page),
             };
-            numbers[number as usize] += 1;
-            if first != 0 {
-                assert_eq!(number, first);
+            let first = early(&before, &s, page, added);
+            let open: &[u32] = if added.is_some() { &[0, 12, 14] } else { &[0, 14] };
+            assert!(if first == 0 { open.contains(&number) } else { number == first }, "{number}, not {first}");
+            let written = compare_outside_tries(&before, &lent.tables(), &s, page, added, number);
+            if added.is_some() {
+                adds[number as usize] += 1;
+                stopped_rows[usize::from(written)] += u32::from(number == 14);
             } else {
-                assert!([0, 12, 14].contains(&number), "{number}");
+                drops[number as usize] += 1;
             }
-            let after = lent.tables();
-            if number != 0 && number != 14 {
-                assert!(after == before, "a refusal changed a table");
-            }
-            assert_eq!(after.settings[..FREE], before.settings[..FREE]);
-            assert_eq!(after.working, before.working);
         }
     }
-    assert!([0, 12, 14].iter().all(|&n| numbers[n] > 100), "{numbers:?}");
+    assert!([0, 12, 14].iter().all(|&n| adds[n] > 100), "{adds:?}");
+    assert!([0, 14].iter().all(|&n| drops[n] > 100), "{drops:?}");
+    assert!(stopped_rows.iter().all(|&n| n > 20), "{stopped_rows:?}");
+}
+
+/// A store with one trie over one byte, threshold 1, for 8 nodes and 4 pages. Page 0 has byte 5, page 1 byte 6: one of them stands in the
+/// root, two in the leaves 2 and 1. States stand from word 8 of the nodes on, head 0 of the root in word 16, page links from word 8 on.
+fn tiny(live: u32) -> Tables {
+    let s = Settings { b: 8, m: 1, q: 1, pages: 4, nodes: 8, thresholds: vec![1; 64] };
+    let [nodes, pages, sketches, working] = lengths(s.m, s.q, s.pages, s.nodes);
+    let mut t = Tables { settings: vec![0; SETTINGS], nodes: vec![0; nodes], pages: vec![0; pages], sketches: vec![0; sketches], working: vec![0; working] };
+    assert_eq!(calls::open(&mut t, &s), 0);
+    for page in 0..live {
+        assert_eq!(calls::add(&mut t.lend(), page, 1, &[5 + page as u8]), 0);
+    }
+    t
+}
+
+/// What was damaged, in a store of so many pages; an add of page 2 with a byte, or a drop of page 0; and its number.
+type Damage = (&'static str, u32, fn(&mut Tables), Option<u8>, u32);
+
+const BYTE_5: u32 = 5 << 19;
+
+const DAMAGES: [Damage; 23] = [
+    ("nothing", 2, |_| (), Some(6), 0),
+    ("a head leads outside", 2, |t| t.nodes[16] = 9, Some(5), 14),
+    ("a chain word leads outside", 2, |t| t.nodes[2] = BYTE_5 + 9, Some(6), 14),
+    ("siblings without end", 2, |t| t.nodes[2] = BYTE_5 + 3, Some(6), 14),
+    ("a free node on the path", 2, |t| t.nodes[10] = 0, Some(5), 14),
+    ("an inner node at the packed length", 2, |t| t.nodes[10] = 1, Some(5), 14),
+    ("a link at the packed length, not followed", 2, |t| t.pages[8] = 99, Some(5), 0),
+    ("a page link leads outside", 1, |t| t.pages[8] = 99, Some(5), 14),
+    ("pages without end", 1, |t| t.pages[8] = 1, Some(5), 14),
+    ("the free link leads outside", 1, |t| t.settings[FREE] = 9, Some(5), 14),
+    ("the free chain is cut", 1, |t| t.settings[FREE] = 0, Some(5), 12),
+    ("the free link leads to a node in use", 1, |t| t.settings[FREE] = 1, Some(5), 0),
+    ("a leaf with a child that is free", 1, |t| (t.nodes[16], t.nodes[3]) = (4, BYTE_5), Some(5), 14),
+    ("nothing", 2, |_| (), None, 0),
+    ("a head leads outside", 2, |t| t.nodes[16] = 9, None, 14),
+    ("a free node on the path", 2, |t| t.nodes[10] = 0, None, 14),
+    ("an inner node at the packed length", 2, |t| t.nodes[10] = 1, None, 14),
+    ("the link behind the first page leads outside", 2, |t| t.pages[8] = 99, None, 14),
+    ("pages without end", 2, |t| (t.nodes[10], t.pages[10]) = (2 + 3, 3), None, 14),
+    ("the page is not in its leaf", 2, |t| t.nodes[10] = 2, None, 14),
+    ("the page's row leads to another leaf", 2, |t| t.sketches[0] = 6, None, 14),
+    ("the page's row leads to no leaf", 2, |t| t.sketches[0] = 7, None, 14),
+    ("the free link leads outside, not followed", 2, |t| t.settings[FREE] = 99, None, 0),
+];
+
+#[test]
+fn numbers_of_damage() {
+    for (what, live, damage, added, number) in DAMAGES {
+        let mut t = tiny(live);
+        damage(&mut t);
+        let given = match added {
+            Some(byte) => calls::add(&mut t.lend(), 2, 1, &[byte]),
+            None => calls::drop(&mut t.lend(), 0),
+        };
+        assert_eq!(given, number, "{what}, {added:?}");
+    }
 }

@@ -25,13 +25,13 @@ use Rattle.trie_room.proofs.RowBytes.{rows-table}
 use Rattle.promises.specs.Tables.{Tables, tables, given}
 use Rattle.promises.specs.Answers.{number}
 use Rattle.store.specs.Sound.{Sound}
-use Rattle.store.specs.Calls.{SameRest, AddPromise}
+use Rattle.store.specs.Calls.{SameRest, Outcome, outcome, Unfinished, AddPromise}
 use Rattle.add_page.specs.declared.insert.Inserted.{Inserted}
 use Rattle.add_page.specs.declared.insert.Inserted.the-variants.{Free, Stopped}
 use Rattle.add_page.specs.Admission.{admission}
 use Rattle.add_page.specs.Room.{roomOf}
 use Rattle.add_page.specs.Insert.{Filled, filled, insertAll}
-use Rattle.add_page.specs.Add.{Added, added, rowAdded, onFilled, putPage, onRoom, placePage, onOpening, addPage}
+use Rattle.add_page.specs.Add.{rowAdded, onFilled, putPage, onRoom, placePage, onOpening, addPage}
 use Rattle.add_page.proofs.Passed.{Passed, passed, told-shown, told-refused, asked-12, asked-ahead, row-fits, lent-row}
 use Rattle.add_page.proofs.Tables.{in-tables}
 use Rattle.add_page.proofs.Enough.{Roomy, octets}
@@ -53,6 +53,9 @@ same-tables T = record {
   nodes-rest = refl;
   pages-rest = refl;
 }
+
+pub same-stopped : (T : Tables) → Unfinished T T
+same-stopped T = record { settings = refl; pages = refl }
 
 -- ---- answers to question 12
 is-short : (t : Bool) → cond t Enough Short ≡ Short → t ≡ false
@@ -96,10 +99,12 @@ module _ (T : Tables) (p c : ℕ) (x : List ℕ) where
     early = λ g. sym e;
     sound = λ F s. record {
       answers = sym (asked-ahead T p c x F (λ z. h (sym e ∙ z)) ∙ e);
-      page = λ z. absurd (h z);
       tries = λ z. absurd (h z);
     };
+    page = λ z. absurd (h z);
     refused = λ g k. refl;
+    stopped = λ k. same-stopped T;
+    stopped-row = λ k. inl refl;
     rest = same-tables T;
     late = λ z. absurd (h (sym e ∙ z));
   }
@@ -121,10 +126,12 @@ module _ (T : Tables) (p c : ℕ) (x : List ℕ) where
       early = λ g. absurd (g z);
       sound = λ F s. record {
         answers = sym (asked-12 T p c x F z ∙ ap (λ (t : Bool). cond t 0 12) (is-short (room12 T p c x F) (sym (room-by F s) ∙ e)));
-        page = λ g. absurd (omega arith);
         tries = λ g. absurd (omega arith);
       };
+      page = λ g. absurd (omega arith);
       refused = λ g k. refl;
+      stopped = λ k. same-stopped T;
+      stopped-row = λ k. inl refl;
       rest = same-tables T;
       late = λ g. inr (inl refl);
     }
@@ -133,7 +140,10 @@ module _ (T : Tables) (p c : ℕ) (x : List ℕ) where
     promise-wild e = record {
       early = λ g. absurd (g z);
       sound = λ F s. absurd (never-wild (room12 T p c x F) (sym (room-by F s) ∙ e));
+      page = λ g. absurd (omega arith);
       refused = λ g k. absurd (k refl);
+      stopped = λ k. same-stopped T;
+      stopped-row = λ k. inl refl;
       rest = same-tables T;
       late = λ g. inr (inr refl);
     }
@@ -174,7 +184,10 @@ module _ (T : Tables) (p c : ℕ) (x : List ℕ) where
       promise-stopped m = record {
         early = λ g. absurd (g z);
         sound = λ F s. absurd (never-stopped T F p c x s (none F s) N P (f ∙ ap (filled N P) m));
+        page = λ g. absurd (omega arith);
         refused = λ g k. absurd (k refl);
+        stopped = λ k. record { settings = refl; pages = kept .1 .front };
+        stopped-row = λ k. inr refl;
         rest = rest-by (T .settings) P within-none (within-less (kept .1));
         late = λ g. inr (inr refl);
       }
@@ -185,10 +198,12 @@ module _ (T : Tables) (p c : ℕ) (x : List ℕ) where
         early = λ g. absurd (g z);
         sound = λ F s. record {
           answers = sym (none F s);
-          page = λ g. record { pages = page-words (given T .pages) p c (ok .page) P (T .pages) (kept .1 .front); sketches = refl };
           tries = λ g. filled-sound T F p c x s (none F s) N P l (f ∙ ap (filled N P) m);
         };
+        page = λ g. record { pages = page-words (given T .pages) p c (ok .page) P (T .pages) (kept .1 .front); sketches = refl };
         refused = λ g k. absurd (g refl);
+        stopped = λ k. absurd (omega arith);
+        stopped-row = λ k. absurd (omega arith);
         rest =
             rest-by (set (T .settings) freeAt l) (withPage (given T .pages) P p c) (within-set (T .settings) freeAt l (omega arith) (omega arith))
             (within-both (within-less (kept .1)) (page-within (given T) p c (ok .page) P));
@@ -196,8 +211,8 @@ module _ (T : Tables) (p c : ℕ) (x : List ℕ) where
       }
 
   -- ---- the model by its cases
-  abbrev Keeps : Added → Type 0
-  Keeps (added n T') = AddPromise T p c x n T'
+  abbrev Keeps : Outcome → Type 0
+  Keeps (outcome n T') = AddPromise T p c x n T'
 
   put-keeps : (z : number T [] (add p c x) ≡ 0) → roomFound T x ≡ Enough → Keeps (putPage T p c x)
   unfolding putPage
@@ -224,5 +239,6 @@ module _ (T : Tables) (p c : ℕ) (x : List ℕ) where
       go (Shown h) e = place-keeps (told-shown T p c x h e .0)
       go (Refused n) e = let r = told-refused T p c x n e in promise-early n (r .0) (r .1)
 
-  pub add-promise : (n : ℕ) (T' : Tables) → added n T' ≡ addPage T p c x → AddPromise T p c x n T'
-  add-promise n T' e = subst Keeps (sym e) add-keeps
+  -- the two parts of the contract
+  pub add-promise : (n : ℕ) (T' : Tables) → outcome n T' ≡ addPage T p c x → AddPromise T p c x n T' × (outcome n T' ≡ addPage T p c x)
+  add-promise n T' e = (subst Keeps (sym e) add-keeps, e)

@@ -13,12 +13,13 @@ use Rattle.layout.specs.Pages.{withRow, withPage}
 use Rattle.trie.specs.declared.span.Span.{Span}
 use Rattle.trie.specs.declared.span.Span.the-variants.{Enough, Short, Wild}
 use Rattle.promises.specs.Tables.{Tables, tables, given}
+use Rattle.store.specs.Calls.{outcome}
 use Rattle.add_page.specs.declared.insert.Inserted.{Inserted}
 use Rattle.add_page.specs.declared.insert.Inserted.the-variants.{Free, Stopped}
 use Rattle.add_page.specs.Admission.{admission}
 use Rattle.add_page.specs.Room.{roomOf}
 use Rattle.add_page.specs.Insert.{filled, insertAll}
-use Rattle.add_page.specs.Add.{added, rowAdded, onFilled, putPage, onRoom, placePage, onOpening, addPage}
+use Rattle.add_page.specs.Add.{rowAdded, onFilled, putPage, onRoom, placePage, onOpening, addPage}
 use Rattle.add_page.proofs.Passed.{same-settings}
 
 module _ (T : Tables) (h : Header) (header : headerOf (given T) ≡ h) (p c : ℕ) (x τ : List ℕ) (levels : τ ≡ given T .thresholds)
@@ -29,10 +30,10 @@ module _ (T : Tables) (h : Header) (header : headerOf (given T) ≡ h) (p c : �
     unfolding placePage
     answered = ap (onRoom T p c x) (rw (same-settings T h τ header levels, link) at e)
 
-    pub place-short : q ≡ Short → added 12 T ≡ placePage T p c x
+    pub place-short : q ≡ Short → outcome 12 T ≡ placePage T p c x
     place-short m = rw m at answered
 
-    pub place-wild : q ≡ Wild → added 14 T ≡ placePage T p c x
+    pub place-wild : q ≡ Wild → outcome 14 T ≡ placePage T p c x
     place-wild m = rw m at answered
 
     pub place-enough : q ≡ Enough → putPage T p c x ≡ placePage T p c x
@@ -48,11 +49,11 @@ module _ (T : Tables) (h : Header) (header : headerOf (given T) ≡ h) (p c : �
     unfolding putPage
     inserted = ap (onFilled T p c x) (rw (same-settings T h τ header levels, rowed, link) at e)
 
-    pub put-stopped : i ≡ Stopped → added 14 (tables (T .settings) N P S (T .working)) ≡ putPage T p c x
+    pub put-stopped : i ≡ Stopped → outcome 14 (tables (T .settings) N P S (T .working)) ≡ putPage T p c x
     put-stopped m = rw rowed (rw m at inserted)
 
     pub put-free : (l : ℕ) → i ≡ Free l → (ws : List ℕ) → ws ≡ set (T .settings) freeAt l → (P' : List ℕ) → P' ≡ withPage (h .pages) P p c →
-        added 0 (tables ws N P' S (T .working)) ≡ putPage T p c x
+        outcome 0 (tables ws N P' S (T .working)) ≡ putPage T p c x
     put-free l m ws w P' f =
         let g : P' ≡ withPage (given T .pages) P p c = f ∙ ap (λ (g : Header). withPage (g .pages) P p c) (sym header) in
         rw (rowed, w, g) (rw m at inserted)
@@ -63,7 +64,7 @@ module _ (T : Tables) (p c : ℕ) (x : List ℕ) (o : Opening) (e : o ≡ admiss
   unfolding addPage
   told = ap (onOpening T p c x) e
 
-  pub add-refused : (n : ℕ) → o ≡ Refused n → added n T ≡ addPage T p c x
+  pub add-refused : (n : ℕ) → o ≡ Refused n → outcome n T ≡ addPage T p c x
   add-refused n m = rw m at told
 
   pub add-placed : (h : Header) → o ≡ Shown h → placePage T p c x ≡ addPage T p c x

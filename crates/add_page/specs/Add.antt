@@ -1,4 +1,4 @@
--- What an add does with the tables: T are those at entry, p the page, c its class, x its sketch.
+-- What an add does with any tables: T are those at entry, p the page, c its class, x its sketch.
 use Prim.Native.Nat.{ℕ}
 use mathlib.Core.List.{List}
 use lib.ListN.{getD, set}
@@ -10,14 +10,11 @@ use Rattle.layout.specs.Pages.{withRow, withPage}
 use Rattle.trie.specs.declared.span.Span.{Span}
 use Rattle.trie.specs.declared.span.Span.the-variants.{Enough, Short, Wild}
 use Rattle.promises.specs.Tables.{Tables, tables, given}
+use Rattle.store.specs.Calls.{Outcome, outcome}
 use Rattle.add_page.specs.declared.insert.Inserted.the-variants.{Free, Stopped}
 use Rattle.add_page.specs.Admission.{admission}
 use Rattle.add_page.specs.Room.{roomOf}
 use Rattle.add_page.specs.Insert.{Filled, filled, insertAll}
-
--- the answer and the tables
-pub data Added : Type 0 where
-  added : ℕ → Tables → Added
 
 module _ (T : Tables) (p c : ℕ) (x : List ℕ) where
   -- the sketch table with the page's row
@@ -25,27 +22,27 @@ module _ (T : Tables) (p c : ℕ) (x : List ℕ) where
   rowAdded = withRow (given T .symbols) (T .sketches) p x
 
   -- with these tries, the page live in its class; 14 where a link led outside
-  abbrev pub onFilled : Filled → Added
+  abbrev pub onFilled : Filled → Outcome
   onFilled (filled N P (Free link)) =
-      added 0 (tables (set (T .settings) freeAt link) N (withPage (given T .pages) P p c) rowAdded (T .working))
-  onFilled (filled N P Stopped) = added 14 (tables (T .settings) N P rowAdded (T .working))
+      outcome 0 (tables (set (T .settings) freeAt link) N (withPage (given T .pages) P p c) rowAdded (T .working))
+  onFilled (filled N P Stopped) = outcome 14 (tables (T .settings) N P rowAdded (T .working))
 
-  unfoldable pub putPage : Added
+  unfoldable pub putPage : Outcome
   putPage = onFilled (insertAll (given T) rowAdded x p (T .nodes) (T .pages) (getD (T .settings) freeAt 0))
 
   -- 12 where the nodes do not suffice
-  abbrev pub onRoom : Span → Added
+  abbrev pub onRoom : Span → Outcome
   onRoom Enough = putPage
-  onRoom Short = added 12 T
-  onRoom Wild = added 14 T
+  onRoom Short = outcome 12 T
+  onRoom Wild = outcome 14 T
 
-  unfoldable pub placePage : Added
+  unfoldable pub placePage : Outcome
   placePage = onRoom (roomOf (given T) (T .nodes) (T .pages) (T .sketches) x (getD (T .settings) freeAt 0))
 
   -- 5 to 11
-  abbrev pub onOpening : Opening → Added
+  abbrev pub onOpening : Opening → Outcome
   onOpening (Shown h) = placePage
-  onOpening (Refused n) = added n T
+  onOpening (Refused n) = outcome n T
 
-  unfoldable pub addPage : Added
+  unfoldable pub addPage : Outcome
   addPage = onOpening (admission T (add p c x))

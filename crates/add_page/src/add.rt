@@ -4,9 +4,9 @@ ghost use mathlib.Core.List.{[]};
 ghost use Rattle.meaning.specs.Ledger.{add};
 ghost use Rattle.layout.specs.declared.Opening.the-variants.{Shown};
 ghost use Rattle.promises.specs.Tables.{tables};
-ghost use Rattle.store.specs.Calls.{AddPromise};
+ghost use Rattle.store.specs.Calls.{outcome, AddPromise};
 ghost use Rattle.add_page.specs.Admission.{admission};
-ghost use Rattle.add_page.specs.Add.{added, putPage, placePage};
+ghost use Rattle.add_page.specs.Add.{putPage, placePage, addPage};
 use crate::insert::Inserted;
 use crate::insert::insert_all;
 use crate::questions::admit;
@@ -27,7 +27,7 @@ fn put_page(
     sketch: &[u8],
 ) -> u32
     requires { ⌜ admission (tables (now settings) (now nodes) (now pages) (now sketches) []) (add p «class» (now sketch)) ≡ Shown h ⌝ }
-    ensures { λ r. ⌜ added r (tables (now (settings .exit)) (now (nodes .exit)) (now (pages .exit)) (now (sketches .exit)) []) ≡ putPage (tables (now (settings .entry)) (now (nodes .entry)) (now (pages .entry)) (now (sketches .entry)) []) p «class» (now (sketch .entry)) ⌝ }
+    ensures { λ r. ⌜ outcome r (tables (now (settings .exit)) (now (nodes .exit)) (now (pages .exit)) (now (sketches .exit)) []) ≡ putPage (tables (now (settings .entry)) (now (nodes .entry)) (now (pages .entry)) (now (sketches .entry)) []) p «class» (now (sketch .entry)) ⌝ }
 {
     layout::pages::write_row(sketches, h.m, p, sketch);
     let free = layout::settings::free_link(settings);
@@ -55,7 +55,7 @@ fn place_page(
     sketch: &[u8],
 ) -> u32
     requires { ⌜ admission (tables (now settings) (now nodes) (now pages) (now sketches) []) (add p «class» (now sketch)) ≡ Shown h ⌝ }
-    ensures { λ r. ⌜ added r (tables (now (settings .exit)) (now (nodes .exit)) (now (pages .exit)) (now (sketches .exit)) []) ≡ placePage (tables (now (settings .entry)) (now (nodes .entry)) (now (pages .entry)) (now (sketches .entry)) []) p «class» (now (sketch .entry)) ⌝ }
+    ensures { λ r. ⌜ outcome r (tables (now (settings .exit)) (now (nodes .exit)) (now (pages .exit)) (now (sketches .exit)) []) ≡ placePage (tables (now (settings .entry)) (now (nodes .entry)) (now (pages .entry)) (now (sketches .entry)) []) p «class» (now (sketch .entry)) ⌝ }
 {
     let free = layout::settings::free_link(settings);
     let thresholds = layout::settings::thresholds(settings);
@@ -78,6 +78,7 @@ pub fn add(
     sketch: &[u8],
 ) -> u32
     ensures { λ r. ⌜ AddPromise (tables (now (settings .entry)) (now (nodes .entry)) (now (pages .entry)) (now (sketches .entry)) []) page «class» (now (sketch .entry)) r (tables (now (settings .exit)) (now (nodes .exit)) (now (pages .exit)) (now (sketches .exit)) []) ⌝ }
+    ensures model { λ r. ⌜ outcome r (tables (now (settings .exit)) (now (nodes .exit)) (now (pages .exit)) (now (sketches .exit)) []) ≡ addPage (tables (now (settings .entry)) (now (nodes .entry)) (now (pages .entry)) (now (sketches .entry)) []) page «class» (now (sketch .entry)) ⌝ }
 {
     let h = match admit(settings, nodes, pages, sketches, page, class, sketch) {
         Opening::Refused(number) => return number,

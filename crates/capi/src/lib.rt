@@ -9,7 +9,10 @@ ghost use lib.ListN.{drop as skip};
 ghost use Rattle.meaning.specs.Ledger.{opening, add, drop, join, leave, grant, revoke, search, show, check};
 ghost use Rattle.promises.specs.Tables.{tables, showTables};
 ghost use Rattle.promises.specs.Calls.{settingsGiven, startShown, lengthShown};
+ghost use Rattle.store.specs.Calls.{outcome};
 ghost use Rattle.store.specs.Relation.{numberAlone, withList, withVerdict, Promised, OnSettings, OnStore, OnShow};
+ghost use Rattle.add_page.specs.Add.{addPage};
+ghost use Rattle.drop_laws.specs.After.{dropPage};
 ghost use Rattle.index.specs.Lengths.{lengthsOf};
 
 #[no_mangle]
@@ -83,6 +86,7 @@ pub extern "C" fn vetch_add(
     sketch: &[u8],
 ) -> u32
     ensures { λ r. ⌜ OnStore (add page «class» (now (sketch .entry))) (tables (now (settings .entry)) (now (nodes .entry)) (now (pages .entry)) (now (sketches .entry)) []) r (tables (now (settings .exit)) (now (nodes .exit)) (now (pages .exit)) (now (sketches .exit)) []) ⌝ }
+    ensures model { λ r. ⌜ outcome r (tables (now (settings .exit)) (now (nodes .exit)) (now (pages .exit)) (now (sketches .exit)) []) ≡ addPage (tables (now (settings .entry)) (now (nodes .entry)) (now (pages .entry)) (now (sketches .entry)) []) page «class» (now (sketch .entry)) ⌝ }
 {
     add_page::add::add(settings, nodes, pages, sketches, page, class, sketch)
 }
@@ -96,6 +100,7 @@ pub extern "C" fn vetch_drop(
     page: u32,
 ) -> u32
     ensures { λ r. ⌜ OnStore (drop page) (tables (now (settings .entry)) (now (nodes .entry)) (now (pages .entry)) (now (sketches .entry)) []) r (tables (now (settings .exit)) (now (nodes .exit)) (now (pages .exit)) (now (sketches .entry)) []) ⌝ }
+    ensures model { λ r. ⌜ outcome r (tables (now (settings .exit)) (now (nodes .exit)) (now (pages .exit)) (now (sketches .entry)) []) ≡ dropPage (tables (now (settings .entry)) (now (nodes .entry)) (now (pages .entry)) (now (sketches .entry)) []) page ⌝ }
 {
     drop_page::drop::drop_page(settings, nodes, pages, sketches, page)
 }

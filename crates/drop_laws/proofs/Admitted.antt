@@ -2,17 +2,20 @@
 use Prim.Native.Nat.{ℕ, _+_, _*_, _≤_, _<_}
 use native.Mathlib.Omega.{arith}
 use mathlib.Core.Path.{_≡_, refl, sym, _∙_}
-use mathlib.Core.Bool.{true}
+use mathlib.Core.Bool.{Bool, true, false}
+use mathlib.Core.Logic.{_≢_}
 use mathlib.Core.List.{List, []}
-use borrow.Author.Tests.{ltb-true, leb-true}
-use lib.Dec.{leb}
+use borrow.Author.Tests.{eqb-true, eqb-false, ltb-true, leb-true}
+use lib.Dec.{leb, eqb}
 use lib.ListN.{length}
 use Rattle.meaning.specs.Refusal.{firstNo}
 use Rattle.meaning.specs.Trie.{Tree}
 use Rattle.meaning.specs.Ledger.{drop}
 use Rattle.meaning.specs.Questions.{asked}
 use Rattle.layout.specs.Settings.{settingsLength, showsOpening}
-use Rattle.layout.specs.Header.{headerOf, tablesFirst}
+use Rattle.layout.specs.declared.Header.{Header}
+use Rattle.layout.specs.declared.Opening.the-variants.{Shown, Refused}
+use Rattle.layout.specs.Header.{headerOf, tablesFirst, pick}
 use Rattle.layout.specs.Limits.{HeaderLimits}
 use Rattle.layout.specs.Lengths.{nodesLength, pagesLength, sketchesLength}
 use Rattle.layout.specs.Pages.{isLive}
@@ -23,6 +26,7 @@ use Rattle.layout.proofs.Words.{class-inside}
 use Rattle.promises.specs.Tables.{Tables, given, byTables}
 use Rattle.promises.specs.Answers.{number, entered, shown56, longSettings, longFor, longNodes, longPages}
 use Rattle.index.proofs.Questions.{all-yes}
+use Rattle.add_page.specs.Admission.{admission}
 use Rattle.add_page.proofs.Enough.{Roomy}
 
 pub record Admitted (T : Tables) (p : ℕ) : Type 0 where
@@ -77,3 +81,26 @@ module _ (T : Tables) (p : ℕ) (a : Admitted T p) where
         let behind : 2 + j < 2 + given T .blocks = omega arith in
         record { long = omega (arith, rows-apart (given T .pages) behind, a .pages-long); small = a .limits .pages-most };
   }
+
+-- ---- what the answer to the questions tells
+apart : (h : Header) (n : ℕ) → Refused n ≡ Shown h → ⊥
+apart h n e = let z : _≡_ {A = ℕ} 0 1 = cc in omega arith
+
+module _ (T : Tables) (p : ℕ) where
+  pub told-refused : (n : ℕ) → Refused n ≡ admission T (drop p) → (number T [] (drop p) ≡ n) × (n ≢ 0)
+  unfolding admission
+  told-refused n e = go (eqb (number T [] (drop p)) 0) refl e
+    where
+      go : (t : Bool) → eqb (number T [] (drop p)) 0 ≡ t → Refused n ≡ pick t (Shown (headerOf (given T))) (Refused (number T [] (drop p))) →
+          (number T [] (drop p) ≡ n) × (n ≢ 0)
+      go true m q = absurd (apart (headerOf (given T)) n q)
+      go false m q = let same : number T [] (drop p) ≡ n = cc in (same, λ z. eqb-false (number T [] (drop p)) 0 m (same ∙ z))
+
+  pub told-shown : (h : Header) → Shown h ≡ admission T (drop p) → (number T [] (drop p) ≡ 0) × (h ≡ headerOf (given T))
+  unfolding admission
+  told-shown h e = go (eqb (number T [] (drop p)) 0) refl e
+    where
+      go : (t : Bool) → eqb (number T [] (drop p)) 0 ≡ t → Shown h ≡ pick t (Shown (headerOf (given T))) (Refused (number T [] (drop p))) →
+          (number T [] (drop p) ≡ 0) × (h ≡ headerOf (given T))
+      go true m q = (eqb-true (number T [] (drop p)) 0 m, cc)
+      go false m q = absurd (apart h (number T [] (drop p)) (sym q))

@@ -1,7 +1,7 @@
 -- On any tables: what a drop leaves outside the tries.
 use Prim.Native.Nat.{ℕ, _+_, _*_, _<_}
 use native.Mathlib.Omega.{arith}
-use mathlib.Core.Path.{refl, sym, ap, _∙_}
+use mathlib.Core.Path.{_≡_, refl, sym, ap, _∙_}
 use mathlib.Core.List.{List}
 use lib.ListN.{set, length-set}
 use lib.Seq.{take-set-le, drop-set-lt, take-set-lt}
@@ -10,22 +10,9 @@ use Rattle.layout.specs.Lengths.{nodesLength, pagesLength}
 use Rattle.layout.specs.Pages.{withoutPage}
 use Rattle.layout.proofs.Words.{live-inside}
 use Rattle.promises.specs.Tables.{Tables, given}
-use Rattle.store.specs.Calls.{SameRest, PageDropped}
+use Rattle.store.specs.Calls.{SameRest, pageWords}
 use Rattle.drop_laws.specs.After.{withTries, dropped}
 use Rattle.drop_laws.proofs.Inside.{Within}
-
-pub same-rest : (T : Tables) → SameRest T T
-same-rest T = record {
-  settings = refl;
-  nodes = refl;
-  pages = refl;
-  sketches = refl;
-  working = refl;
-  header = refl;
-  settings-rest = refl;
-  nodes-rest = refl;
-  pages-rest = refl;
-}
 
 module _ (T : Tables) (N P : List ℕ) (nodes : Within 0 (10 * given T .nodes) (T .nodes) N)
     (pages : Within (2 * given T .pages) ((2 + given T .blocks) * given T .pages) (T .pages) P) where
@@ -58,14 +45,10 @@ module _ (T : Tables) (N P : List ℕ) (nodes : Within 0 (10 * given T .nodes) (
       pages-rest = drop-set-lt (pagesLength (given T)) P p 0 (live-inside (given T) page) ∙ pages .rest;
     }
 
-    pub dropped-page : PageDropped T (dropped T p N P free) p
+    pub dropped-page : pageWords T (withoutPage P p) ≡ pageWords T (withoutPage (T .pages) p)
     unfolding withoutPage
     dropped-page =
         let inside : p < 2 * given T .pages = omega arith in
-        record {
-          pages =
-              take-set-lt (2 * given T .pages) P p 0 inside
-              ∙ ap (λ (l : List ℕ). set l p 0) (pages .front)
-              ∙ sym (take-set-lt (2 * given T .pages) (T .pages) p 0 inside);
-          sketches = refl;
-        }
+        take-set-lt (2 * given T .pages) P p 0 inside
+        ∙ ap (λ (l : List ℕ). set l p 0) (pages .front)
+        ∙ sym (take-set-lt (2 * given T .pages) (T .pages) p 0 inside)

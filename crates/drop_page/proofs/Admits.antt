@@ -1,19 +1,19 @@
 -- The number of questions 5, 6, 8 and 9 of a drop, by the tests on the way.
 use Prim.Native.Nat.{ℕ, _≤_, _<_}
 use native.Mathlib.Omega.{arith}
-use mathlib.Core.Path.{_≡_, refl, sym, ap, _∙_}
+use mathlib.Core.Path.{_≡_, refl, ap, _∙_}
 use mathlib.Core.Bool.{Bool, true, false, cond, _&&_}
 use mathlib.Core.Logic.{_≢_}
 use mathlib.Core.List.{List, []}
-use borrow.Author.Tests.{lt-ltb, le-ltb, ne-eqb, eqb-true, eqb-false, leb-true}
-use lib.Dec.{ltb, leb, eqb}
+use borrow.Author.Tests.{lt-ltb, le-ltb, ne-eqb, leb-true}
+use lib.Dec.{ltb, leb}
 use lib.ListN.{length}
 use Rattle.meaning.specs.Refusal.{firstNo}
 use Rattle.meaning.specs.Ledger.{drop}
 use Rattle.meaning.specs.Questions.{asked}
 use Rattle.layout.specs.declared.Header.{Header}
 use Rattle.layout.specs.declared.Opening.the-variants.{Shown, Refused}
-use Rattle.layout.specs.Header.{openingOf, tablesFirst, headerOf, bare, pick}
+use Rattle.layout.specs.Header.{openingOf, tablesFirst, bare}
 use Rattle.layout.specs.Lengths.{nodesLength, pagesLength, sketchesLength}
 use Rattle.layout.specs.Pages.{isLive}
 use Rattle.layout.proofs.Openings.{shown, shown-number, refused-number, refused-range}
@@ -94,26 +94,3 @@ module _ (ws nodes pages sketches : List ℕ) (p : ℕ) where
           admit-all live =
               let z : number T [] (drop p) ≡ 0 = by-header ∙ rw (ln, lp, lt-ltb p (h .pages) hp, live) in
               rw (z, shown ws h e .header)
-
--- ---- what the answer tells
-apart : (h : Header) (n : ℕ) → Refused n ≡ Shown h → ⊥
-apart h n e = let z : _≡_ {A = ℕ} 0 1 = cc in omega arith
-
-module _ (T : Tables) (p : ℕ) where
-  pub told-refused : (n : ℕ) → Refused n ≡ admission T (drop p) → (number T [] (drop p) ≡ n) × (n ≢ 0)
-  unfolding admission
-  told-refused n e = go (eqb (number T [] (drop p)) 0) refl e
-    where
-      go : (t : Bool) → eqb (number T [] (drop p)) 0 ≡ t → Refused n ≡ pick t (Shown (headerOf (given T))) (Refused (number T [] (drop p))) →
-          (number T [] (drop p) ≡ n) × (n ≢ 0)
-      go true m q = absurd (apart (headerOf (given T)) n q)
-      go false m q = let same : number T [] (drop p) ≡ n = cc in (same, λ z. eqb-false (number T [] (drop p)) 0 m (same ∙ z))
-
-  pub told-shown : (h : Header) → Shown h ≡ admission T (drop p) → (number T [] (drop p) ≡ 0) × (h ≡ headerOf (given T))
-  unfolding admission
-  told-shown h e = go (eqb (number T [] (drop p)) 0) refl e
-    where
-      go : (t : Bool) → eqb (number T [] (drop p)) 0 ≡ t → Shown h ≡ pick t (Shown (headerOf (given T))) (Refused (number T [] (drop p))) →
-          (number T [] (drop p) ≡ 0) × (h ≡ headerOf (given T))
-      go true m q = (eqb-true (number T [] (drop p)) 0 m, cc)
-      go false m q = absurd (apart h (number T [] (drop p)) (sym q))

@@ -1,7 +1,7 @@
 -- What `drop_page` knows past its questions, and its ways out.
 use Prim.Native.Nat.{ℕ, _<_, _≤_}
 use native.Mathlib.Omega.{arith}
-use mathlib.Core.Path.{_≡_, sym, _∙_}
+use mathlib.Core.Path.{_≡_, sym, ap, _∙_}
 use mathlib.Core.List.{List, []}
 use lib.ListN.{length, getD, set}
 use Rattle.meaning.specs.Ledger.{drop}
@@ -14,24 +14,29 @@ use Rattle.layout.specs.Settings.{settingsLength, freeAt}
 use Rattle.layout.proofs.Words.{live-inside}
 use Rattle.promises.specs.Tables.{Tables, tables, given}
 use Rattle.promises.specs.Answers.{number}
-use Rattle.store.specs.Calls.{DropPromise}
+use Rattle.store.specs.Calls.{outcome, DropPromise}
 use Rattle.trie_remove.specs.declared.Removed.{Removed}
 use Rattle.trie_remove.specs.declared.Removed.the-variants.{Done, Broken}
 use Rattle.trie_remove.specs.Remove.{gone}
 use Rattle.add_page.specs.Admission.{admission}
 use Rattle.drop_laws.specs.Removal.{removeAll}
+use Rattle.drop_laws.specs.After.{onGone, onOpening, dropPage}
 use Rattle.drop_laws.proofs.Removes.{remove-bare}
-use Rattle.drop_laws.proofs.Admitted.{Admitted, admitted}
-use Rattle.drop_laws.proofs.Promise.{drop-refused, drop-done, drop-broken}
+use Rattle.drop_laws.proofs.Admitted.{Admitted, admitted, told-shown}
+use Rattle.drop_laws.proofs.Promise.{drop-promise}
 use Rattle.drop_page.specs.Lent.{Lent}
-use Rattle.drop_page.proofs.Admits.{told-refused, told-shown}
 
 module _ (ws N P S : List ℕ) (p : ℕ) where
   abbrev T : Tables
   T = tables ws N P S []
 
-  pub refuses : (n : ℕ) → Refused n ≡ admission T (drop p) → DropPromise T p n T
-  refuses n e = let t = told-refused T p n e in drop-refused T p n (t .0) (t .1)
+  -- what the contract says
+  abbrev Meets : ℕ → Tables → Type 0
+  Meets n T' = DropPromise T p n T' × (outcome n T' ≡ dropPage T p)
+
+  pub refuses : (n : ℕ) → Refused n ≡ admission T (drop p) → Meets n T
+  unfolding dropPage
+  refuses n e = drop-promise T p n T (ap (onOpening T p) e)
 
   module _ (h : Header) (e : Shown h ≡ admission T (drop p)) where
     passed : number T [] (drop p) ≡ 0
@@ -61,8 +66,12 @@ module _ (ws N P S : List ℕ) (p : ℕ) where
       comes-to =
           sym (g ∙ rw (told-shown T p h e .1, f) (remove-bare (given T) S p (given T .blocks) 0 N P (getD ws freeAt 0)))
 
-      pub drops : (link : ℕ) → r ≡ Done link → (ws' P'' : List ℕ) → ws' ≡ set ws freeAt link → P'' ≡ withoutPage P' p → DropPromise T p 0 (tables ws' N' P'' S [])
-      drops link d ws' P'' v w = rw (v, w) (drop-done T p passed N' P' r comes-to link d)
+      leaves : onGone T p (gone N' P' r) ≡ dropPage T p
+      unfolding dropPage
+      leaves = ap (onGone T p) (sym comes-to) ∙ ap (onOpening T p) e
 
-      pub breaks : r ≡ Broken → DropPromise T p 14 (tables ws N' P' S [])
-      breaks d = drop-broken T p passed N' P' r comes-to d
+      pub drops : (link : ℕ) → r ≡ Done link → (ws' P'' : List ℕ) → ws' ≡ set ws freeAt link → P'' ≡ withoutPage P' p → Meets 0 (tables ws' N' P'' S [])
+      drops link d ws' P'' v w = drop-promise T p 0 (tables ws' N' P'' S []) (rw (v, w) (rw d at leaves))
+
+      pub breaks : r ≡ Broken → Meets 14 (tables ws N' P' S [])
+      breaks d = drop-promise T p 14 (tables ws N' P' S []) (rw d at leaves)

@@ -1,7 +1,9 @@
 // The call that drops a page.
+ghost use mathlib.Core.Path.{_≡_};
 ghost use mathlib.Core.List.{[]};
 ghost use Rattle.promises.specs.Tables.{tables};
-ghost use Rattle.store.specs.Calls.{DropPromise};
+ghost use Rattle.store.specs.Calls.{outcome, DropPromise};
+ghost use Rattle.drop_laws.specs.After.{dropPage};
 use crate::blocks;
 use crate::questions;
 use layout::Opening;
@@ -16,6 +18,7 @@ pub fn drop_page(
     page: u32,
 ) -> u32
     ensures { λ r. ⌜ DropPromise (tables (now (settings .entry)) (now (nodes .entry)) (now (pages .entry)) (now (sketches .entry)) []) page r (tables (now (settings .exit)) (now (nodes .exit)) (now (pages .exit)) (now (sketches .entry)) []) ⌝ }
+    ensures model { λ r. ⌜ outcome r (tables (now (settings .exit)) (now (nodes .exit)) (now (pages .exit)) (now (sketches .entry)) []) ≡ dropPage (tables (now (settings .entry)) (now (nodes .entry)) (now (pages .entry)) (now (sketches .entry)) []) page ⌝ }
 {
     let h = match questions::admit(settings, nodes, pages, sketches, page) {
         Opening::Refused(number) => return number,

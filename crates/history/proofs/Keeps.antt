@@ -87,7 +87,7 @@ module _ (T : Tables) (L : Ledger) (F : List Tree) (W : Shows T L F) where
         let k = h .0 .sound F S in
         stepped T′ L F (add p c x) (a .number)
         (λ e. record {
-          tables = adds T L R T′ (h .0 .rest) (h .1) F p c x (k .page e) (sym n ∙ e);
+          tables = adds T L R T′ (h .0 .rest) (h .1) F p c x (h .0 .page e) (sym n ∙ e);
           store = sound-back T′ _ (rw (rows-taken, given-eq T L R) at (k .tries e));
         })
         (λ e. rw (rejoin T T′ (h .0 .refused e (λ z. not-14 (asked (byLedger L F) (add p c x)) refl (sym n ∙ z))) (h .1)) W)
@@ -99,7 +99,7 @@ module _ (T : Tables) (L : Ledger) (F : List Tree) (W : Shows T L F) where
         let k = h .0 .sound F S in
         stepped T′ L F (drop p) (a .number)
         (λ e. record {
-          tables = drops T L R T′ (h .0 .rest) (h .1) F p (k .page e) (sym n ∙ e);
+          tables = drops T L R T′ (h .0 .rest) (h .1) F p (h .0 .page e) (h .0 .sketches) (sym n ∙ e);
           store = sound-back T′ _ (rw (rows-taken, given-eq T L R) at (k .tries e));
         })
         (λ e. rw (rejoin T T′ (h .0 .refused e (λ z. not-14 (asked (byLedger L F) (drop p)) refl (sym n ∙ z))) (h .1)) W)

@@ -23,7 +23,7 @@ use Rattle.rights.proofs.Register.{member-length, member-header, member-free, g
 use Rattle.rights.proofs.Pairs.{Holds, holds-same, holds-join, holds-leave, holds-grant, holds-revoke}
 use Rattle.promises.specs.Tables.{Tables, withSettings, pageClass, pageRow, rowsOf}
 use Rattle.promises.specs.Answers.{longSettings, registered}
-use Rattle.store.specs.Calls.{SameRest, PageAdded, PageDropped}
+use Rattle.store.specs.Calls.{SameRest, pageWords, PageAdded}
 use Rattle.store.specs.Relation.{toStore, withWorking}
 use Rattle.history.specs.History.{admitted, judged}
 use Rattle.history.proofs.Lists.{passed}
@@ -140,14 +140,15 @@ module _ (T : Tables) (L : Ledger) (R : Represents T L) where
         (sym (take-take membersAt freeAt (T′ .settings) (omega arith)) ∙ rw (same .header) (take-take membersAt freeAt (T .settings) (omega arith)))
         (holds-same (T .settings) (L .members) (L .grants) (R .register) (T′ .settings) (same .header))
 
-    pub drops : (F : List Tree) (p : ℕ) → PageDropped (toStore T) (toStore T′) p → judged T L F (drop p) ≡ 0 → Represents T′ (accept (drop p) L)
+    pub drops : (F : List Tree) (p : ℕ) → pageWords (toStore T) (T′ .pages) ≡ pageWords (toStore T) (withoutPage (T .pages) p)
+        → T′ .sketches ≡ T .sketches → judged T L F (drop p) ≡ 0 → Represents T′ (accept (drop p) L)
     unfolding judged admitted asked byLedger firstNo accept
-    drops F p d e =
+    drops F p d rows e =
         let h8 = passed 8 (ltb p P) _ (omega arith) e in
         let hp : p < P = ltb-true p P (h8 .0) in
-        let struck : take (2 * P) (T′ .pages) ≡ take (2 * P) (withoutPage (T .pages) p) = rw (given-eq T L R) at (d .pages) in
+        let struck : take (2 * P) (T′ .pages) ≡ take (2 * P) (withoutPage (T .pages) p) = rw (given-eq T L R) at d in
         grown (keep (λ r. not (eqb (r .page) p)) (L .rows))
-        (rw (rows-eq T L R, d .sketches) (rows-drop P (T .pages) (T′ .pages) p hp (long-pages T L R) m (T .sketches) (T .sketches) struck (λ i hi. refl)))
+        (rw (rows-eq T L R, rows) (rows-drop P (T .pages) (T′ .pages) p hp (long-pages T L R) m (T .sketches) (T .sketches) struck (λ i hi. refl)))
         (λ i hi v.
         rw (class-drop P (T .pages) (T′ .pages) p hp (long-pages T L R) struck i hi)
         (R .classes i hi (unless (eqb i p) (sym (live-drop P (T .pages) (T′ .pages) p hp (long-pages T L R) struck i hi) ∙ v))))

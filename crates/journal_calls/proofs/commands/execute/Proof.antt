@@ -127,7 +127,7 @@ unfolding meant
 returns-2 c =
     let call = c .before .before .before .before .before .before .before .before .before in
     rw (call .before .before .before .before .before .before .before .command2 .given .1, ← call .before .before .before .before .before .symbols-at .ensures)
-    (add-executed _ _ _ (c .numbered2 .ensures .0) (c .numbered2 .ensures .1) _ _ _ _ _ _ _ (call .add .ensures))
+    (add-executed _ _ _ (c .numbered2 .ensures .0) (c .numbered2 .ensures .1) _ _ _ _ _ _ _ (call .add .ensures .0))
 
 same-length-10 : tie.Need-same-length-10
 same-length-10 c = search needs
@@ -146,7 +146,7 @@ unfolding meant
 returns-3 c =
     let call = c .before .before .before .before .before .before .before in
     rw (call .before .before .before .before .before .before .command3 .given .1)
-    (drop-executed _ _ _ (c .numbered3 .ensures .0) (c .numbered3 .ensures .1) _ _ _ _ (call .drop-page .ensures))
+    (drop-executed _ _ _ (c .numbered3 .ensures .0) (c .numbered3 .ensures .1) _ _ _ _ (call .drop-page .ensures .0))
 
 same-length-14 : tie.Need-same-length-14
 same-length-14 c = search needs
