@@ -1,9 +1,12 @@
 -- `vetch_check` gives the number and the verdict of `check`.
-use mathlib.Core.Path.{_≡_, refl}
+use Prim.Native.Nat.{ℕ}
 use mathlib.Core.Bool.{Bool, true, false}
 use mir.Val.{boolByte}
 use lib.Dec.{eqb}
 use borrow.Author.Needs.{needs}
+use Rattle.meaning.specs.Ledger.{check}
+use Rattle.promises.specs.Tables.{Tables}
+use Rattle.store.specs.Relation.{withVerdict, Promised}
 use Rattle.trie_room.proofs.Count.{flag-most}
 use Rattle.capi.proofs.vetch_check.Statement.{statement}
 use Rattle.capi.proofs.vetch_check.Tie as tie
@@ -18,14 +21,15 @@ same-length : tie.Need-same-length
 same-length c = search needs
 
 -- 1 is yes
-verdict : (yes : Bool) → eqb (boolByte yes) 1 ≡ yes
-verdict true = refl
-verdict false = refl
+verdict : (T : Tables) (number : ℕ) (yes : Bool) (T′ : Tables) → Promised check T (withVerdict number yes) T′
+    → Promised check T (withVerdict number (eqb (boolByte yes) 1)) T′
+verdict T number true T′ h = h
+verdict T number false T′ h = h
 
 returns : tie.Need-returns
 returns c =
     let r = c .before .before .before .check in
-    (rw (verdict (r .result .sound)) (r .ensures), flag-most (r .result .sound))
+    (verdict _ (r .result .number) (r .result .sound) _ (r .ensures), flag-most (r .result .sound))
 
 pub vetch-check-spec : {M : Type 1} → statement M
 vetch-check-spec = tie.close (tie.spec check-requires cast-sound same-length returns)
