@@ -31,7 +31,7 @@ use Rattle.add_page.specs.declared.insert.Inserted.the-variants.{Free, S
 use Rattle.add_page.specs.Admission.{admission}
 use Rattle.add_page.specs.Room.{roomOf}
 use Rattle.add_page.specs.Insert.{Filled, filled, insertAll}
-use Rattle.add_page.specs.Add.{rowAdded, onFilled, putPage, onRoom, placePage, onOpening, addPage}
+use Rattle.add_page.specs.Add.{rowAdded, pageAdded, onFilled, putPage, onRoom, placePage, onOpening, addPage}
 use Rattle.add_page.proofs.Passed.{Passed, passed, told-shown, told-refused, asked-12, asked-ahead, row-fits, lent-row}
 use Rattle.add_page.proofs.Tables.{in-tables}
 use Rattle.add_page.proofs.Enough.{Roomy, octets}
@@ -192,8 +192,7 @@ module _ (T : Tables) (p c : ℕ) (x : List ℕ) where
         late = λ g. inr (inr refl);
       }
 
-      pub promise-done : (l : ℕ) → i ≡ Free l →
-          AddPromise T p c x 0 (tables (set (T .settings) freeAt l) N (withPage (given T .pages) P p c) (rowAdded T p c x) (T .working))
+      pub promise-done : (l : ℕ) → i ≡ Free l → AddPromise T p c x 0 (pageAdded T p c x N P l)
       promise-done l m = record {
         early = λ g. absurd (g z);
         sound = λ F s. record {

@@ -21,10 +21,13 @@ module _ (T : Tables) (p c : ℕ) (x : List ℕ) where
   abbrev pub rowAdded : List ℕ
   rowAdded = withRow (given T .symbols) (T .sketches) p x
 
-  -- with these tries, the page live in its class; 14 where a link led outside
+  -- the tables with these tries and this free link, and the page live in its class
+  abbrev pub pageAdded : List ℕ → List ℕ → ℕ → Tables
+  pageAdded N P link = tables (set (T .settings) freeAt link) N (withPage (given T .pages) P p c) rowAdded (T .working)
+
+  -- 14 where a link led outside
   abbrev pub onFilled : Filled → Outcome
-  onFilled (filled N P (Free link)) =
-      outcome 0 (tables (set (T .settings) freeAt link) N (withPage (given T .pages) P p c) rowAdded (T .working))
+  onFilled (filled N P (Free link)) = outcome 0 (pageAdded N P link)
   onFilled (filled N P Stopped) = outcome 14 (tables (T .settings) N P rowAdded (T .working))
 
   unfoldable pub putPage : Outcome
