@@ -1,3 +1,4 @@
+pub mod Spend
 pub mod LeafSteps
 pub mod Steps
 pub mod Stack
