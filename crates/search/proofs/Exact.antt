@@ -72,7 +72,9 @@ module _ (h : Header) (N P x : List ℕ) where
   pub exact-blocks : (k j nodes : ℕ) (map : List ℕ)
       → markFrom h N P x 0 k j nodes map ≡ spend nodes (drawnFrom h N x k j) (λ n. withNodes n (leavesFrom k j map))
   unfolding markFrom leavesFrom drawnFrom
-  exact-blocks zero j nodes map = sym (spend-paid nodes 0 (λ n. marks map n) (omega arith)) ∙ refl
+  exact-blocks zero j nodes map =
+      let same : nodes ≡ nodes - 0 = omega arith in
+      ap (marks map) same ∙ sym (spend-paid nodes 0 (λ n. marks map n) (omega arith))
   exact-blocks (suc k) j nodes map =
       let go : List ℕ → ℕ → Marks = λ m n. markFrom h N P x 0 k (suc j) n m in
       let d : ℕ = drawnIn h N x j in

@@ -36,7 +36,7 @@ use Rattle.walk.specs.Mark.{Marks, marks, broken}
 use Rattle.search_laws.specs.Marks.{markBlocks}
 use Rattle.search_laws.specs.Answer.{Answered}
 use Rattle.search_laws.proofs.Marks.{zeroed-onto}
-use Rattle.search_laws.proofs.Lists.{words, walks, foundIn, list-met, walks-whole, list-all}
+use Rattle.search_laws.proofs.Lists.{words, cleared as blank, walks, foundIn, list-met, walks-whole, list-all}
 use Rattle.search.specs.Ready.{Fits}
 use Rattle.index.specs.Entry.{tablesAsked, entry}
 use Rattle.index.proofs.Enters.{entry-refused, Entered, entry-shown}
@@ -72,7 +72,7 @@ module _ (T : Tables) (reader radius : ℕ) (x before : List ℕ) (n count : ℕ
         → inRange (given T .bits) x ≡ true → (F : List Tree) → Sound T F → Lists (scan T reader radius x) before n count after
     answer-sound limits rows c r F s =
         let w = walks-whole T reader radius x room limits rows c r F s in
-        rw (list-all T reader radius x room limits rows c r F s _ _ (w .1)) at (a .listed _ _ (w .1))
+        rw (list-all T reader radius x room limits rows c r F s _ _ (w .same)) at (a .listed _ _ (w .same))
 
 -- ---- the questions
 -- two questions ahead of others
@@ -149,21 +149,35 @@ module _ (T : Tables) (reader radius : ℕ) (x before : List ℕ) where
       abbrev needed : ℕ
       needed = w + summaryOf w
 
-      part-clear : take needed cleared ≡ replicate needed 0
-      unfolding zeroed
-      part-clear = rw g (take-at (replicate needed 0) (drop needed (T .working)) needed (length-replicate {A = ℕ} needed 0))
+      zeros : List ℕ
+      zeros = replicate needed 0
+
+      zeros-long : length zeros ≡ needed
+      unfolding zeros
+      zeros-long = length-replicate {A = ℕ} needed 0
+
+      part-clear : take needed cleared ≡ zeros
+      unfolding zeroed zeros
+      part-clear = ap (take needed) g ∙ take-at zeros (drop (0 + needed) (T .working)) needed zeros-long
+
+      part-again : zeroed zeros 0 needed ≡ zeros
+      unfolding zeroed zeros
+      part-again =
+          let none : drop (0 + needed) zeros ≡ [] = drop-of-length-le zeros {i = 0 + needed} (omega (arith, zeros-long)) in
+          ap (λ r. zeros ++ r) none ∙ append-nil zeros
 
       put-back : zeroed (take needed cleared) 0 needed ++ drop needed cleared ≡ zeroed (T .working) 0 needed
-      unfolding zeroed
+      unfolding zeroed zeros
       put-back =
-          let none : drop needed (replicate needed 0) ≡ [] = drop-of-length-le (replicate needed 0) (omega (arith, length-replicate {A = ℕ} needed 0)) in
-          rw (part-clear, none, append-nil (replicate needed 0), g)
-          (ap (λ r. replicate needed 0 ++ r) (drop-at (replicate needed 0) (drop needed (T .working)) needed (length-replicate {A = ℕ} needed 0)))
+          ap (λ l. zeroed l 0 needed ++ drop needed cleared) part-clear
+          ∙ ap (λ l. l ++ drop needed cleared) part-again
+          ∙ ap (λ l. zeros ++ drop needed l) g
+          ∙ ap (λ l. zeros ++ l) (drop-at zeros (drop (0 + needed) (T .working)) needed zeros-long)
 
       pub promise-found : firstNo (queryAsked h reader radius x) ≡ 0 → (k : ℕ) → k ≡ workingLength (bare h) → (n count : ℕ) (after last : List ℕ)
           → Answered (markBlocks h (T .nodes) (T .pages) x radius (take k cleared)) (isHit (test (T .pages) (T .sketches) h (openClasses (T .settings) reader) x radius)) w before n count after
           → last ≡ zeroed (take k cleared) 0 needed → SearchPromise T reader radius x before n count after (last ++ drop k cleared)
-      unfolding workingLength summaryWords
+      unfolding workingLength summaryWords blank zeros
       promise-found q k e n count after last a z =
           let i = rw (← in-order .header) at in-order in
           let fits : Fits (headerOf (given T)) x = rw (← in-order .header) at (query-passed h reader radius x q .1) in

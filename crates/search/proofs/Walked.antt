@@ -80,7 +80,7 @@ module _ (h : Header) (N P M x : List ℕ) (radius words : ℕ) (lent : Lent h N
     pub stopped-clears : zeroed after 0 (words + summaryOf words) ≡ zeroed M 0 (words + summaryOf words)
     stopped-clears =
         same-zeroed (words + summaryOf words) M after
-        (drop-of-length-le after (omega arith) ∙ sym (drop-of-length-le M (omega arith)))
+        (drop-of-length-le after {i = words + summaryOf words} (omega arith) ∙ sym (drop-of-length-le M {i = words + summaryOf words} (omega arith)))
 
   pub walked-broken : a ≡ Broken → markBlocks h N P x radius M ≡ broken
   walked-broken g = sym e ∙ ap (marksOf after) g
