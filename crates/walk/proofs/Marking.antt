@@ -8,11 +8,13 @@ use lib.Seq.{drop-cons}
 use Rattle.descent.specs.declared.Cursor.{Cursor}
 use Rattle.descent.specs.declared.Left.{Left}
 use Rattle.descent.specs.declared.Left.the-variants.{Some, Broken}
-use Rattle.descent.specs.Cursor.{AllInside, ended, descended, leafOf}
+use Rattle.descent.specs.declared.Descents.{Descents}
+use Rattle.descent.specs.Cursor.{AllInside, ended, Descended, leafOf}
 use Rattle.walk.specs.Mark.{Marks, marks, broken, marksOf, onMarks}
 use Rattle.walk.specs.Walk.{Given, mark, leafFrom}
-use Rattle.walk.specs.Waiting.{markWaiting}
+use Rattle.walk.specs.Waiting.{markWaiting, onLeaves, flush}
 use Rattle.walk.proofs.Spend.{onMarks-same, onMarks-by}
+use Rattle.walk.proofs.Flush.{flush-by}
 
 module _ (w : Given) (cs : List Cursor) where
   -- k leaves from place i on
@@ -41,19 +43,24 @@ module _ (w : Given) (cs : List Cursor) where
   unfolding markFrom
   from-end map left i n h = let z : n - i ≡ 0 = omega arith in ap (markFrom map left i) z
 
--- the descents of an array, when they are over
-module _ (w : Given) (start over : List Cursor) (n : ℕ) (inside : AllInside (w .bytes) start n)
-    (each : (j : ℕ) → j < n → getD over j (ended 0) ≡ descended (w .nodes) (w .cap) (w .bytes) (w .cap) (getD start j (ended 0))) where
-  over-from : (k i : ℕ) (map : List ℕ) (left : ℕ) → i + k ≡ n → markFrom w over map left i k ≡ markWaiting w map left (take k (drop i start))
+-- the descents of an array, when they are over, with so many of the nodes left
+module _ (w : Given) (start : List Cursor) (n : ℕ) (inside : AllInside (w .bytes) start n) (nodes : ℕ) (found : Descents)
+    (d : Descended (w .nodes) (w .cap) (w .bytes) start n nodes found) (over : ℕ) (q : found .left ≡ Some over) where
+  over-from : (k i : ℕ) (map : List ℕ) (left : ℕ) → i + k ≡ n → markFrom w (found .cursors) map left i k ≡ markWaiting w map left (take k (drop i start))
   unfolding markFrom markWaiting
   over-from zero i map left e = refl
   over-from (suc k) i map left e =
       let c : Cursor = getD start i (ended 0) in
       let next : i + 1 ≡ suc i = omega arith in
-      ap (λ x. onMarks (λ after l. markFrom w over after l (i + 1) k) (mark w map left (leafOf x))) (each i (omega arith))
-      ∙ onMarks-same (λ after l. markFrom w over after l (i + 1) k) (λ after l. markWaiting w after l (take k (drop (suc i) start))) (mark w map left (leafFrom w c))
+      ap (λ x. onMarks (λ after l. markFrom w (found .cursors) after l (i + 1) k) (mark w map left (leafOf x))) (d .each over q i (omega arith))
+      ∙ onMarks-same (λ after l. markFrom w (found .cursors) after l (i + 1) k) (λ after l. markWaiting w after l (take k (drop (suc i) start)))
+      (mark w map left (leafFrom w c))
       (λ after l. over-from k (i + 1) after l (omega arith) ∙ ap (λ j. markWaiting w after l (take k (drop j start))) next)
       ∙ ap (λ x. markWaiting w map left (take (suc k) x)) (sym (drop-cons start i (ended 0) (omega (arith, inside .long, inside .few))))
 
-  pub from-start : (map : List ℕ) (left : ℕ) → markFrom w over map left 0 n ≡ markWaiting w map left (take n start)
-  from-start map left = over-from n 0 map left (omega arith)
+  -- what marking them from the first on gives
+  pub flush-from : (map : List ℕ) (left : ℕ) {m x : Marks} → m ≡ markFrom w (found .cursors) map left 0 n → m ≡ x
+      → onLeaves over x ≡ flush w map left nodes (take n start)
+  flush-from map left e g =
+      ap (onLeaves over) (sym g ∙ e ∙ over-from n 0 map left (omega arith))
+      ∙ flush-by w map left nodes (take n start) (Some over) (sym q ∙ d .left)

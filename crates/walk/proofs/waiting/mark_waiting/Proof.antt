@@ -1,90 +1,86 @@
+-- `mark_waiting` is `flush`: the descents end, then each turn marks a leaf.
+use Prim.Native.Nat.{_-_, _≤_}
+use native.Mathlib.Nat.{sub-zero}
+use native.Mathlib.Omega.{arith}
+use mathlib.Core.Path.{_≡_, refl, sym, _∙_}
+use lib.ListN.{length}
+use borrow.Author.Needs.{needs}
+use Rattle.walk.specs.Walk.{given}
+use Rattle.walk.proofs.Flush.{flush-by}
+use Rattle.walk.proofs.Marking.{markFrom, from-next, from-broken, from-end, flush-from}
 use Rattle.walk.proofs.waiting.mark_waiting.Statement.{statement}
 use Rattle.walk.proofs.waiting.mark_waiting.Tie as tie
-use Rattle.walk.proofs.waiting.mark_waiting.Reads as reads
-use Rattle.walk.proofs.waiting.mark_waiting.Lts as lts
-use Rattle.descent.proofs.descend.Reads as descend-reads
-use Rattle.descent.proofs.leaf_of.Reads as leaf-of-reads
-use Rattle.walk.proofs.mark.mark_leaf.Reads as mark-leaf-reads
 
 abbrev Inv-loop : tie.InvT-loop
 Inv-loop nodes pages map₀ cap pcap next words b bytes n budget reads cursors over left₀ i₀ map left i =
-    ?
+    (markFrom (given nodes pages cap pcap next words b bytes) cursors map left i (n - i)
+    ≡ markFrom (given nodes pages cap pcap next words b bytes) cursors map₀ budget 0 n)
+    × (length map ≡ length map₀)
+    × (i ≤ n)
 
 abbrev μ-loop : tie.MeasureT-loop
-μ-loop nodes pages map₀ cap pcap next words b bytes n budget reads cursors over left₀ i₀ map left i =
-    ?
+μ-loop nodes pages map₀ cap pcap next words b bytes n budget reads cursors over left₀ i₀ map left i = n - i
 
--- src/waiting.rt:38:9
 descend-requires : tie.Need-descend-requires Inv-loop μ-loop
-descend-requires c κs = ?
+descend-requires c κs = search needs
 
--- src/waiting.rt:41:20
 enum-known-unread : tie.Need-enum-known-unread Inv-loop μ-loop
-enum-known-unread c = ?
+enum-known-unread c = search needs
 
--- src/waiting.rt:42:9
 enum-told : tie.Need-enum-told Inv-loop μ-loop
-enum-told c = ?
+enum-told c = search needs
 
--- src/waiting.rt:42:9
 returns : tie.Need-returns Inv-loop μ-loop
-returns c = ?
+returns c = flush-by _ _ _ _ _ _ (sym (c .enum-told .given .1) ∙ c .before .before .before .descend .ensures .left)
 
--- src/waiting.rt:46:5
 loop-holds : tie.Need-loop-holds Inv-loop μ-loop
-loop-holds c = ?
+loop-holds c = (rw sub-zero refl, refl, omega arith)
 
--- src/waiting.rt:47:38
 mul-leaf-of : tie.Need-mul-leaf-of Inv-loop μ-loop
-mul-leaf-of c = ?
+mul-leaf-of c = search needs
 
--- src/waiting.rt:47:38
 array-copy-out-leaf-of : tie.Need-array-copy-out-leaf-of Inv-loop μ-loop
-array-copy-out-leaf-of c = ?
+array-copy-out-leaf-of c = search needs
 
--- src/waiting.rt:47:13
 leaf-of-requires : tie.Need-leaf-of-requires Inv-loop μ-loop
-leaf-of-requires c κs = ?
+leaf-of-requires c κs = search needs
 
--- src/waiting.rt:48:15
 mark-leaf-requires : tie.Need-mark-leaf-requires Inv-loop μ-loop
-mark-leaf-requires c κs = ?
+mark-leaf-requires c κs = search needs
 
--- src/waiting.rt:49:24
 enum-known-k : tie.Need-enum-known-k Inv-loop μ-loop
-enum-known-k c = ?
+enum-known-k c = search needs
 
--- src/waiting.rt:53:17
 enum-told-2 : tie.Need-enum-told-2 Inv-loop μ-loop
-enum-told-2 c = ?
+enum-told-2 c = search needs
 
--- src/waiting.rt:53:17
 same-length : tie.Need-same-length Inv-loop μ-loop
-same-length c = ?
+same-length c = search needs
 
--- src/waiting.rt:53:17
 returns-2 : tie.Need-returns-2 Inv-loop μ-loop
-returns-2 c = ?
+returns-2 c =
+    flush-from _ _ _ (c .before .before .before .before .before .before .before .before .before .before .before .before .before .before .before .before .before .before .before .pre .1 .0) _ _ (c .before .before .before .before .before .before .before .before .before .before .before .before .before .before .descend .ensures) _ (c .before .before .before .before .before .before .before .before .before .before .before .unread .given .1) _ _ (c .before .before .before .before .before .before .before .before .before .loop .inv .0)
+    (from-broken _ _ _ _ _ _ (c .before .before .before .before .before .before .before .before .loop-test .taken) _ (c .before .before .before .before .before .before .leaf-of .ensures) _ _ (c .before .before .before .before .mark-leaf .ensures) (c .enum-told2 .given .1))
 
--- src/waiting.rt:56:9
 add-i : tie.Need-add-i Inv-loop μ-loop
-add-i c = ?
+add-i c = search needs
 
--- src/waiting.rt:46:5
 loop-less : tie.Need-loop-less Inv-loop μ-loop
-loop-less c = ?
+loop-less c = search needs
 
--- src/waiting.rt:46:5
 loop-again : tie.Need-loop-again Inv-loop μ-loop
-loop-again c = ?
+loop-again c = (
+  sym (from-next _ _ _ _ _ _ (c .before .before .before .before .before .before .before .before .before .loop-test .taken) _ (c .before .before .before .before .before .before .before .leaf-of .ensures) _ _ (c .before .before .before .before .before .mark-leaf .ensures) _ (c .before .k .given .1)) ∙ c .before .before .before .before .before .before .before .before .before .before .loop .inv .0,
+  c .before .before .before .before .before .mark-leaf .kept .1 .0 ∙ c .before .before .before .before .before .before .before .before .before .before .loop .inv .1,
+  omega (arith, c .before .before .before .before .before .before .before .before .before .loop-test .taken),
+)
 
--- src/waiting.rt:18:1
 same-length-2 : tie.Need-same-length-2 Inv-loop μ-loop
-same-length-2 c = ?
+same-length-2 c = search needs
 
--- src/waiting.rt:18:1
 returns-3 : tie.Need-returns-3 Inv-loop μ-loop
-returns-3 c = ?
+returns-3 c =
+    flush-from _ _ _ (c .before .before .before .before .before .before .before .before .before .before .before .pre .1 .0) _ _ (c .before .before .before .before .before .before .descend .ensures) _ (c .before .before .before .unread .given .1) _ _ (c .before .loop .inv .0) (from-end _ _ _ _ _ _ (c .loop-test .left))
 
 pub mark-waiting-spec : {M : Type 1} → statement M
 mark-waiting-spec =
