@@ -102,10 +102,10 @@ fn going(cursors: [Cursor; 16], n: usize) -> u32
     ensures { λ r. ⌜ r ≡ going cursors n ⌝ }
 {
     let mut count = 0;
-    let mut j = 0;
-    while j < n {
-        count += (cursors[j].link != 0) as u32;
-        j += 1;
+    let mut i = 0;
+    while i < n {
+        count += (cursors[i].link != 0) as u32;
+        i += 1;
     }
     count
 }
