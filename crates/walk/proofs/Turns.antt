@@ -12,7 +12,7 @@ use Rattle.walk.specs.declared.frame.Step.{Step}
 use Rattle.walk.specs.declared.frame.Step.the-variants as step
 use Rattle.walk.specs.Mark.{Marks, marks, broken, onMarks, spend}
 use Rattle.walk.specs.Frame.{entered, stepIn, reads}
-use Rattle.walk.specs.Walk.{Given, Fitting, State, state, atLink, mark, exactFrom, markExact, onBehind, above, follow, run, walkBelow, markedLeaf, walkFrom}
+use Rattle.walk.specs.Walk.{Given, Fitting, state, atLink, mark, exactFrom, markExact, above, follow, run, walkBelow, markedLeaf, walkFrom}
 
 pub fitting-kept : (w : Given) (map after : List ℕ) → length after ≡ length map → Fitting w map → Fitting w after
 fitting-kept w map after e h = record {

@@ -1,9 +1,9 @@
 -- `walk_below` is `walkBelow`: each turn takes one step of the machine, behind the leaves that wait.
-use Prim.Native.Nat.{_-_, _<_, _≤_}
+use Prim.Native.Nat.{_<_, _≤_}
 use native.Mathlib.Omega.{arith}
 use mathlib.Core.Path.{_≡_, refl, sym, _∙_}
 use mathlib.Core.Logic.{⊎-elim}
-use lib.ListN.{length, take, length-set}
+use lib.ListN.{length, take}
 use borrow.Author.Needs.{needs}
 use Rattle.meaning.proofs.Stacks.{above, above-length, above-put, above-take, Held, held-stay, held-down, held-up, held-start}
 use Rattle.descent.specs.Cursor.{AllInside}
