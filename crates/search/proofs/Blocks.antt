@@ -3,7 +3,7 @@ use Prim.Native.Nat.{ℕ, suc, _+_, _-_, _*_, _/_, _≤_, _<_}
 use native.Mathlib.Omega.{arith}
 use native.Mathlib.Nat.{suc-mul, mul-le-mul-right}
 use native.Mathlib.Numerals.{add-one}
-use mathlib.Core.Path.{_≡_, refl, sym, _∙_}
+use mathlib.Core.Path.{_≡_, refl, sym, ap, _∙_}
 use mathlib.Core.List.{List}
 use lib.ListN.{length, take, drop}
 use lib.Seq.{take-at}
@@ -21,6 +21,7 @@ use Rattle.descent.specs.declared.Left.{Left}
 use Rattle.descent.specs.declared.Left.the-variants.{Some, Broken}
 use Rattle.walk.specs.Mark.{Marks, marks, broken, marksOf}
 use Rattle.walk.specs.Walk.{given, Fitting, walkFrom}
+use Rattle.walk_laws.proofs.Left.{walk-left}
 use Rattle.search_laws.specs.Marks.{walkOf, markBlock, markFrom, markBlocks}
 use Rattle.search.specs.Ready.{Fits, Lent}
 
@@ -95,6 +96,10 @@ module _ (h : Header) (N P x : List ℕ) (r : ℕ) where
       pub blocks-more : (k : ℕ) → a ≡ Some k → markFrom h N P x r (h .q - (j + 1)) (j + 1) k after ≡ R
       unfolding markFrom
       blocks-more k f = rw (← inv, left, ← e, f, add-one j) refl
+
+      pub blocks-left : (k : ℕ) → a ≡ Some k → k ≤ nodes
+      unfolding markBlock
+      blocks-left k f = walk-left (walkOf h N P x j) j r nodes map after k (sym e ∙ ap (marksOf after) f)
 
       pub blocks-stop : a ≡ Broken → broken ≡ R
       unfolding markFrom

@@ -93,17 +93,17 @@ module _ (h : Header) (N P x : List ℕ) where
       ∙ spend-both nodes d e (λ r. withNodes r (leavesFrom (suc k) j map))
 
   -- ---- as the code goes: the descents, then the leaves
-  module _ (budget : ℕ) (ends : Ends) (found : Leaves h N x budget ends) (map : List ℕ) where
-    pub exact-spent : ends .left ≡ Broken → broken ≡ markFrom h N P x 0 (h .q) 0 budget map
-    exact-spent e =
+  module _ (budget : ℕ) (ends : Ends) (found : Leaves h N x budget ends) where
+    pub exact-spent : (map : List ℕ) → ends .left ≡ Broken → broken ≡ markFrom h N P x 0 (h .q) 0 budget map
+    exact-spent map e =
         sym
         (exact-blocks (h .q) 0 budget map
         ∙ spend-short budget (drawnFrom h N x (h .q) 0) (λ n. withNodes n (leavesFrom (h .q) 0 map))
         (left-broken budget (drawnFrom h N x (h .q) 0) (sym (found .left) ∙ e)))
 
-    pub exact-lasts : (over : ℕ) → ends .left ≡ Some over
+    pub exact-lasts : (map : List ℕ) (over : ℕ) → ends .left ≡ Some over
         → withNodes over (leavesFrom (h .q - 0) 0 map) ≡ markFrom h N P x 0 (h .q) 0 budget map
-    exact-lasts over e =
+    exact-lasts map over e =
         let l = left-some budget (drawnFrom h N x (h .q) 0) over (sym (found .left) ∙ e) in
         let all : h .q - 0 ≡ h .q = omega arith in
         sym

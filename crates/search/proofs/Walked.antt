@@ -4,9 +4,10 @@ use native.Mathlib.Omega.{arith}
 use mathlib.Core.Path.{_≡_, refl, sym, ap, _∙_}
 use mathlib.Core.Bool.{Bool, true, false, false≢true}
 use mathlib.Core.List.{List, []}
-use lib.ListN.{length, drop-of-length-le}
+use lib.ListN.{length, getD, take, drop-of-length-le}
+use lib.Seq.{length-take-le, getD-take}
 use Rattle.words.specs.Bits.{zeroed}
-use Rattle.words.proofs.Flags.{length-zeroed}
+use Rattle.words.proofs.Flags.{length-zeroed, word-zeroed}
 use Rattle.layout.specs.declared.Header.{Header}
 use Rattle.layout.specs.Header.{bare}
 use Rattle.layout.specs.Lengths.{sketchesLength, workingLength}
@@ -15,7 +16,6 @@ use Rattle.layout.proofs.Sizes.{map-most, pages-mapped}
 use Rattle.rights.specs.declared.Classes.{Classes}
 use Rattle.hits.specs.Hit.{test, Fitting, isHit}
 use Rattle.hits.specs.Marks.{summaryOf, Room, Summarised, listOf, keptMap}
-use Rattle.hits.proofs.Summary.{summarised-clear}
 use Rattle.store.specs.Calls.{Lists}
 use Rattle.descent.specs.declared.Left.{Left}
 use Rattle.descent.specs.declared.Left.the-variants.{Some, Broken}
@@ -32,6 +32,10 @@ unfolding workingLength summaryWords
 lent-room h N P M lent words f =
     rw f (record { most = map-most (bare h) (lent .limits); long = lent .working-long })
 
+lent-cut : (h : Header) (N P M M′ : List ℕ) → Lent h N P M → workingLength (bare h) ≤ length M′ → Lent h N P M′
+lent-cut h N P M M′ lent l =
+    record { limits = lent .limits; nodes-long = lent .nodes-long; pages-long = lent .pages-long; working-long = l }
+
 -- the maps are cleared before the walks
 module _ (h : Header) (N P M : List ℕ) (lent : Lent h N P M) (words : ℕ) (f : words ≡ mapWords (bare h))
     (cleared : List ℕ) (g : cleared ≡ zeroed M 0 (words + summaryOf words)) where
@@ -40,8 +44,25 @@ module _ (h : Header) (N P M : List ℕ) (lent : Lent h N P M) (words : ℕ) (f 
       lent-kept h N P M cleared lent
       (rw g (length-zeroed M 0 (words + summaryOf words) (omega (arith, lent-room h N P M lent words f .long))))
 
-  pub cleared-summary : Summarised cleared words
-  cleared-summary = rw g (summarised-clear M words (lent-room h N P M lent words f))
+  -- the needed part alone
+  module _ (k : ℕ) (e : k ≡ workingLength (bare h)) where
+    size : k ≡ words + summaryOf words
+    unfolding workingLength summaryWords
+    size = e ∙ ap (λ v. v + summaryOf v) (sym f)
+
+    pub part-long : length (take k cleared) ≡ words + summaryOf words
+    part-long = length-take-le k cleared (omega (arith, e, cleared-lent .working-long)) ∙ size
+
+    pub part-lent : Lent h N P (take k cleared)
+    part-lent = lent-cut h N P M (take k cleared) lent (omega (arith, part-long, size, e))
+
+    pub part-summary : Summarised (take k cleared) words
+    part-summary = record {
+      skipped = λ i l z.
+          getD-take k cleared i 0 (omega (arith, size))
+          ∙ ap (λ m. getD m i 0) g
+          ∙ word-zeroed M 0 (words + summaryOf words) (omega (arith, lent-room h N P M lent words f .long)) i (omega arith) (omega arith);
+    }
 
 pub test-fits : (h : Header) (N P S M x : List ℕ) (k : Classes) (radius : ℕ) → Lent h N P M → Fits h x → sketchesLength (bare h) ≤ length S
     → Fitting (test P S h k x radius)
@@ -70,18 +91,19 @@ answers-listed w hit words before after k n count out e l = record {
   listed = λ map j z. let same : after ≡ map = ap mapOf (sym e ∙ z) in rw (← same) l;
 }
 
+-- a walk stopped: the map is of no use, and is as long as it was
+module _ (h : Header) (N P M : List ℕ) (words : ℕ) (lent : Lent h N P M) (f : words ≡ mapWords (bare h)) (after : List ℕ)
+    (long : length M ≡ words + summaryOf words) (same : length after ≡ length M) where
+  pub stopped-room : Room after words
+  stopped-room = record { most = lent-room h N P M lent words f .most; long = omega arith }
+
+  pub stopped-clears : zeroed after 0 (words + summaryOf words) ≡ zeroed M 0 (words + summaryOf words)
+  stopped-clears =
+      same-zeroed (words + summaryOf words) M after
+      (drop-of-length-le after {i = words + summaryOf words} (omega arith) ∙ sym (drop-of-length-le M {i = words + summaryOf words} (omega arith)))
+
 module _ (h : Header) (N P M x : List ℕ) (radius words : ℕ) (lent : Lent h N P M) (f : words ≡ mapWords (bare h))
     (after : List ℕ) (a : Left) (e : marksOf after a ≡ markBlocks h N P x radius M) where
-  -- a walk stopped: the map is of no use, and is as long as it was
-  module _ (long : length M ≡ words + summaryOf words) (same : length after ≡ length M) where
-    pub stopped-room : Room after words
-    stopped-room = record { most = lent-room h N P M lent words f .most; long = omega arith }
-
-    pub stopped-clears : zeroed after 0 (words + summaryOf words) ≡ zeroed M 0 (words + summaryOf words)
-    stopped-clears =
-        same-zeroed (words + summaryOf words) M after
-        (drop-of-length-le after {i = words + summaryOf words} (omega arith) ∙ sym (drop-of-length-le M {i = words + summaryOf words} (omega arith)))
-
   pub walked-broken : a ≡ Broken → markBlocks h N P x radius M ≡ broken
   walked-broken g = sym e ∙ ap (marksOf after) g
 

@@ -27,8 +27,8 @@ fn mark_block(
     requires { ⌜ Lent h (now nodes) (now pages) (now map) ⌝ }
     requires { ⌜ Fits h (now sketch) ⌝ }
     requires { ⌜ words ≡ mapWords (bare h) ⌝ }
-    requires { ⌜ (j < h .q) × (0 < block_radius) × (budget < h .nodes) ⌝ }
-    ensures { λ r. ⌜ marksOf (now (map .exit)) r ≡ markBlock h (now (nodes .entry)) (now (pages .entry)) (now (sketch .entry)) block_radius j budget (now (map .entry)) ⌝ }
+    requires { ⌜ (j < h .q) × (0 < «block_radius») × (budget < h .nodes) ⌝ }
+    ensures { λ r. ⌜ marksOf (now (map .exit)) r ≡ markBlock h (now (nodes .entry)) (now (pages .entry)) (now (sketch .entry)) «block_radius» j budget (now (map .entry)) ⌝ }
 {
     let b = h.b as u32;
     let mut bytes = [0u8; 64];

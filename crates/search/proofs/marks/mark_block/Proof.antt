@@ -69,7 +69,7 @@ walk-requires : tie.Need-walk-requires
 walk-requires c κs =
     let p = c .before .before .before in
     let pre = start p .pre in
-    (pre .0, (fitting-call _ _ _ _ _ _ _ _ _ (c .before .before .next-at .ensures) (pre .1 .1 .1 .0) (block-bytes p) (pre .1 .0) (pre .1 .1 .0) (pre .1 .1 .1 .1 .0), (omega (arith, pre .1 .0 .limits .nodes-least, pre .1 .1 .1 .1 .0), pre .1 .1 .1 .1 .1 .1, pre .1 .1 .1 .1 .1 .0)))
+    (pre .0, (fitting-call _ _ _ _ _ _ _ _ _ (c .before .before .next-at .ensures) (pre .1 .1 .1 .0) (block-bytes p) (pre .1 .0) (pre .1 .1 .0) (pre .1 .1 .1 .1 .0), (omega (arith, pre .1 .0 .limits .nodes-least, pre .1 .1 .1 .1 .0), pre .1 .1 .1 .1 .2, pre .1 .1 .1 .1 .1)))
 
 same-length : tie.Need-same-length
 same-length c = search needs
