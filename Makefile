@@ -1,10 +1,13 @@
 # make run: build the program and run it on an example.  make test: the gate.
+# make prove: what has changed, proved.  make edits NAME=crate: the must-fail edits of one crate.
 CARGO = cargo --offline
 TESTS = --release --manifest-path tests/Cargo.toml --target-dir target/rust
 PREFIX = /usr/local
 JOURNAL = crates/vetchdawn/stdin
 
-.PHONY: run test program archives check-rust fuzz bench plot install
+PROGRESS = .ci/progress
+
+.PHONY: run test prove edits program archives check-rust fuzz bench plot install
 
 run: program
 	@$(PROGRAM) < $(JOURNAL)
@@ -12,12 +15,17 @@ run: program
 test:
 	@.ci/run
 
+prove:
+	@$(PROGRESS) target/prove.log rt check
+
+edits:
+	@.ci/edits $(NAME)
+
 SOURCES := crates.txt $(shell find crates -name '*.rt' -o -name '*.antt')
 PROGRAM = target/bin/vetchdawn
 program: $(PROGRAM)
 $(PROGRAM): $(SOURCES)
-	@mkdir -p target
-	@rt check vetchdawn > target/program.log 2>&1 || { cat target/program.log; exit 1; }
+	@$(PROGRESS) target/program.log rt check vetchdawn
 	@touch $@
 
 # what the proved crates offer to C, each as an archive, and all of it in one
@@ -25,8 +33,7 @@ ARCHIVES = sketch journal capi
 LIBRARY = target/staticlib/libvetchdawn.a
 archives: $(LIBRARY)
 $(LIBRARY): $(SOURCES)
-	@mkdir -p target
-	@for name in $(ARCHIVES); do rt staticlib $$name > target/staticlib.log 2>&1 || { cat target/staticlib.log; exit 1; }; done
+	@for name in $(ARCHIVES); do $(PROGRESS) target/staticlib.log rt staticlib $$name || exit 1; done
 	@rm -f $@
 	@{ echo create $@; for name in $(ARCHIVES); do echo addlib target/staticlib/lib$$name.a; done; echo save; } | ar -M
 

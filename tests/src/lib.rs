@@ -9,3 +9,4 @@ pub mod sound;
 pub mod stores;
 pub mod tables;
 pub mod trees;
+pub mod walks;

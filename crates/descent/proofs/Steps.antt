@@ -1,16 +1,16 @@
--- Steps of a descent: they stay inside the bytes, and one that has ended stays.
+-- Steps of a descent: they stay inside the bytes, and one that has ended stays. The nodes that they read.
 use Prim.Native.Nat.{ℕ, zero, suc, _+_, _-_, _/_, _<_, _≤_}
 use native.Mathlib.Nat.{zero-add, suc-add}
 use native.Mathlib.Omega.{arith}
 use mathlib.Core.Path.{_≡_, refl, sym, ap, _∙_}
 use mathlib.Core.Bool.{Bool, true, false, cond}
-use mathlib.Core.List.{List}
+use mathlib.Core.List.{List, [], _∷_, _++_}
 use lib.Dec.{ltb, eqb}
 use lib.ListN.{length, getD}
-use borrow.Author.Tests.{eq-eqb, ne-eqb, lt-ltb, le-ltb, ltb-false}
+use borrow.Author.Tests.{eq-eqb, ne-eqb, lt-ltb, le-ltb, ltb-false, eqb-true}
 use Rattle.layout.specs.Nodes.{linkOf, byteOf, stateAt, headAt, freeState, innerState}
 use Rattle.descent.specs.declared.Cursor.{Cursor}
-use Rattle.descent.specs.Cursor.{Inside, ended, outside, ahead, arrive, pass, advance, descended}
+use Rattle.descent.specs.Cursor.{Inside, ended, outside, ahead, arrive, pass, advance, descended, drawn, drawnAll}
 
 module _ (nodes : List ℕ) (cap : ℕ) (bytes : List ℕ) where
   inside-ended : (first : ℕ) → 0 < length bytes → Inside bytes (ended first)
@@ -103,3 +103,36 @@ module _ (nodes : List ℕ) (cap : ℕ) (bytes : List ℕ) where
   descended-done f g c h e =
       let s : g ≡ f + (g - f) = omega (arith, h) in
       ap (λ k. descended nodes cap bytes k c) s ∙ descended-more f (g - f) c ∙ descended-ended (g - f) (descended nodes cap bytes f c) e
+
+  -- ---- the nodes that steps read
+
+  pub drawn-ended : (f : ℕ) (c : Cursor) → c .link ≡ 0 → drawn nodes cap bytes f c ≡ 0
+  unfolding drawn
+  drawn-ended zero c e = refl
+  drawn-ended (suc f) c e = rw (eq-eqb (c .link) 0 e)
+
+  -- those of f steps, then of g
+  pub drawn-more : (f g : ℕ) (c : Cursor)
+      → drawn nodes cap bytes (f + g) c ≡ drawn nodes cap bytes f c + drawn nodes cap bytes g (descended nodes cap bytes f c)
+  unfolding drawn descended
+  drawn-more zero g c = rw (zero-add g, zero-add (drawn nodes cap bytes g c)) refl
+  drawn-more (suc f) g c = rw (suc-add f g) (go (eqb (c .link) 0) refl (drawn-more f g next))
+    where
+      next : Cursor
+      next = advance nodes cap bytes c
+
+      go : (still : Bool) → eqb (c .link) 0 ≡ still
+          → drawn nodes cap bytes (f + g) next ≡ drawn nodes cap bytes f next + drawn nodes cap bytes g (descended nodes cap bytes f next)
+          → cond still 0 (suc (drawn nodes cap bytes (f + g) next))
+          ≡ cond still 0 (suc (drawn nodes cap bytes f next)) + drawn nodes cap bytes g (descended nodes cap bytes f next)
+      go true e h =
+          let end : c .link ≡ 0 = eqb-true (c .link) 0 e in
+          rw (advance-ended c end, descended-ended f c end, drawn-ended g c end) refl
+      go false e h = omega arith
+
+  -- one more descent
+  pub drawn-one-more : (cs : List Cursor) (c : Cursor)
+      → drawnAll nodes cap bytes (cs ++ (c ∷ [])) ≡ drawnAll nodes cap bytes cs + drawn nodes cap bytes cap c
+  unfolding drawnAll
+  drawn-one-more [] c = omega arith
+  drawn-one-more (d ∷ cs) c = omega (arith, drawn-one-more cs c)

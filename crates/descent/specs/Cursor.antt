@@ -2,11 +2,14 @@
 use Prim.Native.Nat.{ℕ, zero, suc, _+_, _-_, _*_, _/_, _<_, _≤_}
 use mathlib.Core.Path.{_≡_}
 use mathlib.Core.Bool.{cond}
-use mathlib.Core.List.{List}
+use mathlib.Core.List.{List, [], _∷_}
 use lib.Dec.{ltb, eqb}
-use lib.ListN.{length, getD}
+use lib.ListN.{length, getD, take}
 use Rattle.layout.specs.Nodes.{linkOf, byteOf, stateAt, headAt, freeState, innerState}
 use Rattle.descent.specs.declared.Cursor.{Cursor}
+use Rattle.descent.specs.declared.Left.{Left}
+use Rattle.descent.specs.declared.Left.the-variants.{Some, Broken}
+use Rattle.descent.specs.declared.Descents.{Descents}
 
 -- the node table is long enough for its capacity, and the bytes are at most those of eight blocks
 pub record Fits (nodes : List ℕ) (cap : ℕ) (bytes : List ℕ) : Type 0 where
@@ -28,6 +31,11 @@ pub record AllInside (bytes : List ℕ) (cs : List Cursor) (n : ℕ) : Type 0 wh
   pub long : length cs ≡ 16
   pub few : n ≤ 16
   pub each : (j : ℕ) → j < n → Inside bytes (getD cs j (ended 0))
+
+-- how many of the first n have not ended
+unfoldable pub going : List Cursor → ℕ → ℕ
+going cs zero = 0
+going cs (suc n) = going cs n + cond (eqb (getD cs n (ended 0) .link) 0) 0 1
 
 -- a link past every page
 abbrev pub outside : ℕ
@@ -63,9 +71,24 @@ module _ (nodes : List ℕ) (cap : ℕ) (bytes : List ℕ) where
   descended zero c = c
   descended (suc f) c = descended f (advance c)
 
--- each of the first n descents after as many steps as there are nodes
-pub record AllDescended (nodes : List ℕ) (cap : ℕ) (bytes : List ℕ) (before : List Cursor) (n : ℕ) (after : List Cursor) : Type 0 where
-  pub each : (j : ℕ) → j < n → getD after j (ended 0) ≡ descended nodes cap bytes cap (getD before j (ended 0))
+  -- the nodes that f steps read: each step of a descent that has not ended reads one
+  unfoldable pub drawn : ℕ → Cursor → ℕ
+  drawn zero c = 0
+  drawn (suc f) c = cond (eqb (c .link) 0) 0 (suc (drawn f (advance c)))
+
+  -- those of several descents, each of as many steps as there are nodes
+  unfoldable pub drawnAll : List Cursor → ℕ
+  drawnAll [] = 0
+  drawnAll (c ∷ cs) = drawn cap c + drawnAll cs
+
+-- what is left of a budget
+unfoldable pub leftOf : ℕ → ℕ → Left
+leftOf budget spent = cond (ltb budget spent) Broken (Some (budget - spent))
+
+-- the first n descents within a budget of nodes: where it lasts, each has made as many steps as there are nodes
+pub record Descended (nodes : List ℕ) (cap : ℕ) (bytes : List ℕ) (before : List Cursor) (n budget : ℕ) (after : Descents) : Type 0 where
+  pub left : after .left ≡ leftOf budget (drawnAll nodes cap bytes (take n before))
+  pub each : (k : ℕ) → after .left ≡ Some k → (j : ℕ) → j < n → getD (after .cursors) j (ended 0) ≡ descended nodes cap bytes cap (getD before j (ended 0))
 
 -- the link of the leaf's first page, 0 for none; one past every page where the descent did not end
 unfoldable pub leafOf : Cursor → ℕ

@@ -3,7 +3,7 @@
 ghost use mathlib.Core.Path.{_≡_};
 ghost use Prim.Native.Nat.{_*_, _<_, _≤_};
 ghost use lib.ListN.{length};
-ghost use Rattle.descent.specs.Cursor.{Fits, Inside, AllInside, ended, arrive, advance, AllDescended, leafOf};
+ghost use Rattle.descent.specs.Cursor.{Fits, Inside, AllInside, ended, arrive, advance, going, Descended, leafOf};
 
 // Where a descent stands: ahead of the child at `link`, which must have the byte at `at`; the block's last byte is at `last`.
 // At link 0 it has ended: `first` is the link of the leaf's first page, or 0 where no leaf is reached.
@@ -12,6 +12,18 @@ pub struct Cursor {
     pub at: u32,
     pub last: u32,
     pub first: u32,
+}
+
+// What is left of a budget; or it was spent, or a link led outside.
+pub enum Left {
+    Some(u32),
+    Broken,
+}
+
+// Descents that have ended, and what they leave of the nodes that may be read.
+pub struct Descents {
+    pub cursors: [Cursor; 16],
+    pub left: Left,
 }
 
 // A link past every page: what a descent gives that meets a link out of order.
@@ -84,35 +96,58 @@ fn advance(nodes: &[u32], cap: usize, bytes: &[u8], c: Cursor) -> Cursor
     arrive(nodes, cap, bytes, x, c.at + 1, c.last)
 }
 
-// Lets the first n descents go on to their ends, at most as many steps as there are nodes.
+// How many of the first n descents have not ended?
+fn going(cursors: [Cursor; 16], n: usize) -> u32
+    requires { ⌜ n ≤ 16 ⌝ }
+    ensures { λ r. ⌜ r ≡ going cursors n ⌝ }
+{
+    let mut count = 0;
+    let mut i = 0;
+    while i < n {
+        count += (cursors[i].link != 0) as u32;
+        i += 1;
+    }
+    count
+}
+
+// Lets the first n descents go on to their ends. Each step of each reads a node, and draws on the budget.
 pub fn descend(
     nodes: &[u32],
     cap: usize,
     bytes: &[u8],
     start: [Cursor; 16],
     n: usize,
-) -> [Cursor; 16]
+    budget: u32,
+) -> Descents
     requires { ⌜ Fits (now nodes) cap (now bytes) ⌝ }
     requires { ⌜ AllInside (now bytes) start n ⌝ }
-    ensures { λ r. ⌜ AllDescended (now (nodes .entry)) cap (now (bytes .entry)) start n r ⌝ }
+    requires { ⌜ budget < cap ⌝ }
+    ensures { λ r. ⌜ Descended (now (nodes .entry)) cap (now (bytes .entry)) start n budget r ⌝ }
 {
     let mut cursors = start;
-    let mut left = cap;
-    while left > 0 {
-        let mut going: usize = 0;
+    let mut left = budget;
+    let mut more = going(start, n);
+    while more > 0 {
+        if left < more {
+            return Descents {
+                cursors: cursors,
+                left: Left::Broken,
+            };
+        }
+        left -= more;
+        more = 0;
         let mut j = 0;
         while j < n {
             let c = advance(nodes, cap, bytes, cursors[j]);
             cursors[j] = c;
-            going += (c.link != 0) as usize;
+            more += (c.link != 0) as u32;
             j += 1;
         }
-        if going == 0 {
-            return cursors;
-        }
-        left -= 1;
     }
-    cursors
+    Descents {
+        cursors: cursors,
+        left: Left::Some(left),
+    }
 }
 
 // The link of the first page of the leaf that a descent led to, 0 where there is none, and one past every page where it did not end.

@@ -1,12 +1,12 @@
 -- The blocks before block j: their bytes in the table, their descents at their roots, and the leaves that these led to.
-use Prim.Native.Nat.{ℕ, _+_, _-_, _*_, _≤_, _<_}
+use Prim.Native.Nat.{ℕ, zero, suc, _+_, _-_, _*_, _≤_, _<_}
 use native.Mathlib.Omega.{arith}
 use native.Mathlib.Decide.{ℕ-discrete}
 use native.Mathlib.Nat.{add-zero}
-use mathlib.Core.Path.{_≡_, sym, ap, ap₂, subst, _∙_}
+use mathlib.Core.Path.{_≡_, refl, sym, ap, ap₂, subst, _∙_}
 use mathlib.Core.List.{List, _++_}
 use lib.ListN.{length, getD, set, take, drop, length-append, length-drop, length-set, List·getD-append}
-use lib.Seq.{length-take-le, getD-take, getD-append-add, getD-set-same, getD-set-other, take-all}
+use lib.Seq.{length-take-le, getD-take, getD-append-add, getD-set-same, getD-set-other, take-all, drop-cons}
 use Rattle.meaning.specs.Lists.{onto}
 use Rattle.meaning.specs.Sketch.{pack, block}
 use Rattle.meaning.specs.Forest.{bytesOfSketch}
@@ -14,11 +14,12 @@ use Rattle.layout.specs.declared.Header.{Header}
 use Rattle.layout.specs.Header.{bare}
 use Rattle.layout.specs.Limits.{HeaderLimits}
 use Rattle.descent.specs.declared.Cursor.{Cursor}
-use Rattle.descent.specs.Cursor.{Inside, AllInside, ended, arrive, descended, AllDescended, leafOf}
+use Rattle.descent.specs.declared.Descents.{Descents}
+use Rattle.descent.specs.Cursor.{Inside, AllInside, ended, arrive, descended, drawn, drawnAll, leftOf, Descended, leafOf}
 use Rattle.descent.proofs.Steps.{inside-arrive}
-use Rattle.exact.specs.Leaves.{blockSize, Packed, Started, leafIn, Leaves}
+use Rattle.exact.specs.Leaves.{blockSize, Packed, Started, leafIn, drawnIn, drawnFrom, Leaves}
 use Rattle.exact.proofs.Sizes.{bytes-length, size-most, size-some}
-use Rattle.exact.proofs.Shift.{alike-arrive, alike-descended, alike-leaf}
+use Rattle.exact.proofs.Shift.{Alike, alike-arrive, alike-descended, alike-leaf, alike-drawn}
 
 module _ (h : Header) (x : List ℕ) where
   abbrev bytesOf : ℕ → List ℕ
@@ -148,49 +149,67 @@ module _ (h : Header) (N bytes : List ℕ) where
         (omega (arith, size-most h limits j l, limits .blocks-most)));
   }
 
--- ---- led to their leaves
-module _ (h : Header) (N x bytes : List ℕ) (limits : HeaderLimits h) (count : length x ≡ h .m) (p : Packed h x bytes)
-    (cs : List Cursor) (s : Started h N bytes cs) (ends : List Cursor) (d : AllDescended N (h .nodes) bytes cs (h .q) ends) where
-  pub led : (j : ℕ) → j < h .q → leafOf (getD ends j (ended 0)) ≡ leafIn h N x j
-  unfolding leafIn
-  led j l =
-      ap leafOf (d .each j l ∙ ap (descended N (h .nodes) bytes (h .nodes)) (s .each j l ∙ begun))
-      ∙ alike-leaf N (h .nodes) bytes ys (64 * j) (length ys - 1) same _ _
-      (alike-descended N (h .nodes) bytes ys (64 * j) (length ys - 1) same (h .nodes) _ _
-      (alike-arrive N (h .nodes) bytes ys (64 * j) (length ys - 1) same j 0))
-    where
-      ys : List ℕ
-      ys = bytesOfSketch (bare h) j x
-
-      size : length ys ≡ blockSize h j
-      size = bytes-length h x count j l
-
-      begun : arrive N (h .nodes) bytes j (64 * j) (64 * j + (blockSize h j - 1)) ≡ arrive N (h .nodes) bytes j (64 * j + 0) (64 * j + (length ys - 1))
-      begun = ap₂ (λ m n. arrive N (h .nodes) bytes j m (64 * j + (n - 1))) (sym (add-zero (64 * j))) (sym size)
-
-      same : (k : ℕ) → k ≤ length ys - 1 → getD bytes (64 * j + k) 0 ≡ getD ys k 0
-      same k m = p .each j k l (omega (arith, size, size-some h limits j l))
-
--- ---- collected
-module _ (h : Header) (N x : List ℕ) where
+-- ---- collected, from where the descents ended
+module _ (h : Header) (ends : List Cursor) where
   pub record LeavesTo (firsts : List ℕ) (j : ℕ) : Type 0 where
     pub most : j ≤ h .q
     pub long : length firsts ≡ 8
-    pub each : (i : ℕ) → i < j → getD firsts i 0 ≡ leafIn h N x i
+    pub each : (i : ℕ) → i < j → getD firsts i 0 ≡ leafOf (getD ends i (ended 0))
 
   pub leaves-none : (firsts : List ℕ) → length firsts ≡ 8 → LeavesTo firsts 0
   leaves-none firsts e = record { most = omega arith; long = e; each = λ i l. absurd (omega arith) }
 
-  pub leaves-next : {firsts : List ℕ} {j : ℕ} → LeavesTo firsts j → j < h .q → h .q ≤ 8 → (first : ℕ) → first ≡ leafIn h N x j
+  pub leaves-next : {firsts : List ℕ} {j : ℕ} → LeavesTo firsts j → j < h .q → h .q ≤ 8 → (first : ℕ) → first ≡ leafOf (getD ends j (ended 0))
       → LeavesTo (set firsts j first) (j + 1)
   leaves-next {firsts} {j} t more few first e = record { most = omega arith; long = length-set firsts j first ∙ t .long; each = each }
     where
-      each : (i : ℕ) → i < j + 1 → getD (set firsts j first) i 0 ≡ leafIn h N x i
+      each : (i : ℕ) → i < j + 1 → getD (set firsts j first) i 0 ≡ leafOf (getD ends i (ended 0))
       each i l = go (ℕ-discrete i j)
         where
-          go : Dec (i ≡ j) → getD (set firsts j first) i 0 ≡ leafIn h N x i
+          go : Dec (i ≡ j) → getD (set firsts j first) i 0 ≡ leafOf (getD ends i (ended 0))
           go (yes f) = rw f (getD-set-same firsts j first 0 (omega (arith, t .long)) ∙ e)
           go (no f) = getD-set-other firsts j i first 0 f ∙ t .each i (omega arith)
 
-  pub leaves-all : {firsts : List ℕ} {j : ℕ} → LeavesTo firsts j → h .q ≤ j → Leaves h N x firsts
-  leaves-all t end = record { each = λ i l. t .each i (omega (arith, t .most)) }
+-- ---- led to their leaves
+module _ (h : Header) (N x bytes : List ℕ) (limits : HeaderLimits h) (count : length x ≡ h .m) (p : Packed h x bytes)
+    (cs : List Cursor) (s : Started h N bytes cs) where
+  module _ (j : ℕ) (l : j < h .q) where
+    abbrev ys : List ℕ
+    ys = bytesOfSketch (bare h) j x
+
+    size : length ys ≡ blockSize h j
+    size = bytes-length h x count j l
+
+    same : (k : ℕ) → k ≤ length ys - 1 → getD bytes (64 * j + k) 0 ≡ getD ys k 0
+    same k m = p .each j k l (omega (arith, size, size-some h limits j l))
+
+    begun : getD cs j (ended 0) ≡ arrive N (h .nodes) bytes j (64 * j + 0) (64 * j + (length ys - 1))
+    begun = s .each j l ∙ ap₂ (λ m n. arrive N (h .nodes) bytes j m (64 * j + (n - 1))) (sym (add-zero (64 * j))) (sym size)
+
+    -- it begins as over the block's own bytes
+    alike : Alike N (h .nodes) bytes ys (64 * j) (length ys - 1) same (arrive N (h .nodes) ys j 0 (length ys - 1)) (getD cs j (ended 0))
+    alike = rw begun (alike-arrive N (h .nodes) bytes ys (64 * j) (length ys - 1) same j 0)
+
+    led : leafOf (descended N (h .nodes) bytes (h .nodes) (getD cs j (ended 0))) ≡ leafIn h N x j
+    unfolding leafIn
+    led =
+        alike-leaf N (h .nodes) bytes ys (64 * j) (length ys - 1) same _ _
+        (alike-descended N (h .nodes) bytes ys (64 * j) (length ys - 1) same (h .nodes) _ _ alike)
+
+    drawn-led : drawn N (h .nodes) bytes (h .nodes) (getD cs j (ended 0)) ≡ drawnIn h N x j
+    unfolding drawnIn
+    drawn-led = alike-drawn N (h .nodes) bytes ys (64 * j) (length ys - 1) same (h .nodes) _ _ alike
+
+  drawn-from : (k j : ℕ) → j + k ≡ h .q → drawnAll N (h .nodes) bytes (take k (drop j cs)) ≡ drawnFrom h N x k j
+  unfolding drawnAll drawnFrom
+  drawn-from zero j e = refl
+  drawn-from (suc k) j e =
+      ap (λ c. drawnAll N (h .nodes) bytes (take (suc k) c)) (drop-cons cs j (ended 0) (omega (arith, s .long, limits .blocks-most)))
+      ∙ ap₂ _+_ (drawn-led j (omega arith)) (drawn-from k (suc j) (omega arith))
+
+  pub leaves-all : {firsts : List ℕ} {j budget : ℕ} (found : Descents) → Descended N (h .nodes) bytes cs (h .q) budget found
+      → LeavesTo h (found .cursors) firsts j → h .q ≤ j → Leaves h N x budget record { firsts = firsts; left = found .left }
+  leaves-all {budget = budget} found d t end = record {
+    left = d .left ∙ ap (leftOf budget) (drawn-from (h .q) 0 (omega arith));
+    each = λ k e i l. t .each i (omega (arith, t .most)) ∙ ap leafOf (d .each k e i l) ∙ led i l;
+  }

@@ -2,7 +2,7 @@
 use Prim.Native.Nat.{ℕ, zero, suc, _+_, _-_, _/_, _<_, _≤_}
 use native.Mathlib.Omega.{arith}
 use native.Mathlib.Nat.{add-assoc}
-use mathlib.Core.Path.{_≡_, refl, sym, ap, subst}
+use mathlib.Core.Path.{_≡_, refl, sym, ap, ap₂, subst}
 use mathlib.Core.Bool.{Bool, true, false, cond}
 use mathlib.Core.List.{List}
 use lib.Dec.{ltb, eqb}
@@ -10,7 +10,7 @@ use lib.ListN.{getD}
 use borrow.Author.Tests.{eqb-false, ltb-true, ltb-false}
 use Rattle.layout.specs.Nodes.{linkOf, byteOf, stateAt, headAt, freeState, innerState}
 use Rattle.descent.specs.declared.Cursor.{Cursor}
-use Rattle.descent.specs.Cursor.{outside, ended, ahead, arrive, pass, advance, descended, leafOf}
+use Rattle.descent.specs.Cursor.{outside, ended, ahead, arrive, pass, advance, descended, drawn, leafOf}
 
 -- `bytes` has from `base` on what `ys` has up to `last`
 module _ (N : List ℕ) (cap : ℕ) (bytes ys : List ℕ) (base last : ℕ) (same : (k : ℕ) → k ≤ last → getD bytes (base + k) 0 ≡ getD ys k 0) where
@@ -85,3 +85,9 @@ module _ (N : List ℕ) (cap : ℕ) (bytes ys : List ℕ) (base last : ℕ) (sam
   pub alike-leaf : (c d : Cursor) → Alike c d → leafOf d ≡ leafOf c
   unfolding leafOf
   alike-leaf c d a = rw (a .link, a .first)
+
+  pub alike-drawn : (f : ℕ) (c d : Cursor) → Alike c d → drawn N cap bytes f d ≡ drawn N cap ys f c
+  unfolding drawn
+  alike-drawn zero c d a = refl
+  alike-drawn (suc f) c d a =
+      ap₂ (λ link n. cond (eqb link 0) 0 (suc n)) (a .link) (alike-drawn f (advance N cap ys c) (advance N cap bytes d) (alike-advance c d a))

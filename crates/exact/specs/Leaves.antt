@@ -1,5 +1,5 @@
 -- The leaf in the trie of each block that a query's own bytes lead to. N is the node table, x the query.
-use Prim.Native.Nat.{ℕ, _+_, _-_, _*_, _<_}
+use Prim.Native.Nat.{ℕ, zero, suc, _+_, _-_, _*_, _<_}
 use mathlib.Core.Path.{_≡_}
 use mathlib.Core.List.{List}
 use lib.ListN.{length, getD}
@@ -8,7 +8,9 @@ use Rattle.meaning.specs.Forest.{bytesOfSketch}
 use Rattle.layout.specs.declared.Header.{Header}
 use Rattle.layout.specs.Header.{bare}
 use Rattle.descent.specs.declared.Cursor.{Cursor}
-use Rattle.descent.specs.Cursor.{ended, arrive, descended, leafOf}
+use Rattle.descent.specs.declared.Left.the-variants.{Some}
+use Rattle.descent.specs.Cursor.{ended, arrive, descended, drawn, leftOf, leafOf}
+use Rattle.exact.specs.declared.Ends.{Ends}
 
 -- how many packed bytes block j has
 abbrev pub blockSize : Header → ℕ → ℕ
@@ -30,5 +32,18 @@ leafIn h N x j =
     let ys : List ℕ = bytesOfSketch (bare h) j x in
     leafOf (descended N (h .nodes) ys (h .nodes) (arrive N (h .nodes) ys j 0 (length ys - 1)))
 
-pub record Leaves (h : Header) (N x firsts : List ℕ) : Type 0 where
-  pub each : (j : ℕ) → j < h .q → getD firsts j 0 ≡ leafIn h N x j
+-- the nodes that its descent reads behind the root
+unfoldable pub drawnIn : Header → List ℕ → List ℕ → ℕ → ℕ
+drawnIn h N x j =
+    let ys : List ℕ = bytesOfSketch (bare h) j x in
+    drawn N (h .nodes) ys (h .nodes) (arrive N (h .nodes) ys j 0 (length ys - 1))
+
+-- those of k blocks from j on
+unfoldable pub drawnFrom : Header → List ℕ → List ℕ → ℕ → ℕ → ℕ
+drawnFrom h N x zero j = 0
+drawnFrom h N x (suc k) j = drawnIn h N x j + drawnFrom h N x k (suc j)
+
+-- the leaves of all blocks, within a budget of nodes
+pub record Leaves (h : Header) (N x : List ℕ) (budget : ℕ) (r : Ends) : Type 0 where
+  pub left : r .left ≡ leftOf budget (drawnFrom h N x (h .q) 0)
+  pub each : (k : ℕ) → r .left ≡ Some k → (j : ℕ) → j < h .q → getD (r .firsts) j 0 ≡ leafIn h N x j

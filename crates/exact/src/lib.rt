@@ -1,13 +1,20 @@
 // The leaves that a query's own bytes lead to, one in the trie of each block. The descents of all blocks go on together.
 ghost use mathlib.Core.Path.{_≡_};
 ghost use mathlib.Core.Bool.{true};
-ghost use Prim.Native.Nat.{_*_, _≤_};
+ghost use Prim.Native.Nat.{_*_, _<_, _≤_};
 ghost use lib.ListN.{length};
 ghost use Rattle.meaning.specs.Sketch.{inRange};
 ghost use Rattle.layout.specs.Limits.{HeaderLimits};
 ghost use Rattle.exact.specs.Leaves.{Packed, Started, Leaves};
 use descent::Cursor;
+use descent::Left;
 use layout::Header;
+
+// For each block the link of the first page of its leaf, and what is left of the nodes that may be read.
+pub struct Ends {
+    pub firsts: [u32; 8],
+    pub left: Left,
+}
 
 // Packs each block of a sketch, block j from byte 64 × j on.
 fn pack_blocks(h: Header, sketch: &[u8], out: &mut [u8])
@@ -46,23 +53,29 @@ fn start_all(nodes: &[u32], h: Header, bytes: &[u8]) -> [Cursor; 16]
     cursors
 }
 
-// For each block the link of the first page of its leaf: 0 where there is none, and one past every page where a link is not in order.
-pub fn leaves(nodes: &[u32], h: Header, sketch: &[u8]) -> [u32; 8]
+// The leaves by their first pages: 0 where there is none, and a link past every page where one is not in order.
+pub fn leaves(nodes: &[u32], h: Header, sketch: &[u8], budget: u32) -> Ends
     requires { ⌜ HeaderLimits h ⌝ }
     requires { ⌜ 10 * h .nodes ≤ length (now nodes) ⌝ }
     requires { ⌜ length (now sketch) ≡ h .m ⌝ }
     requires { ⌜ inRange (h .b) (now sketch) ≡ true ⌝ }
-    ensures { λ r. ⌜ Leaves h (now (nodes .entry)) (now (sketch .entry)) r ⌝ }
+    requires { ⌜ budget < h .nodes ⌝ }
+    ensures { λ r. ⌜ Leaves h (now (nodes .entry)) (now (sketch .entry)) budget r ⌝ }
 {
     let mut bytes = [0u8; 512];
     pack_blocks(h, sketch, &mut bytes);
     let started = start_all(nodes, h, &bytes);
-    let cursors = descent::descend(nodes, h.nodes, &bytes, started, h.q);
+    let found = descent::descend(nodes, h.nodes, &bytes, started, h.q, budget);
+    let cursors = found.cursors;
+    let left = found.left;
     let mut firsts = [0u32; 8];
     let mut j = 0;
     while j < h.q {
         firsts[j] = descent::leaf_of(cursors[j]);
         j += 1;
     }
-    firsts
+    Ends {
+        firsts: firsts,
+        left: left,
+    }
 }

@@ -4,9 +4,8 @@ use native.Mathlib.Omega.{arith}
 use native.Mathlib.Nat.{suc-mul, mul-le-mul-right}
 use native.Mathlib.Numerals.{add-one}
 use mathlib.Core.Path.{_≡_, refl, sym, ap, _∙_}
-use mathlib.Core.Bool.{Bool, true, false}
 use mathlib.Core.List.{List}
-use lib.ListN.{length, getD, take, drop}
+use lib.ListN.{length, take, drop}
 use lib.Seq.{take-at}
 use Rattle.meaning.specs.Lists.{onto}
 use Rattle.meaning.specs.Sketch.{pack, packedLength, block, blockLength}
@@ -17,12 +16,12 @@ use Rattle.layout.specs.Lengths.{nodesLength, pagesLength, workingLength}
 use Rattle.layout.specs.Pages.{nextAt}
 use Rattle.layout.specs.Working.{mapWords, summaryWords}
 use Rattle.layout.proofs.Sizes.{map-most, pages-mapped}
-use Rattle.exact.specs.Leaves.{leafIn, Leaves}
 use Rattle.exact.proofs.Sizes.{bytes-length, size-most, size-some}
-use Rattle.walk.specs.declared.mark.Left.{Left}
-use Rattle.walk.specs.Mark.{marks, markLeaf}
-use Rattle.walk.specs.Walk.{Given, given, Fitting, Walked, walked, isSome, walkedLeaf, mark, exactFrom, leafFrom, walkFrom}
-use Rattle.walk.proofs.Turns.{from-exact}
+use Rattle.descent.specs.declared.Left.{Left}
+use Rattle.descent.specs.declared.Left.the-variants.{Some, Broken}
+use Rattle.walk.specs.Mark.{Marks, marks, broken, marksOf}
+use Rattle.walk.specs.Walk.{given, Fitting, walkFrom}
+use Rattle.walk_laws.proofs.Left.{walk-left}
 use Rattle.search_laws.specs.Marks.{walkOf, markBlock, markFrom, markBlocks}
 use Rattle.search.specs.Ready.{Fits, Lent}
 
@@ -70,38 +69,39 @@ module _ (h : Header) (N P M : List ℕ) (lent : Lent h N P M) (j : ℕ) (l : j 
       rw (e, f)
       (links-inside, ((lent .limits .pages-most, map-most (bare h) (lent .limits), pages-mapped (bare h)), lent .working-long))
 
--- ---- the loop over the blocks
-pub blocks-all : (h : Header) (N P x map : List ℕ) → markFrom h N P x 0 (h .q - 0) 0 map ≡ markFrom h N P x 0 (h .q) 0 map
-blocks-all h N P x map =
-    let all : h .q - 0 ≡ h .q = omega arith in
-    rw all
-
-module _ (h : Header) (N P x : List ℕ) (share : ℕ) where
-  pub blocks-start : (radius : ℕ) (map : List ℕ) → share ≡ radius / h .q → markFrom h N P x share (h .q - 0) 0 map ≡ markBlocks h N P x radius map
+-- ---- the loop over the blocks, each within the block radius r
+module _ (h : Header) (N P x : List ℕ) (r : ℕ) where
+  pub blocks-start : (radius nodes : ℕ) (map : List ℕ) → r ≡ radius / h .q → nodes ≡ h .nodes - h .q
+      → markFrom h N P x r (h .q - 0) 0 nodes map ≡ markBlocks h N P x radius map
   unfolding markBlocks
-  blocks-start radius map e =
+  blocks-start radius nodes map e n =
       let all : h .q - 0 ≡ h .q = omega arith in
-      rw (e, all)
+      rw (e, all, n)
 
-  -- a share of 0
-  pub blocks-exact : (radius : ℕ) (map : List ℕ) → share ≡ radius / h .q → share ≡ 0 → markFrom h N P x 0 (h .q) 0 map ≡ markBlocks h N P x radius map
+  -- a block radius of 0
+  pub blocks-exact : (radius nodes : ℕ) (map : List ℕ) → r ≡ radius / h .q → r ≡ 0 → nodes ≡ h .nodes - h .q
+      → markFrom h N P x 0 (h .q) 0 nodes map ≡ markBlocks h N P x radius map
   unfolding markBlocks
-  blocks-exact radius map e z = rw (← e, z)
+  blocks-exact radius nodes map e z n = rw (← e, z, n)
 
-  module _ (j : ℕ) (map : List ℕ) (R : Walked) (inv : markFrom h N P x share (h .q - j) j map ≡ R) where
-    pub blocks-done : h .q ≤ j → walked map true ≡ R
+  module _ (j nodes : ℕ) (map : List ℕ) (R : Marks) (inv : markFrom h N P x r (h .q - j) j nodes map ≡ R) where
+    pub blocks-done : h .q ≤ j → marks map nodes ≡ R
     unfolding markFrom
     blocks-done l = let e : h .q - j ≡ 0 = omega arith in rw (← inv, e) refl
 
-    module _ (l : j < h .q) (after : List ℕ) (t : Bool) (e : walked after t ≡ markBlock h N P x share j map) where
+    module _ (l : j < h .q) (after : List ℕ) (a : Left) (e : marksOf after a ≡ markBlock h N P x r j nodes map) where
       left : h .q - j ≡ suc (h .q - (j + 1))
       left = omega arith
 
-      pub blocks-more : t ≡ true → markFrom h N P x share (h .q - (j + 1)) (j + 1) after ≡ R
+      pub blocks-more : (k : ℕ) → a ≡ Some k → markFrom h N P x r (h .q - (j + 1)) (j + 1) k after ≡ R
       unfolding markFrom
-      blocks-more f = rw (← inv, left, ← e, f, add-one j) refl
+      blocks-more k f = rw (← inv, left, ← e, f, add-one j) refl
 
-      pub blocks-stop : t ≡ false → walked after false ≡ R
+      pub blocks-left : (k : ℕ) → a ≡ Some k → k ≤ nodes
+      unfolding markBlock
+      blocks-left k f = walk-left (walkOf h N P x j) j r nodes map after k (sym e ∙ ap (marksOf after) f)
+
+      pub blocks-stop : a ≡ Broken → broken ≡ R
       unfolding markFrom
       blocks-stop f = rw (← inv, left, ← e, f) refl
 
@@ -120,23 +120,6 @@ module _ (h : Header) (N P M x : List ℕ) (j : ℕ) (next words : ℕ) (ys : Li
   pub fitting-call : Lent h N P M → Fits h x → j < h .q → Fitting (given N P (h .nodes) (h .pages) next words (h .b) ys) M
   fitting-call lent fits l = rw (e, f, g) (fitting h N P M lent j l x fits)
 
-  pub walk-call : (share : ℕ) → walkFrom (given N P (h .nodes) (h .pages) next words (h .b) ys) j share M ≡ markBlock h N P x share j M
+  pub walk-call : (r nodes : ℕ) → walkFrom (given N P (h .nodes) (h .pages) next words (h .b) ys) j r nodes M ≡ markBlock h N P x r j nodes M
   unfolding markBlock
-  walk-call share = rw (e, f, g) refl
-
--- a block by the leaf that the query's bytes lead to
-module _ (h : Header) (N P x firsts : List ℕ) (leaves : Leaves h N x firsts) (j : ℕ) (l : j < h .q) (next words : ℕ)
-    (e : next ≡ nextAt (h .pages) j) (f : words ≡ mapWords (bare h)) where
-  pub exact-call : (map after : List ℕ) (answer : Left) → marks after answer ≡ markLeaf P words (h .pages) next map (getD firsts j 0) (h .pages)
-      → (found : Left) → answer ≡ found → walked after (isSome found) ≡ markBlock h N P x 0 j map
-  unfolding markBlock leafIn
-  exact-call map after answer m found g =
-      ap (λ a. walked after (isSome a)) (sym g)
-      ∙ ap walkedLeaf (m ∙ same)
-      ∙ from-exact w j 0 map refl
-    where
-      w : Given
-      w = walkOf h N P x j
-
-      same : markLeaf P words (h .pages) next map (getD firsts j 0) (h .pages) ≡ mark w map (h .pages) (leafFrom w (exactFrom w j 0))
-      same = rw (e, f, leaves .each j l) refl
+  walk-call r nodes = rw (e, f, g) refl

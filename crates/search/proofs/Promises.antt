@@ -4,10 +4,11 @@ use native.Mathlib.Omega.{arith}
 use mathlib.Core.Path.{_≡_, refl, sym, ap, _∙_}
 use mathlib.Core.Bool.{Bool, true, false, cond, _&&_}
 use mathlib.Core.Logic.{_≢_, _⊎_, inl, inr}
-use mathlib.Core.List.{List, [], _∷_}
+use mathlib.Core.List.{List, [], _∷_, _++_, append-nil}
 use borrow.Author.Tests.{le-leb, ne-eqb}
 use lib.Dec.{leb, eqb}
-use lib.ListN.{length, replicate}
+use lib.ListN.{length, take, drop, replicate, length-replicate, drop-of-length-le}
+use lib.Seq.{take-at, drop-at}
 use Rattle.meaning.specs.Lists.{onto}
 use Rattle.meaning.specs.Refusal.{Question, ask, firstNo}
 use Rattle.meaning.specs.Sketch.{inRange}
@@ -31,10 +32,11 @@ use Rattle.hits.specs.Marks.{summaryOf, Room}
 use Rattle.hits.proofs.Listed.{testOf}
 use Rattle.store.specs.Sound.{Sound}
 use Rattle.store.specs.Calls.{workingLeft, listedOf, Lists, earlyNumber, SearchPromise}
+use Rattle.walk.specs.Mark.{Marks, marks, broken}
 use Rattle.search_laws.specs.Marks.{markBlocks}
 use Rattle.search_laws.specs.Answer.{Answered}
-use Rattle.search_laws.proofs.Marks.{zeroed-onto, zeroed-again}
-use Rattle.search_laws.proofs.Lists.{words, walks, foundIn, list-met, walks-whole, list-all}
+use Rattle.search_laws.proofs.Marks.{zeroed-onto}
+use Rattle.search_laws.proofs.Lists.{words, cleared as blank, walks, foundIn, list-met, walks-whole, list-all}
 use Rattle.search.specs.Ready.{Fits}
 use Rattle.index.specs.Entry.{tablesAsked, entry}
 use Rattle.index.proofs.Enters.{entry-refused, Entered, entry-shown}
@@ -47,30 +49,30 @@ use Rattle.search.proofs.Walked.{lent-room}
 module _ (T : Tables) (reader radius : ℕ) (x before : List ℕ) (n count : ℕ) (after : List ℕ)
     (a : Answered (walks T reader radius x) (isHit (testOf T reader radius x)) (words T reader radius x) before n count after) where
   answer-refused : n ≢ 0 → n ≢ 13 → (count ≡ 0) × (after ≡ before)
-  answer-refused k l = go (walks T reader radius x .whole) refl
+  answer-refused k l = go (walks T reader radius x) refl
     where
       neither : (t : Bool) → n ≡ cond t 0 13 → ⊥
       neither true z = k z
       neither false z = l z
 
-      go : (t : Bool) → walks T reader radius x .whole ≡ t → (count ≡ 0) × (after ≡ before)
-      go true z = absurd (neither (leb (length (foundIn T reader radius x (walks T reader radius x .map))) (length before)) (a .listed z .refusal))
-      go false z = let s = a .stopped z in (s .1, s .2)
+      go : (w : Marks) → walks T reader radius x ≡ w → (count ≡ 0) × (after ≡ before)
+      go (marks m j) z = absurd (neither (leb (length (foundIn T reader radius x m)) (length before)) (a .listed m j z .refusal))
+      go broken z = let s = a .stopped z in (s .1, s .2)
 
   module _ (room : Room (T .working) (words T reader radius x)) where
     answer-open : (n ≡ 14) ⊎ ((met : ℕ → Bool) × Lists (listedOf met T reader radius x) before n count after)
-    answer-open = go (walks T reader radius x .whole) refl
+    answer-open = go (walks T reader radius x) refl
       where
-        go : (t : Bool) → walks T reader radius x .whole ≡ t
+        go : (w : Marks) → walks T reader radius x ≡ w
             → (n ≡ 14) ⊎ ((met : ℕ → Bool) × Lists (listedOf met T reader radius x) before n count after)
-        go true z = inr (flag (walks T reader radius x .map) 0, rw (list-met T reader radius x room) at (a .listed z))
-        go false z = inl (a .stopped z .0)
+        go (marks m j) z = inr (flag m 0, rw (list-met T reader radius x room m j z) at (a .listed m j z))
+        go broken z = inl (a .stopped z .0)
 
     answer-sound : HeaderLimits (headerOf (given T)) → sketchesLength (given T) ≤ length (T .sketches) → length x ≡ given T .symbols
         → inRange (given T .bits) x ≡ true → (F : List Tree) → Sound T F → Lists (scan T reader radius x) before n count after
     answer-sound limits rows c r F s =
-        rw (list-all T reader radius x room limits rows c r F s) at
-        (a .listed (ap (λ v. v .whole) (walks-whole T reader radius x room limits rows c r F s)))
+        let w = walks-whole T reader radius x room limits rows c r F s in
+        rw (list-all T reader radius x room limits rows c r F s _ _ (w .same)) at (a .listed _ _ (w .same))
 
 -- ---- the questions
 -- two questions ahead of others
@@ -130,9 +132,9 @@ module _ (T : Tables) (reader radius : ℕ) (x before : List ℕ) where
         ∙ ap (λ k. onto (replicate k 0) (T .working)) (same-lengths (given T) h (in-order .header) .working)
         ∙ sym (left-split before ∙ rw (in-order .none) refl)
 
-    module _ (w : ℕ) (f : w ≡ mapWords (bare h)) (marks : List ℕ) (g : marks ≡ zeroed (T .working) 0 (w + summaryOf w)) where
+    module _ (w : ℕ) (f : w ≡ mapWords (bare h)) (cleared : List ℕ) (g : cleared ≡ zeroed (T .working) 0 (w + summaryOf w)) where
       -- 7, 10 or 11
-      pub promise-query : (n : ℕ) → n ≡ firstNo (queryAsked h reader radius x) → n ≢ 0 → SearchPromise T reader radius x before n 0 before marks
+      pub promise-query : (n : ℕ) → n ≡ firstNo (queryAsked h reader radius x) → n ≢ 0 → SearchPromise T reader radius x before n 0 before cleared
       promise-query n q some =
           let same : early ≡ n = early-query ∙ sym q in
           record {
@@ -143,15 +145,45 @@ module _ (T : Tables) (reader radius : ℕ) (x before : List ℕ) where
             working-left = g ∙ ap (λ v. zeroed (T .working) 0 (v + summaryOf v)) f ∙ left-cleared;
           }
 
-      -- past 11
-      pub promise-found : firstNo (queryAsked h reader radius x) ≡ 0 → (n count : ℕ) (after working : List ℕ)
-          → Answered (markBlocks h (T .nodes) (T .pages) x radius marks) (isHit (test (T .pages) (T .sketches) h (openClasses (T .settings) reader) x radius)) w before n count after
-          → working ≡ zeroed marks 0 (w + summaryOf w) → SearchPromise T reader radius x before n count after working
-      promise-found q n count after working a z =
+      -- past 11: the walks are lent the needed part alone
+      abbrev needed : ℕ
+      needed = w + summaryOf w
+
+      zeros : List ℕ
+      zeros = replicate needed 0
+
+      zeros-long : length zeros ≡ needed
+      unfolding zeros
+      zeros-long = length-replicate {A = ℕ} needed 0
+
+      part-clear : take needed cleared ≡ zeros
+      unfolding zeroed zeros
+      part-clear = ap (take needed) g ∙ take-at zeros (drop (0 + needed) (T .working)) needed zeros-long
+
+      part-again : zeroed zeros 0 needed ≡ zeros
+      unfolding zeroed zeros
+      part-again =
+          let none : drop (0 + needed) zeros ≡ [] = drop-of-length-le zeros {i = 0 + needed} (omega (arith, zeros-long)) in
+          ap (λ r. zeros ++ r) none ∙ append-nil zeros
+
+      put-back : zeroed (take needed cleared) 0 needed ++ drop needed cleared ≡ zeroed (T .working) 0 needed
+      unfolding zeroed zeros
+      put-back =
+          ap (λ l. zeroed l 0 needed ++ drop needed cleared) part-clear
+          ∙ ap (λ l. l ++ drop needed cleared) part-again
+          ∙ ap (λ l. zeros ++ drop needed l) g
+          ∙ ap (λ l. zeros ++ l) (drop-at zeros (drop (0 + needed) (T .working)) needed zeros-long)
+
+      pub promise-found : firstNo (queryAsked h reader radius x) ≡ 0 → (k : ℕ) → k ≡ workingLength (bare h) → (n count : ℕ) (after last : List ℕ)
+          → Answered (markBlocks h (T .nodes) (T .pages) x radius (take k cleared)) (isHit (test (T .pages) (T .sketches) h (openClasses (T .settings) reader) x radius)) w before n count after
+          → last ≡ zeroed (take k cleared) 0 needed → SearchPromise T reader radius x before n count after (last ++ drop k cleared)
+      unfolding workingLength summaryWords blank zeros
+      promise-found q k e n count after last a z =
           let i = rw (← in-order .header) at in-order in
           let fits : Fits (headerOf (given T)) x = rw (← in-order .header) at (query-passed h reader radius x q .1) in
+          let size : k ≡ needed = e ∙ ap (λ v. v + summaryOf v) (sym f) in
           let b : Answered (walks T reader radius x) (isHit (testOf T reader radius x)) (words T reader radius x) before n count after =
-          rw (g, f, ← in-order .header) at a in
+          rw (size, part-clear, f, ← in-order .header) at a in
           let rows : sketchesLength (given T) ≤ length (T .sketches) = rw (same-lengths (given T) h (in-order .header) .sketches) at (in-order .sketches-long) in
           let room = lent-room (headerOf (given T)) (T .nodes) (T .pages) (T .working) (lends T (headerOf (given T)) i) (words T reader radius x) refl in
           record {
@@ -160,9 +192,9 @@ module _ (T : Tables) (reader radius : ℕ) (x before : List ℕ) where
             open-list = λ y. answer-open T reader radius x before n count after b room;
             refused = answer-refused T reader radius x before n count after b;
             working-left =
-                z
-                ∙ ap (λ m. zeroed m 0 (w + summaryOf w)) g
-                ∙ zeroed-again (w + summaryOf w) (T .working)
+                ap (λ m. m ++ drop k cleared) z
+                ∙ ap (λ j. zeroed (take j cleared) 0 needed ++ drop j cleared) size
+                ∙ put-back
                 ∙ ap (λ v. zeroed (T .working) 0 (v + summaryOf v)) f
                 ∙ left-cleared;
           }

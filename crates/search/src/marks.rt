@@ -1,16 +1,16 @@
-// The pages that the walks of the blocks' tries meet, marked in the working table.
+// The pages that the walks of the blocks' tries meet, marked in the working table. All walks together draw on one budget of nodes.
 ghost use mathlib.Core.Path.{_≡_};
 ghost use Prim.Native.Nat.{_<_};
 ghost use Rattle.layout.specs.Header.{bare};
 ghost use Rattle.layout.specs.Working.{mapWords};
 ghost use Rattle.sketch.specs.Table.{distanceTable};
-ghost use Rattle.walk.specs.Walk.{walked};
+ghost use Rattle.walk.specs.Mark.{marksOf};
 ghost use Rattle.search_laws.specs.Marks.{markBlock, markFrom, markBlocks};
 ghost use Rattle.search.specs.Ready.{Fits, Lent};
+use descent::Left;
 use layout::Header;
-use walk::mark::Left;
 
-// Walks the trie of block j within its share of the radius. Was every link in order?
+// Walks the trie of block j within the block radius. What is left of the nodes, unless a link was not in order or a budget did not last?
 fn mark_block(
     table: &[u8; 2048],
     nodes: &[u32],
@@ -19,15 +19,16 @@ fn mark_block(
     h: Header,
     words: usize,
     sketch: &[u8],
-    share: u32,
+    block_radius: u32,
     j: usize,
-) -> bool
+    budget: u32,
+) -> Left
     requires { ⌜ now table ≡ distanceTable ⌝ }
     requires { ⌜ Lent h (now nodes) (now pages) (now map) ⌝ }
     requires { ⌜ Fits h (now sketch) ⌝ }
     requires { ⌜ words ≡ mapWords (bare h) ⌝ }
-    requires { ⌜ (j < h .q) × (0 < share) ⌝ }
-    ensures { λ r. ⌜ walked (now (map .exit)) r ≡ markBlock h (now (nodes .entry)) (now (pages .entry)) (now (sketch .entry)) share j (now (map .entry)) ⌝ }
+    requires { ⌜ (j < h .q) × (0 < «block_radius») × (budget < h .nodes) ⌝ }
+    ensures { λ r. ⌜ marksOf (now (map .exit)) r ≡ markBlock h (now (nodes .entry)) (now (pages .entry)) (now (sketch .entry)) «block_radius» j budget (now (map .entry)) ⌝ }
 {
     let b = h.b as u32;
     let mut bytes = [0u8; 64];
@@ -46,11 +47,12 @@ fn mark_block(
         b,
         &bytes[..n],
         j,
-        share,
+        block_radius,
+        budget,
     )
 }
 
-// Marks the pages of the leaf in each trie that the query's own bytes lead to. Was every link in order?
+// Marks the pages of the leaf in each trie that the query's own bytes lead to.
 fn mark_exact(
     nodes: &[u32],
     pages: &[u32],
@@ -58,31 +60,39 @@ fn mark_exact(
     h: Header,
     words: usize,
     sketch: &[u8],
-) -> bool
+    budget: u32,
+) -> Left
     requires { ⌜ Lent h (now nodes) (now pages) (now map) ⌝ }
     requires { ⌜ Fits h (now sketch) ⌝ }
     requires { ⌜ words ≡ mapWords (bare h) ⌝ }
-    ensures { λ r. ⌜ walked (now (map .exit)) r ≡ markFrom h (now (nodes .entry)) (now (pages .entry)) (now (sketch .entry)) 0 (h .q) 0 (now (map .entry)) ⌝ }
+    requires { ⌜ budget < h .nodes ⌝ }
+    ensures { λ r. ⌜ marksOf (now (map .exit)) r ≡ markFrom h (now (nodes .entry)) (now (pages .entry)) (now (sketch .entry)) 0 (h .q) 0 budget (now (map .entry)) ⌝ }
 {
-    let firsts = exact::leaves(nodes, h, sketch);
+    let ends = exact::leaves(nodes, h, sketch, budget);
+    let firsts = ends.firsts;
+    let unread = ends.left;
+    let Left::Some(over) = unread else {
+        return Left::Broken;
+    };
     let blocks = h.q;
-    let budget = h.pages as u32;
+    let most = h.pages as u32;
     let mut j = 0;
     while j < blocks {
         let next = layout::pages::next_at(h.pages, j);
-        match walk::mark::mark_leaf(pages, map, words, h.pages, next, firsts[j], budget) {
+        match walk::mark::mark_leaf(pages, map, words, h.pages, next, firsts[j], most) {
             Left::Some(_) => {
                 j += 1;
             }
             Left::Broken => {
-                return false;
+                return Left::Broken;
             }
         }
     }
-    true
+    Left::Some(over)
 }
 
-// Walks the tries of all blocks, each within its share of the radius. A share of 0 leaves one path in each.
+// Walks the tries of all blocks, each within the block radius. One of 0 leaves one path in each. The budget is every node once,
+// the roots counted first.
 pub fn mark_blocks(
     nodes: &[u32],
     pages: &[u32],
@@ -91,24 +101,42 @@ pub fn mark_blocks(
     words: usize,
     sketch: &[u8],
     radius: u32,
-) -> bool
+) -> Left
     requires { ⌜ Lent h (now nodes) (now pages) (now map) ⌝ }
     requires { ⌜ Fits h (now sketch) ⌝ }
     requires { ⌜ words ≡ mapWords (bare h) ⌝ }
-    ensures { λ r. ⌜ walked (now (map .exit)) r ≡ markBlocks h (now (nodes .entry)) (now (pages .entry)) (now (sketch .entry)) radius (now (map .entry)) ⌝ }
+    ensures { λ r. ⌜ marksOf (now (map .exit)) r ≡ markBlocks h (now (nodes .entry)) (now (pages .entry)) (now (sketch .entry)) radius (now (map .entry)) ⌝ }
 {
     let q = h.q;
-    let share = radius / (q as u32);
-    if share == 0 {
-        return mark_exact(nodes, pages, map, h, words, sketch);
+    let budget = (h.nodes - q) as u32;
+    let block_radius = radius / (q as u32);
+    if block_radius == 0 {
+        return mark_exact(nodes, pages, map, h, words, sketch, budget);
     }
     let table = sketch::table::distance_table();
+    let mut left = budget;
     let mut j = 0;
     while j < q {
-        if !mark_block(&table, nodes, pages, map, h, words, sketch, share, j) {
-            return false;
+        match mark_block(
+            &table,
+            nodes,
+            pages,
+            map,
+            h,
+            words,
+            sketch,
+            block_radius,
+            j,
+            left,
+        ) {
+            Left::Some(n) => {
+                left = n;
+                j += 1;
+            }
+            Left::Broken => {
+                return Left::Broken;
+            }
         }
-        j += 1;
     }
-    true
+    Left::Some(left)
 }

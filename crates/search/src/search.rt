@@ -18,6 +18,7 @@ ghost use Rattle.search.specs.Ready.{Fits, Lent};
 use crate::list;
 use crate::marks;
 use crate::questions;
+use descent::Left;
 use layout::Header;
 use layout::Opening;
 
@@ -27,7 +28,8 @@ pub struct Found {
     pub count: u32,
 }
 
-// Walks the tries, then lists; 14 where a link led outside or a walk was too long. Clears the maps.
+// Walks the tries, then lists; 14 where a link was not in order or a budget did not last. The working table is its needed part alone:
+// the maps, which are cleared.
 fn find(
     settings: &[u32],
     nodes: &[u32],
@@ -46,17 +48,19 @@ fn find(
     requires { ⌜ Fits h (now sketch) ⌝ }
     requires { ⌜ (settingsLength ≤ length (now settings)) × (reader < 256) ⌝ }
     requires { ⌜ words ≡ mapWords (bare h) ⌝ }
+    requires { ⌜ length (now working) ≡ words + summaryOf words ⌝ }
     requires { ⌜ Summarised (now working) words ⌝ }
     ensures { λ r. ⌜ Answered (markBlocks h (now (nodes .entry)) (now (pages .entry)) (now (sketch .entry)) radius (now (working .entry))) (isHit (test (now (pages .entry)) (now (sketches .entry)) h (openClasses (now (settings .entry)) reader) (now (sketch .entry)) radius)) words (now (output .entry)) (r .number) (r .count) (now (output .exit)) ⌝ }
     ensures { λ r. ⌜ now (working .exit) ≡ zeroed (now (working .entry)) 0 (words + summaryOf words) ⌝ }
 {
-    if !marks::mark_blocks(nodes, pages, working, h, words, sketch, radius) {
+    let marked = marks::mark_blocks(nodes, pages, working, h, words, sketch, radius);
+    let Left::Some(_) = marked else {
         hits::clear_marks(working, words);
         return Found {
             number: 14,
             count: 0,
         };
-    }
+    };
     let classes = rights::open_classes(settings, reader as usize);
     list::list_hits(
         working,
@@ -103,12 +107,13 @@ pub fn search(
             count: 0,
         };
     }
+    let needed = layout::lengths::working_length(h);
     find(
         settings,
         nodes,
         pages,
         sketches,
-        working,
+        &mut working[..needed],
         h,
         words,
         reader,

@@ -1,9 +1,9 @@
--- What the walks leave on any tables: a map with some pages below the capacity marked. Clearing it gives what clearing before gave.
+-- What the walks leave on any tables, unless one stops: a map with some pages below the capacity marked. Clearing it gives what clearing before gave.
 use Prim.Native.Nat.{ℕ, zero, suc, _+_, _*_, _/_, _≤_, _<_}
 use native.Mathlib.Omega.{arith}
 use native.Mathlib.Nat.{zero-add}
 use mathlib.Core.Path.{_≡_, refl, ap, _∙_}
-use mathlib.Core.Bool.{Bool, true, false, cond}
+use mathlib.Core.Bool.{true}
 use mathlib.Core.List.{List, [], _∷_}
 use lib.Dec.{ltb}
 use lib.ListN.{length, drop, replicate, length-replicate}
@@ -18,37 +18,27 @@ use Rattle.layout.specs.Working.{mapWords}
 use Rattle.hits.specs.Marks.{summaryOf, Room, Summarised}
 use Rattle.meaning.proofs.Lists.{and-first, and-second}
 use Rattle.trie_laws.proofs.Lists.{all-more}
-use Rattle.walk.specs.Mark.{marked, markAll}
-use Rattle.walk.specs.Walk.{Walked, walked}
+use Rattle.walk.specs.Mark.{Marks, marks, marked, markAll}
 use Rattle.walk_laws.proofs.Marks.{mark-length, summarised-marks}
-use Rattle.walk_laws.proofs.Anywhere.{Marking, none-marked, then-marked, walk-marking}
+use Rattle.walk_laws.proofs.Anywhere.{Marking, none-marked, Marked, marked-same, marked-on, walk-marked}
 use Rattle.search_laws.specs.Marks.{walkOf, markBlock, markFrom, markBlocks}
 
 -- ---- the walks only mark
 module _ (h : Header) (N P x : List ℕ) where
-  abbrev Marked : List ℕ → List ℕ → Type 0
-  Marked map after = Marking (mapWords (bare h)) (h .pages) map after
+  abbrev Within : List ℕ → Marks → Type 0
+  Within map m = Marked (mapWords (bare h)) (h .pages) map m
 
-  block-marking : (share j : ℕ) (map : List ℕ) → Marked map (markBlock h N P x share j map .map)
-  unfolding markBlock
-  block-marking share j map = walk-marking (walkOf h N P x j) _ _ map
+  from-marked : (blockRadius k j nodes : ℕ) (map : List ℕ) → Within map (markFrom h N P x blockRadius k j nodes map)
+  unfolding markFrom markBlock
+  from-marked blockRadius zero j nodes map = none-marked (mapWords (bare h)) (h .pages) map
+  from-marked blockRadius (suc k) j nodes map =
+      marked-on (mapWords (bare h)) (h .pages) map (λ m n. markFrom h N P x blockRadius k (suc j) n m) (markBlock h N P x blockRadius j nodes map)
+      (walk-marked (walkOf h N P x j) _ blockRadius nodes map) (λ m n. from-marked blockRadius k (suc j) n m)
 
-  from-marking : (share k j : ℕ) (map : List ℕ) → Marked map (markFrom h N P x share k j map .map)
-  unfolding markFrom
-  from-marking share zero j map = none-marked (mapWords (bare h)) (h .pages) map
-  from-marking share (suc k) j map = go (w .whole) (from-marking share k (suc j) (w .map))
-    where
-      w : Walked
-      w = markBlock h N P x share j map
-
-      go : (t : Bool) → Marked (w .map) (markFrom h N P x share k (suc j) (w .map) .map)
-          → Marked map ((cond t (markFrom h N P x share k (suc j) (w .map)) (walked (w .map) false)) .map)
-      go true later = then-marked (mapWords (bare h)) (h .pages) map (w .map) _ (block-marking share j map) later
-      go false later = block-marking share j map
-
-  pub blocks-marking : (radius : ℕ) (map : List ℕ) → Marked map (markBlocks h N P x radius map .map)
+  pub blocks-marking : (radius : ℕ) (map after : List ℕ) (k : ℕ) → markBlocks h N P x radius map ≡ marks after k
+      → Marking (mapWords (bare h)) (h .pages) map after
   unfolding markBlocks
-  blocks-marking radius map = from-marking _ _ _ map
+  blocks-marking radius map after k e = marked-same (mapWords (bare h)) (h .pages) map after k _ e (from-marked _ _ _ _ map)
 
 -- ---- what that says of the maps
 behind-marks : (words : ℕ) (map ps : List ℕ) → all (λ p. ltb p (32 * words)) ps ≡ true

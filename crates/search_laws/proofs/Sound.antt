@@ -1,4 +1,4 @@
--- On tables that hold a sound trie for each block the walks mark exactly what the tries meet.
+-- On tables that hold a sound trie for each block the walks mark exactly what the tries meet, and the budget of nodes lasts.
 use Prim.Native.Nat.{ℕ, suc, _+_, _*_, _/_, _^_, _≤_, _<_}
 use native.Mathlib.Omega.{arith}
 use native.Mathlib.Nat.{lt-of-lt-of-le, mul-le-mul-left, min-le-left}
@@ -10,7 +10,7 @@ use lib.ListN.{length, getD}
 use lib.Pow.{pow-mono}
 use Rattle.meaning.specs.Lists.{all, sum}
 use Rattle.meaning.specs.Sketch.{perByte, inRange, symbolsAt, block, blockLength}
-use Rattle.meaning.specs.Trie.{met, nodes}
+use Rattle.meaning.specs.Trie.{Tree, leaf, inner, met, nodes}
 use Rattle.meaning.specs.Ledger.{Settings}
 use Rattle.meaning.specs.Forest.{blockBytes, bytesOfSketch, metFrom, totalNodes}
 use Rattle.layout.specs.Header.{headerOf, bare}
@@ -27,8 +27,7 @@ use Rattle.meaning.proofs.Lists.{and-intro, all-append}
 use Rattle.trie_laws.proofs.Lists.{count-upto}
 use Rattle.trie_laws.proofs.Pages.{stands-length}
 use Rattle.store.specs.Sound.{triesCells, Rooted}
-use Rattle.walk.specs.Mark.{markAll}
-use Rattle.walk.specs.Walk.{walked}
+use Rattle.walk.specs.Mark.{Marks, marks, markAll, onMarks}
 use Rattle.walk_laws.proofs.Marks.{mark-append}
 use Rattle.walk_laws.proofs.Walk.{walk-right, met-small}
 use Rattle.search_laws.specs.Marks.{walkOf, markBlock, markFrom, markBlocks}
@@ -47,6 +46,23 @@ from-small s radius x (t ∷ ts) j r =
     (met-small (s .nodes) (s .pages) (s .bits) t (radius / s .blocks) (bytesOfSketch s j x) (r .1))
     (from-small s radius x ts (suc j) (r .2))
 
+-- each trie has a node
+some-nodes : (t : Tree) → 1 ≤ nodes t
+unfolding nodes
+some-nodes (leaf ps) = omega arith
+some-nodes (inner cs) = omega arith
+
+tries-some : (ts : List Phys) → length ts ≤ totalNodes (map tree ts)
+unfolding totalNodes sum
+tries-some [] = omega arith
+tries-some (t ∷ ts) = omega (arith, some-nodes (tree t), tries-some ts)
+
+-- walks leave a map, and of a budget all but the nodes that they can read
+pub record Whole (walks : Marks) (after : List ℕ) (budget read : ℕ) : Type 0 where
+  pub left : ℕ
+  pub enough : budget ≤ left + read
+  pub same : walks ≡ marks after left
+
 module _ (s : Settings) (limits : HeaderLimits (headerOf s)) (N P x : List ℕ) (count : length x ≡ s .symbols) (range : inRange (s .bits) x ≡ true) where
   -- the query's bytes in block j
   bytes-length : (j : ℕ) → j < s .blocks → length (bytesOfSketch s j x) ≡ blockBytes s j
@@ -64,40 +80,64 @@ module _ (s : Settings) (limits : HeaderLimits (headerOf s)) (N P x : List ℕ) 
 
   -- `bytes j p` are the packed bytes of page p in block j
   module _ (bytes : ℕ → ℕ → List ℕ) (live : ℕ → Bool) (below : (p : ℕ) → live p ≡ true → p < s .pages) where
-    module _ (share : ℕ) where
-      block-right : (j : ℕ) (t : Phys) (marks : List ℕ) → j < s .blocks → Holds (cells (s .nodes) (nextAt (s .pages) j) t) N P
-          → SoundNodes (s .nodes) (s .pages) t → root t ≡ j → SoundBlock s bytes live j (tree t) → nodes (tree t) ≤ s .nodes
-          → markBlock (headerOf s) N P x share j marks ≡ walked (markAll marks (mapWords (bare (headerOf s))) (met (s .bits) share (tree t) (bytesOfSketch s j x))) true
+    module _ (blockRadius : ℕ) where
+      block-right : (j : ℕ) (t : Phys) (budget : ℕ) (before : List ℕ) → j < s .blocks → Holds (cells (s .nodes) (nextAt (s .pages) j) t) N P
+          → SoundNodes (s .nodes) (s .pages) t → root t ≡ j → SoundBlock s bytes live j (tree t) → nodes (tree t) ≤ s .nodes → nodes (tree t) ≤ budget + 1
+          → Whole (markBlock (headerOf s) N P x blockRadius j budget before)
+          (markAll before (mapWords (bare (headerOf s))) (met (s .bits) blockRadius (tree t) (bytesOfSketch s j x))) (budget + 1) (nodes (tree t))
       unfolding markBlock bytesOfSketch
-      block-right j t marks l h g r b few =
-          rw r at
-          (walk-right (walkOf (headerOf s) N P x j) (bytes j) (blockLength (s .symbols) (s .blocks) j) t share marks
+      block-right j t budget before l h g r b few lasts =
+          let walk = walk-right (walkOf (headerOf s) N P x j) (bytes j) (blockLength (s .symbols) (s .blocks) j) t blockRadius budget before
           (limits .nodes-most) (bytes-small j l) h g (rw (bytes-length j l) (b .sound)) few
           (omega (
             arith,
-            met-most (s .bits) (tree t) share (bytesOfSketch s j x),
+            met-most (s .bits) (tree t) blockRadius (bytesOfSketch s j x),
             stands-length live (tree t) (b .stands) (s .pages) below,
             count-upto live (s .pages),
-          )))
+          ))
+          lasts in
+          record { left = walk .left; enough = walk .enough; same = rw r at (walk .same) }
 
     -- those of blocks j, j + 1, ..
-    from-right : (radius : ℕ) (ts : List Phys) (j : ℕ) (marks : List ℕ) → j + length ts ≤ s .blocks → Holds (triesCells (s .nodes) (s .pages) j ts) N P
-        → Rooted (s .nodes) (s .pages) j ts → EachFrom (SoundBlock s bytes live) j (map tree ts) → totalNodes (map tree ts) ≤ s .nodes
-        → markFrom (headerOf s) N P x (radius / s .blocks) (length ts) j marks
-        ≡ walked (markAll marks (mapWords (bare (headerOf s))) (metFrom s radius x j (map tree ts))) true
+    from-right : (radius : ℕ) (ts : List Phys) (j budget : ℕ) (before : List ℕ) → j + length ts ≤ s .blocks
+        → Holds (triesCells (s .nodes) (s .pages) j ts) N P → Rooted (s .nodes) (s .pages) j ts → EachFrom (SoundBlock s bytes live) j (map tree ts)
+        → totalNodes (map tree ts) ≤ s .nodes → totalNodes (map tree ts) ≤ budget + length ts
+        → Whole (markFrom (headerOf s) N P x (radius / s .blocks) (length ts) j budget before)
+        (markAll before (mapWords (bare (headerOf s))) (metFrom s radius x j (map tree ts))) (budget + length ts) (totalNodes (map tree ts))
     unfolding markFrom markAll metFrom totalNodes sum
-    from-right radius [] j marks l h r b few = refl
-    from-right radius (t ∷ ts) j marks l h r b few =
+    from-right radius [] j budget before l h r b few lasts = record { left = budget; enough = omega arith; same = refl }
+    from-right radius (t ∷ ts) j budget before l h r b few lasts =
         let words : ℕ = mapWords (bare (headerOf s)) in
         let here : List ℕ = met (s .bits) (radius / s .blocks) (tree t) (bytesOfSketch s j x) in
-        rw (block-right (radius / s .blocks) j t marks (omega arith) (h .0) (r .1) (r .0) (b .0) (omega arith))
-        (from-right radius ts (suc j) (markAll marks words here) (omega arith) (h .1) (r .2) (b .1) (omega arith)
-        ∙ ap (λ m. walked m true) (sym (mark-append marks words here (metFrom s radius x (suc j) (map tree ts)))))
+        let one = block-right (radius / s .blocks) j t budget before (omega arith) (h .0) (r .1) (r .0) (b .0) (omega arith)
+        (omega (arith, tries-some ts)) in
+        let rest = from-right radius ts (suc j) (one .left) (markAll before words here) (omega arith) (h .1) (r .2) (b .1) (omega arith)
+        (omega (arith, one .enough)) in
+        record {
+          left = rest .left;
+          enough = omega (arith, one .enough, rest .enough);
+          same = ap (onMarks (λ m n. markFrom (headerOf s) N P x (radius / s .blocks) (length ts) (suc j) n m)) (one .same)
+              ∙ rest .same
+              ∙ ap (λ m. marks m (rest .left)) (sym (mark-append before words here (metFrom s radius x (suc j) (map tree ts))));
+        }
 
-    pub blocks-right : (radius : ℕ) (ts : List Phys) (marks : List ℕ) → length ts ≡ s .blocks → Holds (triesCells (s .nodes) (s .pages) 0 ts) N P
+    -- all blocks, with a budget that has every node once the roots are counted
+    blocks-within : (radius : ℕ) (ts : List Phys) (budget : ℕ) (before : List ℕ) → length ts ≡ s .blocks
+        → Holds (triesCells (s .nodes) (s .pages) 0 ts) N P → Rooted (s .nodes) (s .pages) 0 ts → EachFrom (SoundBlock s bytes live) 0 (map tree ts)
+        → totalNodes (map tree ts) ≤ s .nodes → s .nodes ≤ budget + s .blocks
+        → Whole (markFrom (headerOf s) N P x (radius / s .blocks) (s .blocks) 0 budget before)
+        (markAll before (mapWords (bare (headerOf s))) (metFrom s radius x 0 (map tree ts))) (s .nodes) (totalNodes (map tree ts))
+    blocks-within radius ts budget before e h r b few lasts =
+        let all = from-right radius ts 0 budget before (omega arith) h r b few (omega arith) in
+        record {
+          left = all .left;
+          enough = omega (arith, all .enough);
+          same = ap (λ k. markFrom (headerOf s) N P x (radius / s .blocks) k 0 budget before) (sym e) ∙ all .same;
+        }
+
+    pub blocks-right : (radius : ℕ) (ts : List Phys) (before : List ℕ) → length ts ≡ s .blocks → Holds (triesCells (s .nodes) (s .pages) 0 ts) N P
         → Rooted (s .nodes) (s .pages) 0 ts → EachFrom (SoundBlock s bytes live) 0 (map tree ts) → totalNodes (map tree ts) ≤ s .nodes
-        → markBlocks (headerOf s) N P x radius marks
-        ≡ walked (markAll marks (mapWords (bare (headerOf s))) (metFrom s radius x 0 (map tree ts))) true
+        → Whole (markBlocks (headerOf s) N P x radius before)
+        (markAll before (mapWords (bare (headerOf s))) (metFrom s radius x 0 (map tree ts))) (s .nodes) (totalNodes (map tree ts))
     unfolding markBlocks
-    blocks-right radius ts marks e h r b few =
-        ap (λ k. markFrom (headerOf s) N P x (radius / s .blocks) k 0 marks) (sym e) ∙ from-right radius ts 0 marks (omega arith) h r b few
+    blocks-right radius ts before e h r b few = blocks-within radius ts _ before e h r b few (omega (arith, tries-some ts))

@@ -7,25 +7,24 @@ use lib.ListN.{getD, length, length-set}
 use borrow.Author.Tests.{le-ltb, lt-ltb, eq-eqb, ne-eqb}
 use Rattle.meaning.proofs.Stacks.{suc-pred}
 use Rattle.words.specs.Bits.{withFlag}
-use Rattle.walk.specs.declared.mark.Left.the-variants.{Some, Broken}
-use Rattle.walk.specs.Mark.{marks, marked, markLeaf}
+use Rattle.walk.specs.Mark.{marks, broken, marked, markLeaf}
 
 pub marked-length : (map : List ℕ) (words p : ℕ) → length (marked map words p) ≡ length map
 unfolding marked withFlag
 marked-length map words p = simp length-set
 
 module _ (pages : List ℕ) (words cap next : ℕ) (map : List ℕ) where
-  pub leaf-end : (link f : ℕ) → link ≡ 0 → markLeaf pages words cap next map link f ≡ marks map (Some f)
+  pub leaf-end : (link f : ℕ) → link ≡ 0 → markLeaf pages words cap next map link f ≡ marks map f
   unfolding markLeaf
   leaf-end link zero e = rw (eq-eqb link 0 e)
   leaf-end link (suc f) e = rw (eq-eqb link 0 e)
 
-  pub leaf-spent : (link f : ℕ) → 0 < link → f ≡ 0 → markLeaf pages words cap next map link f ≡ marks map Broken
+  pub leaf-spent : (link f : ℕ) → 0 < link → f ≡ 0 → markLeaf pages words cap next map link f ≡ broken
   unfolding markLeaf
   leaf-spent link zero n e = rw (ne-eqb link 0 (omega arith))
   leaf-spent link (suc f) n e = absurd (omega arith)
 
-  pub leaf-outside : (link f : ℕ) → cap < link → markLeaf pages words cap next map link f ≡ marks map Broken
+  pub leaf-outside : (link f : ℕ) → cap < link → markLeaf pages words cap next map link f ≡ broken
   unfolding markLeaf
   leaf-outside link zero o = rw (ne-eqb link 0 (omega arith))
   leaf-outside link (suc f) o = rw (ne-eqb link 0 (omega arith), lt-ltb cap link o)

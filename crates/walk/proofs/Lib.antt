@@ -1,7 +1,9 @@
+pub mod Spend
 pub mod LeafSteps
 pub mod Steps
 pub mod Stack
 pub mod Turns
+pub mod Flush
 pub mod Pending
 pub mod Marking
 pub mod Behind

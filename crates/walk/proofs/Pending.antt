@@ -1,58 +1,108 @@
 -- Leaves that wait: one more of them, and the walk that goes on behind them.
-use Prim.Native.Nat.{ℕ, _+_, _<_}
+use Prim.Native.Nat.{ℕ, _+_, _-_, _<_}
 use native.Mathlib.Omega.{arith}
 use native.Mathlib.Numerals.{add-one}
 use native.Mathlib.Decide.{ℕ-discrete}
 use mathlib.Core.Path.{_≡_, refl, sym, ap, subst, _∙_}
+use mathlib.Core.Bool.{Bool, true, false, cond}
 use mathlib.Core.List.{List, [], _∷_, _++_}
+use lib.Dec.{ltb}
 use lib.ListN.{length, getD, set, take, length-set}
 use lib.Seq.{getD-set-same, getD-set-other, take-suc-set}
 use Rattle.descent.specs.declared.Cursor.{Cursor}
-use Rattle.descent.specs.Cursor.{Inside, AllInside, ended, arrive, leafOf}
-use Rattle.descent.proofs.Steps.{inside-arrive, descended-ended}
-use Rattle.walk.specs.declared.mark.Left.{Left}
-use Rattle.walk.specs.declared.mark.Left.the-variants.{Some, Broken}
-use Rattle.walk.specs.Mark.{Marks, marks}
-use Rattle.walk.specs.Walk.{Given, Walked, onLeft, onMarks, mark, leafFrom}
-use Rattle.walk.specs.Waiting.{onward, markWaiting}
+use Rattle.descent.specs.Cursor.{Inside, AllInside, ended, arrive, drawnAll, leafOf}
+use Rattle.descent.proofs.Steps.{inside-arrive, descended-ended, drawn-ended, drawn-one-more}
+use Rattle.walk.specs.Mark.{Marks, marks, broken, onMarks, spend}
+use Rattle.walk.specs.Walk.{Given, mark, leafFrom, drawnFrom, markExact}
+use Rattle.walk.specs.Waiting.{markWaiting, drawnBy, stopped, onLeaves, flush}
+use Rattle.walk.proofs.Spend.{onMarks-same, onMarks-then, onMarks-broken, spend-none, spend-same, spend-marks, spend-both, spend-swap, spend-broken}
+use Rattle.walk.proofs.Flush.{onFlushed}
 
--- ---- on behind them
+-- ---- marked
 
-onLeft-same : (go go′ : List ℕ → ℕ → Walked) (map : List ℕ) (a : Left) → ((m : List ℕ) (l : ℕ) → go m l ≡ go′ m l) → onLeft go map a ≡ onLeft go′ map a
-onLeft-same go go′ map (Some n) h = h map n
-onLeft-same go go′ map Broken h = refl
+pub waiting-more : (go : List ℕ → ℕ → Marks) (w : Given) (cs : List Cursor) (c : Cursor) (map : List ℕ) (left : ℕ)
+    → onMarks go (markWaiting w map left (cs ++ (c ∷ []))) ≡ onMarks (λ m l. onMarks go (mark w m l (leafFrom w c))) (markWaiting w map left cs)
+unfolding markWaiting
+waiting-more go w [] c map left = onMarks-then marks go (mark w map left (leafFrom w c))
+waiting-more go w (d ∷ cs) c map left =
+    let one : List ℕ → ℕ → Marks = λ m l. onMarks go (mark w m l (leafFrom w c)) in
+    onMarks-then (λ m l. markWaiting w m l (cs ++ (c ∷ []))) go (mark w map left (leafFrom w d))
+    ∙ onMarks-same (λ m l. onMarks go (markWaiting w m l (cs ++ (c ∷ [])))) (λ m l. onMarks one (markWaiting w m l cs)) (mark w map left (leafFrom w d))
+    (λ m l. waiting-more go w cs c m l)
+    ∙ sym (onMarks-then (λ m l. markWaiting w m l cs) one (mark w map left (leafFrom w d)))
 
-pub onMarks-same : (go go′ : List ℕ → ℕ → Walked) (x : Marks) → ((m : List ℕ) (l : ℕ) → go m l ≡ go′ m l) → onMarks go x ≡ onMarks go′ x
-onMarks-same go go′ x h = onLeft-same go go′ (x .map) (x .answer) h
-
-module _ (go : List ℕ → ℕ → Walked) where
-  onward-none : (map : List ℕ) (a : Left) → onMarks go (onward (λ m n. marks m (Some n)) map a) ≡ onLeft go map a
-  onward-none map (Some n) = refl
-  onward-none map Broken = refl
-
-  onward-same : (f : List ℕ → ℕ → Marks) (next : List ℕ → ℕ → Walked) (g : List ℕ → ℕ → Marks) (map : List ℕ) (a : Left)
-      → ((m : List ℕ) (l : ℕ) → onMarks go (f m l) ≡ onMarks next (g m l)) → onMarks go (onward f map a) ≡ onMarks next (onward g map a)
-  onward-same f next g map (Some n) h = h map n
-  onward-same f next g map Broken h = refl
-
-  -- one more
-  pub waiting-more : (w : Given) (cs : List Cursor) (c : Cursor) (map : List ℕ) (left : ℕ)
-      → onMarks go (markWaiting w map left (cs ++ (c ∷ []))) ≡ onMarks (λ m l. onMarks go (mark w m l (leafFrom w c))) (markWaiting w map left cs)
-  unfolding markWaiting
-  waiting-more w [] c map left = onward-none (mark w map left (leafFrom w c) .map) (mark w map left (leafFrom w c) .answer)
-  waiting-more w (d ∷ cs) c map left =
-      onward-same (λ m l. markWaiting w m l (cs ++ (c ∷ []))) (λ m l. onMarks go (mark w m l (leafFrom w c))) (λ m l. markWaiting w m l cs)
-      (mark w map left (leafFrom w d) .map) (mark w map left (leafFrom w d) .answer) (λ m l. waiting-more w cs c m l)
-
-  -- none
-  pub waiting-none : (w : Given) (map : List ℕ) (left : ℕ) → onMarks go (markWaiting w map left []) ≡ go map left
-  unfolding markWaiting
-  waiting-none w map left = refl
-
--- a descent that has ended
-pub leaf-ended : (w : Given) (first : ℕ) → leafFrom w (ended first) ≡ first
+-- a descent that has ended reads no node
+pub exact-ended : (w : Given) (go : List ℕ → ℕ → ℕ → Marks) (map : List ℕ) (left nodes first : ℕ) (c : Cursor) → c ≡ ended first
+    → onMarks (λ m l. go m l nodes) (mark w map left first) ≡ markExact w go map left nodes c
 unfolding leafOf
-leaf-ended w first = rw (descended-ended (w .nodes) (w .cap) (w .bytes) (w .cap) (ended first) refl)
+exact-ended w go map left nodes first c e =
+    sym
+    (ap (markExact w go map left nodes) e
+    ∙ ap (λ d. spend nodes d (λ k. onMarks (λ m l. go m l k) (mark w map left (leafFrom w (ended first)))))
+    (drawn-ended (w .nodes) (w .cap) (w .bytes) (w .cap) (ended first) refl)
+    ∙ spend-none nodes (λ k. onMarks (λ m l. go m l k) (mark w map left (leafFrom w (ended first))))
+    ∙ ap (λ d. onMarks (λ m l. go m l nodes) (mark w map left (leafOf d))) (descended-ended (w .nodes) (w .cap) (w .bytes) (w .cap) (ended first) refl))
+
+-- ---- on past them, when their descents have drawn on the nodes
+module _ (w : Given) where
+  abbrev pub past : (List ℕ → ℕ → ℕ → Marks) → List ℕ → ℕ → ℕ → List Cursor → Marks
+  past go map left nodes cs = spend nodes (drawnBy w cs) (λ k. onMarks (λ m l. go m l k) (markWaiting w map left cs))
+
+  module _ (go : List ℕ → ℕ → ℕ → Marks) (map : List ℕ) (left : ℕ) where
+    pub past-none : (nodes : ℕ) → past go map left nodes [] ≡ go map left nodes
+    unfolding drawnAll markWaiting
+    past-none nodes = spend-none nodes (go map left)
+
+    pub past-same : (go′ : List ℕ → ℕ → ℕ → Marks) (nodes : ℕ) (cs : List Cursor) → ((m : List ℕ) (l k : ℕ) → go m l k ≡ go′ m l k)
+        → past go map left nodes cs ≡ past go′ map left nodes cs
+    past-same go′ nodes cs h =
+        spend-same nodes (drawnBy w cs) (λ k. onMarks (λ m l. go m l k) (markWaiting w map left cs))
+        (λ k. onMarks (λ m l. go′ m l k) (markWaiting w map left cs))
+        (λ k. onMarks-same (λ m l. go m l k) (λ m l. go′ m l k) (markWaiting w map left cs) (λ m l. h m l k))
+
+    -- d nodes are drawn behind them, or ahead
+    behind-draw : (d nodes : ℕ) (cs : List Cursor)
+        → past (λ m l k. spend k d (go m l)) map left nodes cs
+        ≡ spend nodes (drawnBy w cs) (λ k. spend k d (λ j. onMarks (λ m l. go m l j) (markWaiting w map left cs)))
+    behind-draw d nodes cs =
+        spend-same nodes (drawnBy w cs) (λ k. onMarks (λ m l. spend k d (go m l)) (markWaiting w map left cs))
+        (λ k. spend k d (λ j. onMarks (λ m l. go m l j) (markWaiting w map left cs)))
+        (λ k. spend-marks k d go (markWaiting w map left cs))
+
+    pub past-draw : (d nodes : ℕ) (cs : List Cursor)
+        → past (λ m l k. spend k d (go m l)) map left nodes cs ≡ spend nodes d (λ k. past go map left k cs)
+    past-draw d nodes cs =
+        behind-draw d nodes cs ∙ spend-swap nodes (drawnBy w cs) d (λ k. onMarks (λ m l. go m l k) (markWaiting w map left cs))
+
+    -- one more waits
+    pub past-more : (nodes : ℕ) (cs : List Cursor) (c : Cursor)
+        → past (λ m l k. markExact w go m l k c) map left nodes cs ≡ past go map left nodes (cs ++ (c ∷ []))
+    past-more nodes cs c =
+        let both : ℕ → Marks = λ k. onMarks (λ m l. onMarks (λ n j. go n j k) (mark w m l (leafFrom w c))) (markWaiting w map left cs) in
+        let more : ℕ → Marks = λ k. onMarks (λ m l. go m l k) (markWaiting w map left (cs ++ (c ∷ []))) in
+        spend-same nodes (drawnBy w cs)
+        (λ k. onMarks (λ m l. markExact w go m l k c) (markWaiting w map left cs))
+        (λ k. spend k (drawnFrom w c) both)
+        (λ k. spend-marks k (drawnFrom w c) (λ m l i. onMarks (λ n j. go n j i) (mark w m l (leafFrom w c))) (markWaiting w map left cs))
+        ∙ spend-both nodes (drawnBy w cs) (drawnFrom w c) both
+        ∙ spend-same nodes (drawnBy w cs + drawnFrom w c) both more (λ k. sym (waiting-more (λ m l. go m l k) w cs c map left))
+        ∙ ap (λ d. spend nodes d more) (sym (drawn-one-more (w .nodes) (w .cap) (w .bytes) cs c))
+
+    -- all are marked
+    pub past-flush : (nodes : ℕ) (cs : List Cursor) → past go map left nodes cs ≡ onFlushed go (flush w map left nodes cs)
+    unfolding flush
+    past-flush nodes cs = by (ltb nodes (drawnBy w cs)) (markWaiting w map left cs)
+      where
+        by : (q : Bool) (x : Marks)
+            → cond q broken (onMarks (λ m l. go m l (nodes - drawnBy w cs)) x) ≡ onFlushed go (cond q stopped (onLeaves (nodes - drawnBy w cs) x))
+        by true x = refl
+        by false (marks m l) = refl
+        by false broken = refl
+
+  pub past-broken : (map : List ℕ) (left nodes : ℕ) (cs : List Cursor) → past (λ m l k. broken) map left nodes cs ≡ broken
+  past-broken map left nodes cs =
+      spend-same nodes (drawnBy w cs) (λ k. onMarks (λ m l. broken) (markWaiting w map left cs)) (λ k. broken) (λ k. onMarks-broken (markWaiting w map left cs))
+      ∙ spend-broken nodes (drawnBy w cs)
 
 -- ---- in an array
 

@@ -41,3 +41,7 @@ stepIn nodes cap b frame y =
     cond (eqb (frame .link) 0)
     (cond (ltb (frame .at) (frame .last)) (Stay (frame .at + 1) (linkOf (getD nodes (frame .at + 1) 0))) Up)
     (stepAlong nodes cap b frame y)
+
+-- how many nodes the next step reads: one along a chain, none to the next chain or up
+unfoldable pub reads : Frame → ℕ
+reads frame = cond (eqb (frame .link) 0) 0 1

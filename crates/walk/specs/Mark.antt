@@ -5,8 +5,8 @@ use mathlib.Core.List.{List, [], _∷_}
 use lib.Dec.{ltb, eqb}
 use lib.ListN.{getD}
 use Rattle.words.specs.Bits.{withFlag}
-use Rattle.walk.specs.declared.mark.Left.{Left}
-use Rattle.walk.specs.declared.mark.Left.the-variants.{Some, Broken}
+use Rattle.descent.specs.declared.Left.{Left}
+use Rattle.descent.specs.declared.Left.the-variants.{Some, Broken}
 
 unfoldable pub marked : List ℕ → ℕ → ℕ → List ℕ
 marked map words p = withFlag (withFlag map 0 p true) words (p / 32) true
@@ -16,18 +16,29 @@ unfoldable pub markAll : List ℕ → ℕ → List ℕ → List ℕ
 markAll map words [] = map
 markAll map words (p ∷ ps) = markAll (marked map words p) words ps
 
--- a map, and what is left of the budget
-pub record Marks : Type 0 where
-  pub map : List ℕ
-  pub answer : Left
+-- a map, and what is left of a budget; or a link led outside, or a budget was spent: the map is of no use then
+pub data Marks : Type 0 where
+  marks : List ℕ → ℕ → Marks
+  broken : Marks
 
-abbrev pub marks : List ℕ → Left → Marks
-marks map answer = record { map = map; answer = answer }
+-- by the map and the answer that a function leaves
+abbrev pub marksOf : List ℕ → Left → Marks
+marksOf map (Some n) = marks map n
+marksOf map Broken = broken
+
+-- on with the map and what is left
+abbrev pub onMarks : (List ℕ → ℕ → Marks) → Marks → Marks
+onMarks go (marks map n) = go map n
+onMarks go broken = broken
+
+-- on with what is left of a budget of n when d is drawn from it
+abbrev pub spend : ℕ → ℕ → (ℕ → Marks) → Marks
+spend n d go = cond (ltb n d) broken (go (n - d))
 
 -- the pages of a chain that begins at a link, in a page table whose links begin at `next`, at most f of them
 unfoldable pub markLeaf : List ℕ → ℕ → ℕ → ℕ → List ℕ → ℕ → ℕ → Marks
-markLeaf pages words cap next map link zero = marks map (cond (eqb link 0) (Some 0) Broken)
+markLeaf pages words cap next map link zero = cond (eqb link 0) (marks map 0) broken
 markLeaf pages words cap next map link (suc f) =
-    cond (eqb link 0) (marks map (Some (suc f)))
-    (cond (ltb cap link) (marks map Broken)
+    cond (eqb link 0) (marks map (suc f))
+    (cond (ltb cap link) broken
     (markLeaf pages words cap next (marked map words (link - 1)) (getD pages (next + (link - 1)) 0) f))

@@ -1,20 +1,42 @@
 -- Leaves whose pages are still to be marked, in order.
-use Prim.Native.Nat.{ℕ}
+use Prim.Native.Nat.{ℕ, _-_}
+use mathlib.Core.Bool.{cond}
 use mathlib.Core.List.{List, [], _∷_}
+use lib.Dec.{ltb}
 use Rattle.descent.specs.declared.Cursor.{Cursor}
-use Rattle.walk.specs.declared.mark.Left.{Left}
-use Rattle.walk.specs.declared.mark.Left.the-variants.{Some, Broken}
-use Rattle.walk.specs.Mark.{Marks, marks}
+use Rattle.descent.specs.Cursor.{drawnAll}
+use Rattle.walk.specs.declared.waiting.Budgets.{Budgets}
+use Rattle.walk.specs.declared.waiting.Budgets.the-variants.{Some, Broken}
+use Rattle.walk.specs.Mark.{Marks, marks, broken, onMarks}
 use Rattle.walk.specs.Walk.{Given, mark, leafFrom}
-
--- on with the map and the budget, unless a link was not in order
-abbrev pub onward : (List ℕ → ℕ → Marks) → List ℕ → Left → Marks
-onward go map (Some n) = go map n
-onward go map Broken = marks map Broken
 
 -- the leaf of each descent in turn
 unfoldable pub markWaiting : Given → List ℕ → ℕ → List Cursor → Marks
-markWaiting w map left [] = marks map (Some left)
-markWaiting w map left (c ∷ cs) =
-    let m : Marks = mark w map left (leafFrom w c) in
-    onward (λ after n. markWaiting w after n cs) (m .map) (m .answer)
+markWaiting w map left [] = marks map left
+markWaiting w map left (c ∷ cs) = onMarks (λ after n. markWaiting w after n cs) (mark w map left (leafFrom w c))
+
+-- the nodes that the descents read
+abbrev pub drawnBy : Given → List Cursor → ℕ
+drawnBy w cs = drawnAll (w .nodes) (w .cap) (w .bytes) cs
+
+-- a map, and what is left of the pages and of the nodes
+pub data Flushed : Type 0 where
+  flushed : List ℕ → ℕ → ℕ → Flushed
+  stopped : Flushed
+
+abbrev pub flushedOf : List ℕ → Budgets → Flushed
+flushedOf map (Some left nodes) = flushed map left nodes
+flushedOf map Broken = stopped
+
+abbrev pub onLeaves : ℕ → Marks → Flushed
+onLeaves nodes (marks map left) = flushed map left nodes
+onLeaves nodes broken = stopped
+
+-- all descents, then the pages of their leaves
+unfoldable pub flush : Given → List ℕ → ℕ → ℕ → List Cursor → Flushed
+flush w map left nodes cs = cond (ltb nodes (drawnBy w cs)) stopped (onLeaves (nodes - drawnBy w cs) (markWaiting w map left cs))
+
+-- the end of a walk
+abbrev pub finished : Flushed → Marks
+finished (flushed map left nodes) = marks map nodes
+finished stopped = broken

@@ -1,20 +1,18 @@
 -- The walk over one block's trie, as a machine with fuel.
 use Prim.Native.Nat.{ℕ, zero, suc, _+_, _*_, _-_, _/_, _<_, _≤_}
-use mathlib.Core.Bool.{Bool, true, false, cond}
+use mathlib.Core.Bool.{cond}
 use mathlib.Core.List.{List, [], _∷_}
 use lib.Dec.{ltb, eqb}
 use lib.ListN.{length, getD}
 use Rattle.layout.specs.Nodes.{stateAt, freeState, innerState}
 use Rattle.sketch.specs.Settings.{Bits}
 use Rattle.descent.specs.declared.Cursor.{Cursor}
-use Rattle.descent.specs.Cursor.{arrive, descended, leafOf}
-use Rattle.walk.specs.declared.mark.Left.{Left}
-use Rattle.walk.specs.declared.mark.Left.the-variants as budget
+use Rattle.descent.specs.Cursor.{arrive, descended, drawn, leafOf}
 use Rattle.walk.specs.declared.frame.Frame.{Frame}
 use Rattle.walk.specs.declared.frame.Step.{Step}
 use Rattle.walk.specs.declared.frame.Step.the-variants as step
-use Rattle.walk.specs.Mark.{Marks, markLeaf}
-use Rattle.walk.specs.Frame.{entered, stepIn}
+use Rattle.walk.specs.Mark.{Marks, marks, broken, onMarks, spend, markLeaf}
+use Rattle.walk.specs.Frame.{entered, stepIn, reads}
 
 -- what a walk goes by: the tables, the capacities, where the pages' links and the map of words begin, b, the query's bytes
 pub record Given : Type 0 where
@@ -46,7 +44,7 @@ pub record Fitting (w : Given) (map : List ℕ) : Type 0 where
 
 -- ---- the machine
 
--- the map, what is left of the page budget, the frame of a node, and those of the nodes above, the nearest first
+-- the map, what is left of the pages, the frame of a node, and those of the nodes above, the nearest first
 pub record State : Type 0 where
   pub map : List ℕ
   pub left : ℕ
@@ -55,30 +53,6 @@ pub record State : Type 0 where
 
 abbrev pub state : List ℕ → ℕ → Frame → List Frame → State
 state map left frame stack = record { map = map; left = left; frame = frame; stack = stack }
-
--- the map after a walk, and whether every link was in order and the budgets lasted
-pub record Walked : Type 0 where
-  pub map : List ℕ
-  pub whole : Bool
-
-abbrev pub walked : List ℕ → Bool → Walked
-walked map whole = record { map = map; whole = whole }
-
-abbrev pub isSome : Left → Bool
-isSome (budget.Some n) = true
-isSome budget.Broken = false
-
--- a leaf alone
-abbrev pub walkedLeaf : Marks → Walked
-walkedLeaf m = walked (m .map) (isSome (m .answer))
-
--- on with the map and the budget that a leaf leaves, unless a link was not in order
-abbrev pub onLeft : (List ℕ → ℕ → Walked) → List ℕ → Left → Walked
-onLeft go map (budget.Some n) = go map n
-onLeft go map budget.Broken = walked map false
-
-abbrev pub onMarks : (List ℕ → ℕ → Walked) → Marks → Walked
-onMarks go m = onLeft go (m .map) (m .answer)
 
 -- a frame to go on from
 abbrev pub atLink : Frame → ℕ → ℕ → Frame
@@ -96,43 +70,56 @@ module _ (w : Given) where
   abbrev pub leafFrom : Cursor → ℕ
   leafFrom c = leafOf (descended (w .nodes) (w .cap) (w .bytes) (w .cap) c)
 
-  -- what a step leads to
-  module _ (run : State → Walked) (map : List ℕ) (left : ℕ) (frame : Frame) (stack : List Frame) where
+  -- the nodes that such a descent reads
+  abbrev pub drawnFrom : Cursor → ℕ
+  drawnFrom c = drawn (w .nodes) (w .cap) (w .bytes) (w .cap) c
+
+  -- the leaf that a descent leads to, in what is left of the nodes
+  abbrev pub markExact : (List ℕ → ℕ → ℕ → Marks) → List ℕ → ℕ → ℕ → Cursor → Marks
+  markExact go map left nodes c = spend nodes (drawnFrom c) (λ k. onMarks (λ m l. go m l k) (mark map left (leafFrom c)))
+
+  -- what a step leads to, with so many nodes left
+  module _ (run : ℕ → State → Marks) (nodes : ℕ) (map : List ℕ) (left : ℕ) (frame : Frame) (stack : List Frame) where
     -- on behind a leaf
-    abbrev pub behindLeaf : ℕ → ℕ → Walked
-    behindLeaf first link = onMarks (λ m n. run (state m n (atLink frame (frame .at) link) stack)) (mark map left first)
+    abbrev pub onBehind : ℕ → List ℕ → ℕ → ℕ → Marks
+    onBehind link m l k = run k (state m l (atLink frame (frame .at) link) stack)
 
-    abbrev pub above : List Frame → Walked
-    above [] = walked map true
-    above (f ∷ fs) = run (state map left f fs)
+    abbrev pub above : List Frame → Marks
+    above [] = marks map nodes
+    above (f ∷ fs) = run nodes (state map left f fs)
 
-    abbrev pub follow : Step → Walked
-    follow (step.Stay at link) = run (state map left (atLink frame at link) stack)
-    follow (step.Leaf first link) = behindLeaf first link
-    follow (step.Exact x link) = behindLeaf (leafFrom (exactFrom x (length stack + 1))) link
+    abbrev pub follow : Step → Marks
+    follow (step.Stay at link) = run nodes (state map left (atLink frame at link) stack)
+    follow (step.Leaf first link) = onMarks (λ m l. onBehind link m l nodes) (mark map left first)
+    follow (step.Exact x link) = markExact (onBehind link) map left nodes (exactFrom x (length stack + 1))
     follow (step.Down x radius link) =
         cond (ltb (length stack + 1) (length (w .bytes)))
-        (run (state map left (entered (w .nodes) (w .cap) x radius) (atLink frame (frame .at) link ∷ stack)))
-        (walked map false)
+        (run nodes (state map left (entered (w .nodes) (w .cap) x radius) (atLink frame (frame .at) link ∷ stack)))
+        broken
     follow step.Up = above stack
-    follow step.Broken = walked map false
+    follow step.Broken = broken
 
-  -- at most f steps
-  unfoldable pub run : ℕ → State → Walked
-  run zero s = walked (s .map) false
-  run (suc f) s =
-      follow (run f) (s .map) (s .left) (s .frame) (s .stack)
-      (stepIn (w .nodes) (w .cap) (w .b) (s .frame) (getD (w .bytes) (length (s .stack)) 0))
+  -- at most f steps, with so many nodes to read
+  unfoldable pub run : ℕ → ℕ → State → Marks
+  run zero nodes s = broken
+  run (suc f) nodes s =
+      spend nodes (reads (s .frame)) (λ k.
+      follow (run f) k (s .map) (s .left) (s .frame) (s .stack)
+      (stepIn (w .nodes) (w .cap) (w .b) (s .frame) (getD (w .bytes) (length (s .stack)) 0)))
 
-  -- below the inner node x: for each node a step to it, at most seven to the next chain, and one up
-  unfoldable pub walkBelow : ℕ → ℕ → List ℕ → Walked
-  walkBelow x radius map = run (10 * (w .cap + 1)) (state map (w .pcap) (entered (w .nodes) (w .cap) x radius) [])
+  -- below the inner node x: for each node that is read a step to it, at most seven to the next chain, and one up. The nodes are what can run out
+  unfoldable pub walkBelow : ℕ → ℕ → ℕ → List ℕ → Marks
+  walkBelow x radius nodes map = run (10 * (w .cap + 1)) nodes (state map (w .pcap) (entered (w .nodes) (w .cap) x radius) [])
+
+  -- a leaf alone reads no further node
+  abbrev pub markedLeaf : ℕ → List ℕ → ℕ → Marks
+  markedLeaf nodes map first = onMarks (λ m l. marks m nodes) (mark map (w .pcap) first)
 
   -- from a root: at radius 0 the leaf that the query's bytes lead to; else a leaf, or inner
-  unfoldable pub walkFrom : ℕ → ℕ → List ℕ → Walked
-  walkFrom root radius map =
+  unfoldable pub walkFrom : ℕ → ℕ → ℕ → List ℕ → Marks
+  walkFrom root radius nodes map =
       let word : ℕ = getD (w .nodes) (stateAt (w .cap) root) 0 in
-      cond (eqb radius 0) (walkedLeaf (mark map (w .pcap) (leafFrom (exactFrom root 0))))
-      (cond (eqb word freeState) (walked map false)
-      (cond (eqb word innerState) (walkBelow root radius map)
-      (walkedLeaf (mark map (w .pcap) (word - 2)))))
+      cond (eqb radius 0) (markExact (λ m l k. marks m k) map (w .pcap) nodes (exactFrom root 0))
+      (cond (eqb word freeState) broken
+      (cond (eqb word innerState) (walkBelow root radius nodes map)
+      (markedLeaf nodes map (word - 2))))

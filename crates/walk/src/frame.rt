@@ -4,7 +4,7 @@ ghost use Prim.Native.Nat.{_*_, _<_, _≤_};
 ghost use lib.ListN.{length};
 ghost use Rattle.sketch.specs.Settings.{Bits};
 ghost use Rattle.sketch.specs.Table.{distanceTable};
-ghost use Rattle.walk.specs.Frame.{entered, stepTo, stepAlong, stepIn};
+ghost use Rattle.walk.specs.Frame.{entered, stepTo, stepAlong, stepIn, reads};
 
 // The children from `link` on in the chain whose head is at `at`, and those in the chains of the next heads, up to `last`.
 // Each is to be within `radius`.
@@ -103,4 +103,14 @@ pub fn next_step(table: &[u8; 2048], nodes: &[u32], cap: usize, b: u32, frame: F
     let at = frame.at + 1;
     let link = layout::nodes::link_of(nodes[at as usize]);
     Step::Stay(at, link)
+}
+
+// How many nodes the next step reads: one along a chain, none to the next chain or up.
+pub fn reads(frame: Frame) -> u32
+    ensures { λ r. ⌜ r ≡ reads frame ⌝ }
+{
+    if frame.link == 0 {
+        return 0;
+    }
+    1
 }

@@ -1,13 +1,8 @@
 ghost use mathlib.Core.Path.{_≡_};
 ghost use Prim.Native.Nat.{_+_, _*_, _/_, _<_, _≤_};
 ghost use lib.ListN.{length};
-ghost use Rattle.walk.specs.Mark.{marked, marks, markLeaf};
-
-// What is left of a budget, or that a link led outside or the budget was spent.
-pub enum Left {
-    Some(u32),
-    Broken,
-}
+ghost use Rattle.walk.specs.Mark.{marked, marksOf, markLeaf};
+use descent::Left;
 
 // Marks a page in the map, and its word in the map of words that begins at `words`.
 pub fn mark(map: &mut [u32], words: usize, p: usize)
@@ -31,7 +26,7 @@ pub fn mark_leaf(
     requires { ⌜ next + cap ≤ length (now pages) ⌝ }
     requires { ⌜ (cap ≤ 65535) × (words ≤ 2048) × (cap ≤ 32 * words) ⌝ }
     requires { ⌜ words + (words + 31) / 32 ≤ length (now map) ⌝ }
-    ensures { λ r. ⌜ marks (now (map .exit)) r ≡ markLeaf (now (pages .entry)) words cap next (now (map .entry)) first budget ⌝ }
+    ensures { λ r. ⌜ marksOf (now (map .exit)) r ≡ markLeaf (now (pages .entry)) words cap next (now (map .entry)) first budget ⌝ }
 {
     let mut link = first;
     let mut left = budget;

@@ -1,7 +1,7 @@
--- On any tables the walk only marks, and only pages below the capacity.
+-- On any tables a walk that is not broken only marks, and only pages below the capacity.
 use Prim.Native.Nat.{ℕ, zero, suc, _+_, _-_, _*_, _<_}
 use native.Mathlib.Omega.{arith}
-use mathlib.Core.Path.{_≡_, refl, sym, ap, _∙_}
+use mathlib.Core.Path.{_≡_, refl, sym, ap, _∙_, subst}
 use mathlib.Core.Bool.{Bool, true, false, cond}
 use mathlib.Core.List.{List, [], _∷_, _++_}
 use lib.Dec.{ltb, eqb}
@@ -10,14 +10,13 @@ use borrow.Author.Tests.{ltb-false, eqb-false, lt-ltb}
 use Rattle.meaning.specs.Lists.{all}
 use Rattle.layout.specs.Nodes.{stateAt, freeState, innerState}
 use Rattle.meaning.proofs.Lists.{all-append, and-intro}
-use Rattle.walk.specs.declared.mark.Left.{Left}
-use Rattle.walk.specs.declared.mark.Left.the-variants.{Some, Broken}
+use Rattle.descent.specs.declared.Cursor.{Cursor}
 use Rattle.walk.specs.declared.frame.Frame.{Frame}
 use Rattle.walk.specs.declared.frame.Step.{Step}
 use Rattle.walk.specs.declared.frame.Step.the-variants as step
-use Rattle.walk.specs.Mark.{Marks, marks, marked, markAll, markLeaf}
-use Rattle.walk.specs.Frame.{entered, stepIn}
-use Rattle.walk.specs.Walk.{Given, State, state, Walked, walked, walkedLeaf, onLeft, atLink, mark, exactFrom, leafFrom, behindLeaf, follow, run, walkBelow, walkFrom}
+use Rattle.walk.specs.Mark.{Marks, marks, broken, onMarks, spend, marked, markAll, markLeaf}
+use Rattle.walk.specs.Frame.{entered, stepIn, reads}
+use Rattle.walk.specs.Walk.{Given, State, state, atLink, mark, exactFrom, leafFrom, drawnFrom, markExact, onBehind, follow, run, walkBelow, markedLeaf, walkFrom}
 use Rattle.walk_laws.proofs.Marks.{mark-append}
 
 -- a map is another one with some pages marked, all of them below the capacity
@@ -47,72 +46,103 @@ module _ (words cap : ℕ) where
     same = n .same ∙ ap (λ x. markAll x words (n .pages)) (m .same) ∙ sym (mark-append map words (m .pages) (n .pages));
   }
 
+  -- unless something is broken
+  abbrev pub Marked : List ℕ → Marks → Type 0
+  Marked map (marks after k) = Marking words cap map after
+  Marked map broken = Unit {0}
+
+  pub marked-same : (map after : List ℕ) (k : ℕ) (x : Marks) → x ≡ marks after k → Marked map x → Marking words cap map after
+  marked-same map after k x e m = subst (Marked map) e m
+
+  marked-spend : (map : List ℕ) (n d : ℕ) (go : ℕ → Marks) → ((k : ℕ) → Marked map (go k)) → Marked map (spend n d go)
+  marked-spend map n d go h = by (ltb n d)
+    where
+      by : (q : Bool) → Marked map (cond q broken (go (n - d)))
+      by true = tt
+      by false = h (n - d)
+
+  -- what is marked, and then more
+  pub marked-on : (map : List ℕ) (go : List ℕ → ℕ → Marks) (x : Marks) → Marked map x → ((after : List ℕ) (k : ℕ) → Marked after (go after k))
+      → Marked map (onMarks go x)
+  marked-on map go (marks after k) m h = more (go after k) (h after k)
+    where
+      more : (x : Marks) → Marked after x → Marked map x
+      more (marks last j) n = then-marked map after last m n
+      more broken n = tt
+  marked-on map go broken m h = tt
+
   -- the pages of a leaf
-  leaf-marking : (P : List ℕ) (next f : ℕ) (map : List ℕ) (link : ℕ) → Marking words cap map (markLeaf P words cap next map link f .map)
+  leaf-marking : (P : List ℕ) (next f : ℕ) (map : List ℕ) (link : ℕ) → Marked map (markLeaf P words cap next map link f)
   unfolding markLeaf
-  leaf-marking P next zero map link = none-marked map
+  leaf-marking P next zero map link = go (eqb link 0)
+    where
+      go : (q : Bool) → Marked map (cond q (marks map 0) broken)
+      go true = none-marked map
+      go false = tt
   leaf-marking P next (suc f) map link =
       go (eqb link 0) refl (ltb cap link) refl (leaf-marking P next f (marked map words (link - 1)) (getD P (next + (link - 1)) 0))
     where
       rest : Marks
       rest = markLeaf P words cap next (marked map words (link - 1)) (getD P (next + (link - 1)) 0) f
 
-      go : (q : Bool) → eqb link 0 ≡ q → (r : Bool) → ltb cap link ≡ r → Marking words cap (marked map words (link - 1)) (rest .map)
-          → Marking words cap map ((cond q (marks map (Some (suc f))) (cond r (marks map Broken) rest)) .map)
+      more : (x : Marks) → link - 1 < cap → Marked (marked map words (link - 1)) x → Marked map x
+      more (marks after k) l m = one-more map after (link - 1) l m
+      more broken l m = tt
+
+      go : (q : Bool) → eqb link 0 ≡ q → (r : Bool) → ltb cap link ≡ r → Marked (marked map words (link - 1)) rest
+          → Marked map (cond q (marks map (suc f)) (cond r broken rest))
       go true e r d m = none-marked map
-      go false e true d m = none-marked map
-      go false e false d m =
-          one-more map (rest .map) (link - 1) (omega (arith, eqb-false link 0 e, ltb-false cap link d)) m
+      go false e true d m = tt
+      go false e false d m = more rest (omega (arith, eqb-false link 0 e, ltb-false cap link d)) m
 
 module _ (w : Given) where
-  abbrev Marked : List ℕ → List ℕ → Type 0
-  Marked map after = Marking (w .words) (w .pcap) map after
+  abbrev Within : List ℕ → Marks → Type 0
+  Within map x = Marked (w .words) (w .pcap) map x
 
   -- the pages of a leaf, and what is marked behind it
-  behind-marking : (go : State → Walked) → ((s : State) → Marked (s .map) (go s .map))
-      → (map : List ℕ) (left : ℕ) (frame : Frame) (stack : List Frame) (first link : ℕ)
-      → Marked map (behindLeaf w go map left frame stack first link .map)
-  behind-marking go h map left frame stack first link =
-      then-marked (w .words) (w .pcap) map (m .map) _ (leaf-marking (w .words) (w .pcap) (w .pages) (w .next) left map first) (onward (m .map) (m .answer))
-    where
-      m : Marks
-      m = mark w map left first
+  mark-marking : (go : List ℕ → ℕ → Marks) → ((map : List ℕ) (l : ℕ) → Within map (go map l)) → (map : List ℕ) (left first : ℕ)
+      → Within map (onMarks go (mark w map left first))
+  mark-marking go h map left first =
+      marked-on (w .words) (w .pcap) map go (mark w map left first) (leaf-marking (w .words) (w .pcap) (w .pages) (w .next) left map first) h
 
-      next : List ℕ → ℕ → Walked
-      next after n = go (state after n (atLink frame (frame .at) link) stack)
+  exact-marking : (go : List ℕ → ℕ → ℕ → Marks) → ((map : List ℕ) (l k : ℕ) → Within map (go map l k)) → (map : List ℕ) (left n : ℕ) (c : Cursor)
+      → Within map (markExact w go map left n c)
+  exact-marking go h map left n c =
+      marked-spend (w .words) (w .pcap) map n (drawnFrom w c) (λ k. onMarks (λ m l. go m l k) (mark w map left (leafFrom w c)))
+      (λ k. mark-marking (λ m l. go m l k) (λ m l. h m l k) map left (leafFrom w c))
 
-      onward : (after : List ℕ) (n : Left) → Marked after (onLeft next after n .map)
-      onward after (Some n) = h _
-      onward after Broken = none-marked (w .words) (w .pcap) after
-
-  follow-marking : (go : State → Walked) → ((s : State) → Marked (s .map) (go s .map))
-      → (map : List ℕ) (left : ℕ) (frame : Frame) (stack : List Frame) (s : Step) → Marked map (follow w go map left frame stack s .map)
-  follow-marking go h map left frame stack (step.Stay at link) = h _
-  follow-marking go h map left frame stack (step.Leaf first link) = behind-marking go h map left frame stack first link
-  follow-marking go h map left frame stack (step.Exact x link) =
-      behind-marking go h map left frame stack (leafFrom w (exactFrom w x (length stack + 1))) link
-  follow-marking go h map left frame stack (step.Down x radius link) = deep (ltb (length stack + 1) (length (w .bytes)))
+  follow-marking : (go : ℕ → State → Marks) → ((k : ℕ) (s : State) → Within (s .map) (go k s))
+      → (n : ℕ) (map : List ℕ) (left : ℕ) (frame : Frame) (stack : List Frame) (s : Step) → Within map (follow w go n map left frame stack s)
+  follow-marking go h n map left frame stack (step.Stay at link) = h n _
+  follow-marking go h n map left frame stack (step.Leaf first link) =
+      mark-marking (λ m l. onBehind w go n map left frame stack link m l n) (λ m l. h n _) map left first
+  follow-marking go h n map left frame stack (step.Exact x link) =
+      exact-marking (onBehind w go n map left frame stack link) (λ m l k. h k _) map left n (exactFrom w x (length stack + 1))
+  follow-marking go h n map left frame stack (step.Down x radius link) = deep (ltb (length stack + 1) (length (w .bytes)))
     where
       below : State
       below = state map left (entered (w .nodes) (w .cap) x radius) (atLink frame (frame .at) link ∷ stack)
 
-      deep : (q : Bool) → Marked map (cond q (go below) (walked map false) .map)
-      deep true = h below
-      deep false = none-marked (w .words) (w .pcap) map
-  follow-marking go h map left frame [] step.Up = none-marked (w .words) (w .pcap) map
-  follow-marking go h map left frame (f ∷ fs) step.Up = h _
-  follow-marking go h map left frame stack step.Broken = none-marked (w .words) (w .pcap) map
+      deep : (q : Bool) → Within map (cond q (go n below) broken)
+      deep true = h n below
+      deep false = tt
+  follow-marking go h n map left frame [] step.Up = none-marked (w .words) (w .pcap) map
+  follow-marking go h n map left frame (f ∷ fs) step.Up = h n _
+  follow-marking go h n map left frame stack step.Broken = tt
 
-  run-marking : (f : ℕ) (s : State) → Marked (s .map) (run w f s .map)
+  run-marking : (f n : ℕ) (s : State) → Within (s .map) (run w f n s)
   unfolding run
-  run-marking zero s = none-marked (w .words) (w .pcap) (s .map)
-  run-marking (suc f) s =
-      follow-marking (run w f) (λ t. run-marking f t) (s .map) (s .left) (s .frame) (s .stack)
-      (stepIn (w .nodes) (w .cap) (w .b) (s .frame) (getD (w .bytes) (length (s .stack)) 0))
+  run-marking zero n s = tt
+  run-marking (suc f) n s =
+      marked-spend (w .words) (w .pcap) (s .map) n (reads (s .frame)) (λ k. follow w (run w f) k (s .map) (s .left) (s .frame) (s .stack) found)
+      (λ k. follow-marking (run w f) (λ j t. run-marking f j t) k (s .map) (s .left) (s .frame) (s .stack) found)
+    where
+      found : Step
+      found = stepIn (w .nodes) (w .cap) (w .b) (s .frame) (getD (w .bytes) (length (s .stack)) 0)
 
-  pub walk-marking : (root radius : ℕ) (map : List ℕ) → Marked map (walkFrom w root radius map .map)
+  pub walk-marked : (root radius n : ℕ) (map : List ℕ) → Within map (walkFrom w root radius n map)
   unfolding walkFrom walkBelow
-  walk-marking root radius map = go (eqb radius 0) (eqb word freeState) (eqb word innerState)
+  walk-marked root radius n map = go (eqb radius 0) (eqb word freeState) (eqb word innerState)
     where
       word : ℕ
       word = getD (w .nodes) (stateAt (w .cap) root) 0
@@ -120,16 +150,19 @@ module _ (w : Given) where
       start : State
       start = state map (w .pcap) (entered (w .nodes) (w .cap) root radius) []
 
-      pages : ℕ → Walked
-      pages first = walkedLeaf (mark w map (w .pcap) first)
-
-      leaf : (first : ℕ) → Marked map (pages first .map)
-      leaf first = leaf-marking (w .words) (w .pcap) (w .pages) (w .next) (w .pcap) map first
+      alone : (m : List ℕ) (l k : ℕ) → Within m (marks m k)
+      alone m l k = none-marked (w .words) (w .pcap) m
 
       go : (p q r : Bool)
-          → Marked map
-          ((cond p (pages (leafFrom w (exactFrom w root 0))) (cond q (walked map false) (cond r (run w (10 * (w .cap + 1)) start) (pages (word - 2))))) .map)
-      go true q r = leaf (leafFrom w (exactFrom w root 0))
-      go false true r = none-marked (w .words) (w .pcap) map
-      go false false true = run-marking (10 * (w .cap + 1)) start
-      go false false false = leaf (word - 2)
+          → Within map
+          (cond p (markExact w (λ m l k. marks m k) map (w .pcap) n (exactFrom w root 0))
+          (cond q broken (cond r (run w (10 * (w .cap + 1)) n start) (markedLeaf w n map (word - 2)))))
+      go true q r = exact-marking (λ m l k. marks m k) alone map (w .pcap) n (exactFrom w root 0)
+      go false true r = tt
+      go false false true = run-marking (10 * (w .cap + 1)) n start
+      go false false false = mark-marking (λ m l. marks m n) (λ m l. alone m l n) map (w .pcap) (word - 2)
+
+  pub walk-marking : (root radius n : ℕ) (map after : List ℕ) (k : ℕ) → walkFrom w root radius n map ≡ marks after k
+      → Marking (w .words) (w .pcap) map after
+  walk-marking root radius n map after k e =
+      marked-same (w .words) (w .pcap) map after k (walkFrom w root radius n map) e (walk-marked root radius n map)

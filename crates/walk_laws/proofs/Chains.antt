@@ -15,7 +15,8 @@ use Rattle.trie.specs.Heap.{Holds}
 use Rattle.trie.specs.Phys.{Phys, leafP, innerP, Chain, stop, link, root, tree, kidsC, cellsC, Sound, SoundC}
 use Rattle.walk.specs.declared.frame.Frame.{Frame}
 use Rattle.walk.specs.declared.frame.Step.the-variants.{Stay, Leaf, Exact, Down, Up}
-use Rattle.walk.specs.Frame.{byteIn, stepTo, stepAlong, stepIn}
+use Rattle.walk.specs.Frame.{stepTo, stepIn}
+use Rattle.walk.proofs.Steps.{along-inside}
 
 -- ---- what the tables hold
 
@@ -47,14 +48,14 @@ module _ (nodes : List ℕ) (cap b : ℕ) (frame : Frame) (y : ℕ) where
   -- to node x of byte c, which is followed by l
   pub step-chain : (x c l : ℕ) → frame .link ≡ x + 1 → x < cap → getD nodes x 0 ≡ chainWord c l → l < 524288 → c < 256
       → stepIn nodes cap b frame y ≡ stepTo nodes cap x (byteDistance b (bitXor c y)) (frame .radius) (frame .at) l
-  unfolding stepIn stepAlong
+  unfolding stepIn
   step-chain x c l e i h m n =
       let at-x : frame .link - 1 ≡ x = omega arith in
-      let word : getD nodes (frame .link - 1) 0 ≡ chainWord c l = ap (λ k. getD nodes k 0) at-x ∙ h in
-      let byte : byteIn nodes (frame .link - 1) ≡ c = ap (λ k. byteOf k % 256) word ∙ omega arith in
-      let next : linkOf (getD nodes (frame .link - 1) 0) ≡ l = ap linkOf word ∙ link-in c l m in
-      rw (ne-eqb (frame .link) 0 (omega arith), le-ltb cap (frame .link) (omega arith), byte, next)
-      (ap (λ k. stepTo nodes cap k (byteDistance b (bitXor c y)) (frame .radius) (frame .at) l) at-x)
+      let low : c % 256 ≡ c = omega arith in
+      rw (ne-eqb (frame .link) 0 (omega arith))
+      (along-inside nodes cap b frame y (chainWord c l) c l (byteDistance b (bitXor c y)) (omega arith) (sym (ap (λ k. getD nodes k 0) at-x ∙ h))
+      (byte-in c l m) (sym (link-in c l m)) (ap (λ k. byteDistance b (bitXor k y)) (sym low))
+      ∙ ap (λ k. stepTo nodes cap k (byteDistance b (bitXor c y)) (frame .radius) (frame .at) l) at-x)
 
   -- to the next chain, or up
   pub step-next : frame .link ≡ 0 → frame .at < frame .last

@@ -2,8 +2,7 @@
 -- goes on from the inner node by an exact descent, and one at radius 2 through its chains.
 use Prim.Native.Nat.{ℕ, zero, suc, _*_, _^_, _<_}
 use native.Mathlib.Omega.{arith}
-use mathlib.Core.Path.{_≡_, refl, ap, _∙_}
-use mathlib.Core.Bool.{true}
+use mathlib.Core.Path.{_≡_, refl, _∙_}
 use mathlib.Core.List.{List, [], _∷_}
 use lib.ListN.{getD}
 use Rattle.meaning.specs.Lists.{count, from, upto}
@@ -12,13 +11,15 @@ use Rattle.meaning.specs.Trie.{met, metIn}
 use Rattle.trie.specs.Heap.{Holds}
 use Rattle.trie.specs.Phys.{Phys, leafP, innerP, end, bucket, stop, link, tree, cells, noHeads, Sound}
 use Rattle.walk.specs.declared.frame.Step.the-variants.{Exact, Down}
-use Rattle.walk.specs.Frame.{stepTo, stepAlong, stepIn}
-use Rattle.walk.specs.Walk.{Given, given, walked, walkFrom}
-use Rattle.walk.specs.Mark.{markAll}
+use Rattle.walk.specs.Mark.{marks, broken, markAll, markLeaf}
+use Rattle.walk.specs.Frame.{entered, stepTo, stepAlong, stepIn, reads}
+use Rattle.walk.specs.Walk.{Given, given, run, walkBelow, walkFrom}
+use Rattle.descent.specs.Cursor.{arrive, pass, advance, descended, drawn, leafOf}
 use Rattle.walk_laws.specs.Near.{near, nearB, nearC}
 use Rattle.walk_laws.specs.Trail.{trailFrom}
 use Rattle.walk_laws.proofs.Fit.{Fit}
-use Rattle.walk_laws.proofs.Right.{right, right-trail}
+use Rattle.walk_laws.proofs.Leads.{steps-below}
+use Rattle.walk_laws.proofs.Right.{WalkRight, right, right-trail}
 
 -- node 1 has byte 180, and node 2 below it byte 27 and page 7
 abbrev nodeTable : List ℕ
@@ -89,20 +90,28 @@ met-two : met 2 2 (tree t) (181 ∷ 26 ∷ []) ≡ 7 ∷ []
 unfolding met metIn byteDistance count upto from perByte group
 met-two = refl
 
-pub deeper-one : (map : List ℕ) → walkFrom (w 27) 0 1 map ≡ walked (markAll map 1 (7 ∷ [])) true
-deeper-one map =
-    right (w 27) (omega arith) (query 27 (omega arith)) t 1 map holds sound fits (omega arith) (omega arith) (rw met-one (omega arith))
-    ∙ ap (λ ps. walked (markAll map 1 ps) true) met-one
+-- two nodes are behind the root: a walk reads both
+pub deeper : (map : List ℕ) → WalkRight (w 27) t 1 2 map
+deeper map =
+    right (w 27) (omega arith) (query 27 (omega arith)) t 1 map holds sound fits (omega arith) (omega arith) (rw met-one (omega arith)) 2
+    (omega (arith, steps-below t))
 
-pub deeper-off : (map : List ℕ) → walkFrom (w 26) 0 1 map ≡ walked (markAll map 1 []) true
-deeper-off map =
-    right (w 26) (omega arith) (query 26 (omega arith)) t 1 map holds sound fits (omega arith) (omega arith) (rw met-off (omega arith))
-    ∙ ap (λ ps. walked (markAll map 1 ps) true) met-off
+pub deeper-one : (map : List ℕ) → walkFrom (w 27) 0 1 2 map ≡ marks (markAll map 1 (7 ∷ [])) 0
+unfolding walkFrom walkBelow run reads entered stepIn stepAlong stepTo arrive advance pass descended drawn leafOf markLeaf markAll byteDistance count upto from perByte group
+deeper-one map = refl
 
-pub deeper-two : (map : List ℕ) → walkFrom (w 26) 0 2 map ≡ walked (markAll map 1 (7 ∷ [])) true
-deeper-two map =
-    right (w 26) (omega arith) (query 26 (omega arith)) t 2 map holds sound fits (omega arith) (omega arith) (rw met-two (omega arith))
-    ∙ ap (λ ps. walked (markAll map 1 ps) true) met-two
+pub deeper-off : (map : List ℕ) → walkFrom (w 26) 0 1 2 map ≡ marks (markAll map 1 []) 0
+unfolding walkFrom walkBelow run reads entered stepIn stepAlong stepTo arrive advance pass descended drawn leafOf markLeaf markAll byteDistance count upto from perByte group
+deeper-off map = refl
+
+pub deeper-two : (map : List ℕ) → walkFrom (w 26) 0 2 2 map ≡ marks (markAll map 1 (7 ∷ [])) 0
+unfolding walkFrom walkBelow run reads entered stepIn stepAlong stepTo markLeaf markAll byteDistance count upto from perByte group
+deeper-two map = refl
+
+-- with one node alone an exact descent below the first stops, and so does a walk through its chains
+pub deeper-short : (map : List ℕ) → (walkFrom (w 27) 0 1 1 map ≡ broken) × (walkFrom (w 27) 0 2 1 map ≡ broken)
+unfolding walkFrom walkBelow run reads entered stepIn stepAlong stepTo arrive advance pass descended drawn leafOf markLeaf markAll byteDistance count upto from perByte group
+deeper-short map = (refl, refl)
 
 -- ---- the nodes
 near-one : near 2 1 t (181 ∷ 27 ∷ []) ≡ 0 ∷ 1 ∷ 2 ∷ []

@@ -1,4 +1,5 @@
--- Exact descents on tables that hold a sound trie: they end at the leaf whose pages are met at radius 0, and go through the nodes of `near`.
+-- Exact descents on tables that hold a sound trie: they end at the leaf whose pages are met at radius 0, go through the nodes of `near`, and read
+-- each node below the root at most once.
 use Prim.Native.Nat.{ℕ, _+_, _-_, _*_, _^_, _≤_, _<_}
 use native.Mathlib.Omega.{arith}
 use mathlib.Core.Path.{_≡_, ap, _∙_}
@@ -10,11 +11,10 @@ use Rattle.meaning.specs.Trie.{met, nodes}
 use Rattle.trie.specs.Heap.{Holds}
 use Rattle.trie.specs.Phys.{Phys, root, first, tree, pageCells, cells, Below, Sound}
 use Rattle.trie_laws.specs.Sound.{soundTrie}
-use Rattle.walk.specs.declared.mark.Left.the-variants.{Some}
 use Rattle.walk.specs.Mark.{marks, markAll, markLeaf}
-use Rattle.walk.specs.Walk.{Given, mark, exactFrom, leafFrom}
+use Rattle.walk.specs.Walk.{Given, mark, exactFrom, leafFrom, drawnFrom}
 use Rattle.descent.specs.declared.Cursor.{Cursor}
-use Rattle.descent.specs.Cursor.{arrive, descended, leafOf}
+use Rattle.descent.specs.Cursor.{arrive, descended, drawn, leafOf}
 use Rattle.walk_laws.specs.Near.{near}
 use Rattle.walk_laws.specs.Trail.{exactTrail, exactBelow}
 use Rattle.walk_laws.proofs.Ran.{leaf-marks}
@@ -48,13 +48,17 @@ module _ (N P : List ℕ) (cap pcap next b len : ℕ) (bytes : List ℕ) (at las
 
   -- so they are marked
   pub exact-marks : (words : ℕ) (map : List ℕ) (f left : ℕ) → stepsBelow t ≤ f → length pages ≤ left
-      → markLeaf P words pcap next map (leafOf (descended N cap bytes f from)) left ≡ marks (markAll map words pages) (Some (left - length pages))
+      → markLeaf P words pcap next map (leafOf (descended N cap bytes f from)) left ≡ marks (markAll map words pages) (left - length pages)
   exact-marks words map f left m few =
       ap (λ n. markLeaf P words pcap next map n left) (exact-leaf f m) ∙ leaf-marks P words pcap next N map pages left exact-held exact-below few
 
   -- it goes through the nodes of `near`
   pub exact-near : (f : ℕ) → stepsBelow t ≤ f → root t ∷ exactTrail N cap bytes f from ≡ near b 0 t ys
   exact-near f m = ap (λ xs. root t ∷ xs) (leads .led .went f m) ∙ near-below b t ys
+
+  -- and reads as many nodes as it makes steps
+  pub exact-drew : (f : ℕ) → drawn N cap bytes f from ≤ stepsBelow t
+  exact-drew f = leads .led .drew f
 
 -- ---- in a walk over the query's bytes
 module _ (w : Given) (small : w .cap ≤ 262144) (query : (i : ℕ) → getD (w .bytes) i 0 < 2 ^ (w .b * perByte (w .b))) where
@@ -68,7 +72,7 @@ module _ (w : Given) (small : w .cap ≤ 262144) (query : (i : ℕ) → getD (w 
     pages-below = met (w .b) 0 (tree t) (drop k (w .bytes))
 
     pub sub-marks : (map : List ℕ) (left : ℕ) → length pages-below ≤ left
-        → mark w map left (leafFrom w (exactFrom w (root t) k)) ≡ marks (markAll map (w .words) pages-below) (Some (left - length pages-below))
+        → mark w map left (leafFrom w (exactFrom w (root t) k)) ≡ marks (markAll map (w .words) pages-below) (left - length pages-below)
     sub-marks map left m =
         exact-marks (w .nodes) (w .pages) (w .cap) (w .pcap) (w .next) (w .b) (length (w .bytes)) (w .bytes) k end small t (drop k (w .bytes)) k h s u
         (omega (arith, length-drop k (w .bytes))) (spelt-drop (w .b) (w .bytes) query k) (w .words) map (w .cap) left few m
@@ -78,6 +82,11 @@ module _ (w : Given) (small : w .cap ≤ 262144) (query : (i : ℕ) → getD (w 
         exact-near (w .nodes) (w .pages) (w .cap) (w .pcap) (w .next) (w .b) (length (w .bytes)) (w .bytes) k end small t (drop k (w .bytes)) k h s u
         (omega (arith, length-drop k (w .bytes))) (spelt-drop (w .b) (w .bytes) query k) (w .cap) few
 
+    pub sub-drew : drawnFrom w (exactFrom w (root t) k) ≤ stepsBelow t
+    sub-drew =
+        exact-drew (w .nodes) (w .pages) (w .cap) (w .pcap) (w .next) (w .b) (length (w .bytes)) (w .bytes) k end small t (drop k (w .bytes)) k h s u
+        (omega (arith, length-drop k (w .bytes))) (spelt-drop (w .b) (w .bytes) query k) (w .cap)
+
 -- ---- there, from the root of a sound trie
 pub exact-right : (w : Given) (bytesOf : ℕ → List ℕ) (n : ℕ) (t : Phys) (map : List ℕ) → w .cap ≤ 262144
     → ((i : ℕ) → getD (w .bytes) i 0 < 2 ^ (w .b * perByte (w .b)))
@@ -85,7 +94,7 @@ pub exact-right : (w : Given) (bytesOf : ℕ → List ℕ) (n : ℕ) (t : Phys) 
     → soundTrie bytesOf (w .b) n (length (w .bytes)) 0 (tree t) ≡ true
     → nodes (tree t) ≤ w .cap → length (met (w .b) 0 (tree t) (w .bytes)) ≤ w .pcap
     → mark w map (w .pcap) (leafFrom w (exactFrom w (root t) 0))
-    ≡ marks (markAll map (w .words) (met (w .b) 0 (tree t) (w .bytes))) (Some (w .pcap - length (met (w .b) 0 (tree t) (w .bytes))))
+    ≡ marks (markAll map (w .words) (met (w .b) 0 (tree t) (w .bytes))) (w .pcap - length (met (w .b) 0 (tree t) (w .bytes)))
 exact-right w bytesOf n t map small query h s sound few pages =
     sub-marks w small query t 0 h s (fit bytesOf (w .b) n (length (w .bytes)) t 0 sound) (omega (arith, steps-below t)) map (w .pcap) pages
 
@@ -96,3 +105,16 @@ pub exact-trail : (w : Given) (bytesOf : ℕ → List ℕ) (n : ℕ) (t : Phys) 
     → root t ∷ exactBelow w (root t) 0 ≡ near (w .b) 0 t (w .bytes)
 exact-trail w bytesOf n t small query h s sound few =
     sub-near w small query t 0 h s (fit bytesOf (w .b) n (length (w .bytes)) t 0 sound) (omega (arith, steps-below t))
+
+-- the root is not read
+pub exact-few : (w : Given) (bytesOf : ℕ → List ℕ) (n : ℕ) (t : Phys) → w .cap ≤ 262144
+    → ((i : ℕ) → getD (w .bytes) i 0 < 2 ^ (w .b * perByte (w .b)))
+    → Holds (cells (w .cap) (w .next) t) (w .nodes) (w .pages) → Sound (w .cap) (w .pcap) t
+    → soundTrie bytesOf (w .b) n (length (w .bytes)) 0 (tree t) ≡ true → nodes (tree t) ≤ w .cap
+    → drawnFrom w (exactFrom w (root t) 0) < nodes (tree t)
+exact-few w bytesOf n t small query h s sound few =
+    omega (
+      arith,
+      steps-below t,
+      sub-drew w small query t 0 h s (fit bytesOf (w .b) n (length (w .bytes)) t 0 sound) (omega (arith, steps-below t)),
+    )

@@ -2,7 +2,6 @@
 use Prim.Native.Nat.{ℕ, zero, suc, _+_, _-_, _*_, _^_, _<_}
 use native.Mathlib.Omega.{arith}
 use mathlib.Core.Path.{_≡_, refl, ap, _∙_}
-use mathlib.Core.Bool.{true}
 use mathlib.Core.List.{List, [], _∷_}
 use lib.ListN.{length, getD}
 use Rattle.meaning.specs.Lists.{count, from, upto}
@@ -10,14 +9,15 @@ use Rattle.meaning.specs.Sketch.{perByte, group, byteDistance}
 use Rattle.meaning.specs.Trie.{met, metIn}
 use Rattle.trie.specs.Heap.{Holds}
 use Rattle.trie.specs.Phys.{Phys, leafP, innerP, end, bucket, stop, link, tree, cells, noHeads, Sound}
-use Rattle.walk.specs.Walk.{Given, given, walked, walkFrom}
-use Rattle.walk.specs.declared.mark.Left.the-variants.{Some}
-use Rattle.walk.specs.Mark.{marks, markAll, markLeaf}
-use Rattle.descent.specs.Cursor.{arrive, pass, advance, descended, leafOf}
+use Rattle.walk.specs.Mark.{marks, broken, markAll, markLeaf}
+use Rattle.walk.specs.Frame.{entered, stepTo, stepAlong, stepIn, reads}
+use Rattle.walk.specs.Walk.{Given, given, run, walkBelow, walkFrom}
+use Rattle.descent.specs.Cursor.{arrive, pass, advance, descended, drawn, leafOf}
 use Rattle.walk_laws.specs.Near.{near, nearB, nearC, nearNodes, nearNodesIn, pathsIn, pathsAmong}
 use Rattle.walk_laws.specs.Trail.{trailFrom, exactTrail}
 use Rattle.walk_laws.proofs.Fit.{Fit}
-use Rattle.walk_laws.proofs.Right.{right, right-trail}
+use Rattle.walk_laws.proofs.Leads.{steps-below}
+use Rattle.walk_laws.proofs.Right.{WalkRight, right, right-trail}
 use Rattle.walk_laws.proofs.Exact.{sub-marks, sub-near}
 
 abbrev nodeTable : List ℕ
@@ -72,13 +72,23 @@ met-one : met 2 1 (tree t) (228 ∷ []) ≡ 7 ∷ []
 unfolding met metIn byteDistance count upto from perByte group
 met-one = refl
 
-pub example : (map : List ℕ) → walkFrom w 0 2 map ≡ walked (markAll map 1 (2 ∷ 7 ∷ [])) true
+-- two nodes are behind the root, and both are read
+pub example : (map : List ℕ) → WalkRight w t 2 2 map
 example map =
-    right w (omega arith) query t 2 map holds sound fits (omega arith) (omega arith) (rw met-two (omega arith)) ∙ ap (λ ps. walked (markAll map 1 ps) true) met-two
+    right w (omega arith) query t 2 map holds sound fits (omega arith) (omega arith) (rw met-two (omega arith)) 2 (omega (arith, steps-below t))
 
-pub example-near : (map : List ℕ) → walkFrom w 0 1 map ≡ walked (markAll map 1 (7 ∷ [])) true
-example-near map =
-    right w (omega arith) query t 1 map holds sound fits (omega arith) (omega arith) (rw met-one (omega arith)) ∙ ap (λ ps. walked (markAll map 1 ps) true) met-one
+pub example-walk : (map : List ℕ) → walkFrom w 0 2 2 map ≡ marks (markAll map 1 (2 ∷ 7 ∷ [])) 0
+unfolding walkFrom walkBelow run reads entered stepIn stepAlong stepTo markLeaf markAll byteDistance count upto from perByte group
+example-walk map = refl
+
+pub example-near : (map : List ℕ) → walkFrom w 0 1 2 map ≡ marks (markAll map 1 (7 ∷ [])) 0
+unfolding walkFrom walkBelow run reads entered stepIn stepAlong stepTo markLeaf markAll byteDistance count upto from perByte group
+example-near map = refl
+
+-- one is too few
+pub example-short : (map : List ℕ) → walkFrom w 0 2 1 map ≡ broken
+unfolding walkFrom walkBelow run reads entered stepIn stepAlong stepTo markLeaf markAll byteDistance count upto from perByte group
+example-short map = refl
 
 -- ---- the nodes gone through: the root and both leaves within 2, without the first leaf within 1
 near-two : near 2 2 t (228 ∷ []) ≡ 0 ∷ 1 ∷ 2 ∷ []
@@ -128,19 +138,18 @@ near-none : near 2 0 t (228 ∷ []) ≡ 0 ∷ 2 ∷ []
 unfolding near nearB nearC byteDistance count upto from perByte group
 near-none = refl
 
-pub example-exact : (map : List ℕ) → markLeaf pageTable 1 8 16 map (leafLink 228) 8 ≡ marks (markAll map 1 (7 ∷ [])) (Some 7)
+pub example-exact : (map : List ℕ) → markLeaf pageTable 1 8 16 map (leafLink 228) 8 ≡ marks (markAll map 1 (7 ∷ [])) 7
 example-exact map =
     sub-marks w (omega arith) query t 0 holds sound fits (omega arith) map 8 (rw met-none (omega arith))
-    ∙ ap (λ (ps : List ℕ). marks (markAll map 1 ps) (Some (8 - length ps))) met-none
+    ∙ ap (λ (ps : List ℕ). marks (markAll map 1 ps) (8 - length ps)) met-none
 
 pub example-exact-near : 0 ∷ exactTrail nodeTable 3 (228 ∷ []) 3 (arrive nodeTable 3 (228 ∷ []) 0 0 0) ≡ 0 ∷ 2 ∷ []
 example-exact-near = sub-near w (omega arith) query t 0 holds sound fits (omega arith) ∙ near-none
 
--- a walk at radius 0
-pub example-none : (map : List ℕ) → walkFrom w 0 0 map ≡ walked (markAll map 1 (7 ∷ [])) true
-example-none map =
-    right w (omega arith) query t 0 map holds sound fits (omega arith) (omega arith) (rw met-none (omega arith))
-    ∙ ap (λ ps. walked (markAll map 1 ps) true) met-none
+-- a walk at radius 0 reads the second node alone
+pub example-none : (map : List ℕ) → walkFrom w 0 0 2 map ≡ marks (markAll map 1 (7 ∷ [])) 1
+unfolding walkFrom arrive advance pass descended drawn leafOf markLeaf markAll
+example-none map = refl
 
 pub example-trail-none : (map : List ℕ) → trailFrom w 0 0 map ≡ 0 ∷ 2 ∷ []
 example-trail-none map =

@@ -11,5 +11,6 @@ pub mod Near
 pub mod Right
 pub mod Walk
 pub mod Anywhere
+pub mod Left
 pub mod Example
 pub mod Deeper

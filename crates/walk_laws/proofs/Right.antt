@@ -1,4 +1,5 @@
--- On tables that hold a trie, the walk marks exactly the pages that `met` meets, and goes through the nodes of `near`, both in order.
+-- On tables that hold a trie, the walk marks exactly the pages that `met` meets, and goes through the nodes of `near`, both in order. It reads each
+-- node behind the root at most once.
 use Prim.Native.Nat.{ℕ, suc, _+_, _-_, _*_, _^_, _≤_, _<_}
 use native.Mathlib.Omega.{arith}
 use native.Mathlib.Numerals.{add-one}
@@ -17,20 +18,20 @@ use Rattle.layout.specs.Nodes.{linkOf, chainWord, headAt, stateAt}
 use Rattle.trie.specs.Heap.{Holds}
 use Rattle.trie.specs.Phys.{Phys, leafP, innerP, Buckets, end, bucket, Chain, stop, link, root, first, tree, kids, kidsC, cells, cellsB, cellsC, Sound, SoundB, SoundC}
 use Rattle.walk.specs.declared.frame.Frame.{Frame}
-use Rattle.walk.specs.Mark.{markAll}
+use Rattle.walk.specs.Mark.{marks, markAll, onMarks}
 use Rattle.walk.specs.Frame.{entered, stepTo, stepIn}
-use Rattle.walk.specs.Walk.{Given, State, state, walked, walkedLeaf, atLink, mark, exactFrom, leafFrom, walkBelow, walkFrom}
+use Rattle.walk.specs.Walk.{Given, State, state, atLink, mark, exactFrom, leafFrom, drawnFrom, walkBelow, walkFrom}
 use Rattle.walk.proofs.Turns.{from-exact, from-leaf, from-inner}
 use Rattle.walk_laws.specs.Near.{near, nearB, nearC}
 use Rattle.walk_laws.specs.Trail.{exactBelow, trail, trailFrom}
 use Rattle.walk_laws.proofs.Marks.{mark-append}
-use Rattle.walk_laws.proofs.Ran.{leaf-marks, Ran, ran-none, ran-then, ran-within, ran-to, ran-went, step-stay, step-leaf, step-exact, step-down, step-up, step-end, trail-end, trail-exact, trail-leaf, trail-inner}
+use Rattle.walk_laws.proofs.Ran.{leaf-marks, exact-paid, reads-one, reads-none, Ran, ran-none, ran-then, ran-within, ran-to, ran-went, step-stay, step-leaf, step-exact, step-down, step-up, step-end, trail-end, trail-exact, trail-leaf, trail-inner}
 use Rattle.walk_laws.proofs.Chains.{firstLink, slot-word, root-below, first-below, link-in, step-chain, step-next, step-last, to-far, to-leaf, to-exact, to-inner, met-chain}
 use Rattle.walk_laws.proofs.Fit.{Fit, FitB, FitC, byte-small}
-use Rattle.walk_laws.proofs.Leads.{stepsBelow, stepsAmong, stepsAlong}
-use Rattle.walk_laws.proofs.Exact.{sub-marks, sub-near}
+use Rattle.walk_laws.proofs.Leads.{stepsBelow, stepsAmong, stepsAlong, steps-below}
+use Rattle.walk_laws.proofs.Exact.{sub-marks, sub-near, sub-drew}
 
--- the steps that a part of a trie can cost
+-- the steps that a part of a trie can cost; the nodes that it can cost are those of `stepsBelow`
 abbrev mutual
   pub steps : Phys → ℕ
   steps (leafP n ps) = 1
@@ -76,43 +77,43 @@ module _ (w : Given) where
   -- a chain is gone through
   abbrev Through : Chain → List Frame → Type 0
   Through ch stack =
-      (f : ℕ) (map : List ℕ) (left : ℕ) (frame : Frame) → frame .link ≡ firstLink ch → stepsC ch ≤ f → length (metC ch (frame .radius) stack) ≤ left
-      → Ran w f (state map left frame stack) (after map left (metC ch (frame .radius) stack) (atLink frame (frame .at) 0) stack) (stepsC ch)
-      (nearIn ch (frame .radius) stack)
+      (f n : ℕ) (map : List ℕ) (left : ℕ) (frame : Frame) → frame .link ≡ firstLink ch → stepsC ch ≤ f → stepsAlong ch ≤ n
+      → length (metC ch (frame .radius) stack) ≤ left
+      → Ran w f n (state map left frame stack) (after map left (metC ch (frame .radius) stack) (atLink frame (frame .at) 0) stack) (stepsC ch)
+      (stepsAlong ch) (nearIn ch (frame .radius) stack)
 
   -- a child and the rest of its chain
   link-through : (ch : Chain) (t : Phys) (stack : List Frame) → Through ch stack
-      → (f : ℕ) (map : List ℕ) (left : ℕ) (frame : Frame) (ps xs : List ℕ) → steps t + stepsC ch ≤ f
+      → (f n : ℕ) (map : List ℕ) (left : ℕ) (frame : Frame) (ps xs : List ℕ) → steps t + stepsC ch ≤ f → stepsAlong (link 0 t ch) ≤ n
       → length (ps ++ metC ch (frame .radius) stack) ≤ left
-      → Ran w f (state map left frame stack) (after map left ps (atLink frame (frame .at) (firstLink ch)) stack) (steps t) xs
-      → Ran w f (state map left frame stack)
-      (after map left (ps ++ metC ch (frame .radius) stack) (atLink frame (frame .at) 0) stack) (steps t + stepsC ch)
+      → Ran w f n (state map left frame stack) (after map left ps (atLink frame (frame .at) (firstLink ch)) stack) (steps t) (suc (stepsBelow t)) xs
+      → Ran w f n (state map left frame stack)
+      (after map left (ps ++ metC ch (frame .radius) stack) (atLink frame (frame .at) 0) stack) (steps t + stepsC ch) (stepsAlong (link 0 t ch))
       (xs ++ nearIn ch (frame .radius) stack)
-  link-through ch t stack through f map left frame ps xs l m one =
+  link-through ch t stack through f n map left frame ps xs l k m one =
       let qs : List ℕ = metC ch (frame .radius) stack in
-      let ys : List ℕ = nearIn ch (frame .radius) stack in
-      ran-to w f _ _ _ (steps t + stepsC ch) (xs ++ ys) (after-join map left ps qs (atLink frame (frame .at) 0) stack)
-      (ran-then w f _ _ _ (steps t) (stepsC ch) xs ys one
-      (through (one .rest) (markAll map (w .words) ps) (left - length ps) (atLink frame (frame .at) (firstLink ch)) refl
-      (omega (arith, one .enough)) (omega (arith, length-append ps qs))))
+      ran-to (after-join map left ps qs (atLink frame (frame .at) 0) stack)
+      (ran-then one
+      (through (one .rest) (one .over) (markAll map (w .words) ps) (left - length ps) (atLink frame (frame .at) (firstLink ch)) refl
+      (omega (arith, one .enough)) (omega (arith, one .lasts)) (omega (arith, length-append ps qs))))
 
   -- the frames of an inner node are exhausted
-  record Under (f : ℕ) (map : List ℕ) (left : ℕ) (frame : Frame) (ps xs : List ℕ) (stack : List Frame) (cost : ℕ) : Type 0 where
+  record Under (f n : ℕ) (map : List ℕ) (left : ℕ) (frame : Frame) (ps xs : List ℕ) (stack : List Frame) (cost drew : ℕ) : Type 0 where
     done : Frame
     empty : done .link ≡ 0
     last : done .last ≤ done .at
-    ran : Ran w f (state map left frame stack) (after map left ps done stack) cost xs
+    ran : Ran w f n (state map left frame stack) (after map left ps done stack) cost drew xs
 
   -- a frame that stands at the chains of node x from g on
   abbrev From : Buckets → ℕ → ℕ → Frame → Type 0
   From end x g frame = (frame .link ≡ 0) × (frame .last ≤ frame .at)
   From (bucket ch bs) x g frame = (frame .at ≡ headAt (w .cap) x g) × (frame .last ≡ headAt (w .cap) x 7) × (frame .link ≡ firstLink ch)
 
-  record Onward (f : ℕ) (map : List ℕ) (left : ℕ) (frame : Frame) (stack : List Frame) (bs : Buckets) (x g : ℕ) : Type 0 where
+  record Onward (f n : ℕ) (map : List ℕ) (left : ℕ) (frame : Frame) (stack : List Frame) (bs : Buckets) (x g : ℕ) : Type 0 where
     next : Frame
     radius : next .radius ≡ frame .radius
     from : From bs x g next
-    ran : Ran w f (state map left frame stack) (state map left next stack) 1 []
+    ran : Ran w f n (state map left frame stack) (state map left next stack) 1 0 []
 
   chains-left : (bs : Buckets) (g : ℕ) → SoundB (w .cap) (w .pcap) bs g → g ≤ 8
   chains-left end g s = omega arith
@@ -121,15 +122,15 @@ module _ (w : Given) where
   -- from chain g, which is exhausted, to the next
   onward : (small : w .cap ≤ 262144) (bs : Buckets) (x g : ℕ) (stack : List Frame) → Holds (cellsB (w .cap) (w .next) bs x (suc g)) (w .nodes) (w .pages)
       → SoundB (w .cap) (w .pcap) bs (suc g)
-      → (f : ℕ) (map : List ℕ) (left : ℕ) (frame : Frame) → 0 < f → frame .at ≡ headAt (w .cap) x g → frame .last ≡ headAt (w .cap) x 7 → frame .link ≡ 0
-      → Onward f map left frame stack bs x (suc g)
-  onward small end x g stack h s f map left frame z a b e = record {
+      → (f n : ℕ) (map : List ℕ) (left : ℕ) (frame : Frame) → 0 < f → frame .at ≡ headAt (w .cap) x g → frame .last ≡ headAt (w .cap) x 7 → frame .link ≡ 0
+      → Onward f n map left frame stack bs x (suc g)
+  onward small end x g stack h s f n map left frame z a b e = record {
     next = frame;
     radius = refl;
     from = (e, omega arith);
-    ran = ran-within w f _ _ 0 1 [] (omega arith) (ran-none w f (state map left frame stack));
+    ran = ran-within {c = 0} {d = 0} (omega arith) (omega arith) ran-none;
   }
-  onward small (bucket ch bs) x g stack h s f map left frame z a b e =
+  onward small (bucket ch bs) x g stack h s f n map left frame z a b e =
       let top : suc g < 8 + 0 = omega (arith, chains-left bs (suc (suc g)) (s .1)) in
       let at : frame .at + 1 ≡ headAt (w .cap) x (suc g) = omega arith in
       let word : getD (w .nodes) (headAt (w .cap) x (suc g)) 0 ≡ chainWord 0 (firstLink ch) = slot-word (w .cap) (w .next) (w .nodes) (w .pages) ch (headAt (w .cap) x (suc g)) 0 (h .0) in
@@ -140,13 +141,19 @@ module _ (w : Given) where
         next = atLink frame (frame .at + 1) (linkOf (getD (w .nodes) (frame .at + 1) 0));
         radius = refl;
         from = (at, b, link-there);
-        ran = step-stay w f z map left frame stack (frame .at + 1) (linkOf (getD (w .nodes) (frame .at + 1) 0))
+        ran = step-stay w f n z map left frame 0 (reads-none frame e) (omega arith) stack (frame .at + 1) (linkOf (getD (w .nodes) (frame .at + 1) 0))
             (step-next (w .nodes) (w .cap) (w .b) frame (here stack) e (omega arith));
       }
 
 steps-some : (t : Phys) → 1 ≤ steps t
 steps-some (leafP n ps) = omega arith
 steps-some (innerP n bs) = omega arith
+
+-- what the walk over a trie leaves of a budget of nodes: it has read no node twice, and the root is not drawn on the budget
+pub record WalkRight (w : Given) (t : Phys) (radius budget : ℕ) (map : List ℕ) : Type 0 where
+  pub left : ℕ
+  pub enough : budget + 1 ≤ left + nodes (tree t)
+  pub same : walkFrom w (root t) radius budget map ≡ marks (markAll map (w .words) (met (w .b) radius (tree t) (w .bytes))) left
 
 module _ (w : Given) (small : w .cap ≤ 262144) (query : (k : ℕ) → getD (w .bytes) k 0 < 2 ^ (w .b * perByte (w .b))) where
   abbrev N : List ℕ
@@ -171,57 +178,57 @@ module _ (w : Given) (small : w .cap ≤ 262144) (query : (k : ℕ) → getD (w 
   nearUnder bs r stack = nearB (w .b) r bs (here w stack ∷ behind w stack)
 
   -- an exhausted frame with other pages and nodes, by equations
-  under-same : (f : ℕ) (map : List ℕ) (left : ℕ) (frame : Frame) (ps qs xs ys : List ℕ) (stack : List Frame) (cost : ℕ) → ps ≡ qs → xs ≡ ys
-      → Under w f map left frame ps xs stack cost → Under w f map left frame qs ys stack cost
-  under-same f map left frame ps qs xs ys stack cost e n u = record {
+  under-same : (f n : ℕ) (map : List ℕ) (left : ℕ) (frame : Frame) (ps qs xs ys : List ℕ) (stack : List Frame) (cost drew : ℕ) → ps ≡ qs → xs ≡ ys
+      → Under w f n map left frame ps xs stack cost drew → Under w f n map left frame qs ys stack cost drew
+  under-same f n map left frame ps qs xs ys stack cost drew e g u = record {
     done = u .done;
     empty = u .empty;
     last = u .last;
-    ran = ran-went w f _ _ cost xs ys n (ran-to w f _ _ _ cost xs (ap (λ zs. after w map left zs (u .done) stack) e) (u .ran));
+    ran = ran-went g (ran-to (ap (λ zs. after w map left zs (u .done) stack) e) (u .ran));
   }
 
-  under-none : (f : ℕ) (map : List ℕ) (left : ℕ) (frame : Frame) (stack : List Frame) → frame .link ≡ 0 → frame .last ≤ frame .at
-      → Under w f map left frame [] [] stack 0
-  under-none f map left frame stack e l = record {
+  under-none : (f n : ℕ) (map : List ℕ) (left : ℕ) (frame : Frame) (stack : List Frame) → frame .link ≡ 0 → frame .last ≤ frame .at
+      → Under w f n map left frame [] [] stack 0 0
+  under-none f n map left frame stack e l = record {
     done = frame;
     empty = e;
     last = l;
-    ran = ran-to w f _ _ _ 0 [] (sym (after-none w map left frame stack)) (ran-none w f (state map left frame stack));
+    ran = ran-to (sym (after-none w map left frame stack)) ran-none;
   }
 
   -- one chain, then the next ones
   then-under : (ch : Chain) (bs : Buckets) (x g : ℕ) (stack : List Frame) → Holds (cellsB (w .cap) (w .next) bs x (suc g)) N P
       → SoundB (w .cap) (w .pcap) bs (suc g)
-      → (f : ℕ) (map : List ℕ) (left : ℕ) (frame : Frame) → From w (bucket ch bs) x g frame → stepsB (bucket ch bs) ≤ f
+      → (f n : ℕ) (map : List ℕ) (left : ℕ) (frame : Frame) → From w (bucket ch bs) x g frame → stepsB (bucket ch bs) ≤ f → stepsAmong (bucket ch bs) ≤ n
       → length (metB (bucket ch bs) (frame .radius) stack) ≤ left → Through w ch stack
-      → ((f′ : ℕ) (map′ : List ℕ) (left′ : ℕ) (frame′ : Frame) → From w bs x (suc g) frame′ → stepsB bs ≤ f′ → length (metB bs (frame′ .radius) stack) ≤ left′
-      → Under w f′ map′ left′ frame′ (metB bs (frame′ .radius) stack) (nearUnder bs (frame′ .radius) stack) stack (stepsB bs))
-      → Under w f map left frame (metB (bucket ch bs) (frame .radius) stack) (nearUnder (bucket ch bs) (frame .radius) stack) stack
-      (stepsB (bucket ch bs))
+      → ((f′ n′ : ℕ) (map′ : List ℕ) (left′ : ℕ) (frame′ : Frame) → From w bs x (suc g) frame′ → stepsB bs ≤ f′ → stepsAmong bs ≤ n′
+      → length (metB bs (frame′ .radius) stack) ≤ left′
+      → Under w f′ n′ map′ left′ frame′ (metB bs (frame′ .radius) stack) (nearUnder bs (frame′ .radius) stack) stack (stepsB bs) (stepsAmong bs))
+      → Under w f n map left frame (metB (bucket ch bs) (frame .radius) stack) (nearUnder (bucket ch bs) (frame .radius) stack) stack
+      (stepsB (bucket ch bs)) (stepsAmong (bucket ch bs))
   unfolding nearB
-  then-under ch bs x g stack h s f map left frame from c m through ih =
+  then-under ch bs x g stack h s f n map left frame from c k m through ih =
       let ps : List ℕ = metC w ch (frame .radius) stack in
       let qs : List ℕ = metB bs (frame .radius) stack in
       let split : metB (bucket ch bs) (frame .radius) stack ≡ ps ++ qs = met-chain (w .b) (frame .radius) (here w stack) (behind w stack) ch (kids bs) in
       let sum : length (metB (bucket ch bs) (frame .radius) stack) ≡ length ps + length qs = ap length split ∙ length-append ps qs in
-      let one = through f map left frame (from .2) (omega arith) (omega arith) in
+      let one = through f n map left frame (from .2) (omega arith) (omega arith) (omega arith) in
       let map′ : List ℕ = markAll map (w .words) ps in
-      let nx = onward w small bs x g stack h s (one .rest) map′ (left - length ps) (atLink frame (frame .at) 0) (omega (arith, one .enough)) (from .0) (from .1) refl in
+      let nx = onward w small bs x g stack h s (one .rest) (one .over) map′ (left - length ps) (atLink frame (frame .at) 0) (omega (arith, one .enough))
+      (from .0) (from .1) refl in
       let same : metB bs (nx .next .radius) stack ≡ qs = ap (λ r. metB bs r stack) (nx .radius) in
-      let xs : List ℕ = nearIn w ch (frame .radius) stack in
       let ys : List ℕ = nearUnder bs (frame .radius) stack in
-      let rest = under-same (nx .ran .rest) map′ (left - length ps) (nx .next) (metB bs (nx .next .radius) stack) qs
-      (nearUnder bs (nx .next .radius) stack) ys stack (stepsB bs) same (ap (λ r. nearUnder bs r stack) (nx .radius))
-      (ih (nx .ran .rest) map′ (left - length ps) (nx .next) (nx .from) (omega (arith, one .enough, nx .ran .enough)) (omega (arith, ap length same))) in
+      let rest = under-same (nx .ran .rest) (nx .ran .over) map′ (left - length ps) (nx .next) (metB bs (nx .next .radius) stack) qs
+      (nearUnder bs (nx .next .radius) stack) ys stack (stepsB bs) (stepsAmong bs) same (ap (λ r. nearUnder bs r stack) (nx .radius))
+      (ih (nx .ran .rest) (nx .ran .over) map′ (left - length ps) (nx .next) (nx .from) (omega (arith, one .enough, nx .ran .enough))
+      (omega (arith, one .lasts, nx .ran .lasts)) (omega (arith, ap length same))) in
       record {
         done = rest .done;
         empty = rest .empty;
         last = rest .last;
-        ran = ran-to w f _ _ _ (stepsC ch + 1 + stepsB bs) (xs ++ ys)
-            (after-join w map left ps qs (rest .done) stack ∙ ap (λ zs. after w map left zs (rest .done) stack) (sym split))
-            (ran-within w f _ _ (stepsC ch + (1 + stepsB bs)) (stepsC ch + 1 + stepsB bs) (xs ++ ys) (omega arith)
-            (ran-then w f _ _ _ (stepsC ch) (1 + stepsB bs) xs ys one
-            (ran-then w (one .rest) _ _ _ 1 (stepsB bs) [] ys (nx .ran) (rest .ran))));
+        ran = ran-to (after-join w map left ps qs (rest .done) stack ∙ ap (λ zs. after w map left zs (rest .done) stack) (sym split))
+            (ran-within {c = stepsC ch + (1 + stepsB bs)} {d = stepsAlong ch + (0 + stepsAmong bs)} (omega arith) (omega arith)
+            (ran-then one (ran-then (nx .ran) (rest .ran))));
       }
 
   -- the frame of all chains
@@ -239,16 +246,16 @@ module _ (w : Given) (small : w .cap ≤ 262144) (query : (k : ℕ) → getD (w 
   -- a child, near or far, and the rest of its chain
   child-through : (t : Phys) (ch : Chain) (stack : List Frame) (c at y lo hi : ℕ) → Holds (cellsC (w .cap) (w .next) (link c t ch) at y) N P
       → SoundC (w .cap) (w .pcap) (link c t ch) lo hi → FitC (w .b) len (link c t ch) (length stack)
-      → (f : ℕ) (map : List ℕ) (left : ℕ) (frame : Frame) → frame .link ≡ root t + 1 → steps t + stepsC ch ≤ f
+      → (f n : ℕ) (map : List ℕ) (left : ℕ) (frame : Frame) → frame .link ≡ root t + 1 → steps t + stepsC ch ≤ f → stepsAlong (link c t ch) ≤ n
       → length (metC w (link c t ch) (frame .radius) stack) ≤ left → Through w ch stack
       → ((d : ℕ) → stepIn N (w .cap) (w .b) frame (here w stack) ≡ stepTo N (w .cap) (root t) d (frame .radius) (frame .at) (firstLink ch)
-      → d ≤ frame .radius → steps t ≤ f → length (metT t (frame .radius - d) stack) ≤ left
-      → Ran w f (state map left frame stack) (after w map left (metT t (frame .radius - d) stack) (atLink frame (frame .at) (firstLink ch)) stack) (steps t)
-      (nearT t (frame .radius - d) stack))
-      → Ran w f (state map left frame stack) (after w map left (metC w (link c t ch) (frame .radius) stack) (atLink frame (frame .at) 0) stack)
-      (steps t + stepsC ch) (nearIn w (link c t ch) (frame .radius) stack)
+      → d ≤ frame .radius → steps t ≤ f → stepsBelow t < n → length (metT t (frame .radius - d) stack) ≤ left
+      → Ran w f n (state map left frame stack) (after w map left (metT t (frame .radius - d) stack) (atLink frame (frame .at) (firstLink ch)) stack)
+      (steps t) (suc (stepsBelow t)) (nearT t (frame .radius - d) stack))
+      → Ran w f n (state map left frame stack) (after w map left (metC w (link c t ch) (frame .radius) stack) (atLink frame (frame .at) 0) stack)
+      (steps t + stepsC ch) (stepsAlong (link c t ch)) (nearIn w (link c t ch) (frame .radius) stack)
   unfolding metIn nearC
-  child-through t ch stack c at y lo hi h s u f map left frame e n m through within = go (leb d r) refl m
+  child-through t ch stack c at y lo hi h s u f n map left frame e v k m through within = go (leb d r) refl m
     where
       r : ℕ
       r = frame .radius
@@ -267,26 +274,25 @@ module _ (w : Given) (small : w .cap ≤ 262144) (query : (k : ℕ) → getD (w 
           (omega (arith, u .0, byte-small (w .b)))
 
       go : (q : Bool) → leb d r ≡ q → length (cond q (metT t (r - d) stack) [] ++ metC w ch r stack) ≤ left
-          → Ran w f (state map left frame stack)
+          → Ran w f n (state map left frame stack)
           (after w map left (cond q (metT t (r - d) stack) [] ++ metC w ch r stack) (atLink frame (frame .at) 0) stack) (steps t + stepsC ch)
-          (cond q (nearT t (r - d) stack) [] ++ nearIn w ch r stack)
-      go true k v =
-          link-through w ch t stack through f map left frame (metT t (r - d) stack)
-          (nearT t (r - d) stack) n v
-          (within d found (leb-true d r k) (omega arith) (omega (arith, length-append (metT t (r - d) stack) (metC w ch r stack))))
-      go false k v =
-          link-through w ch t stack through f map left frame [] [] n v
-          (ran-to w f _ _ _ (steps t) [] (sym (after-none w map left (atLink frame (frame .at) l) stack))
-          (ran-within w f _ _ 1 (steps t) [] (steps-some t)
-          (step-stay w f (omega (arith, steps-some t)) map left frame stack (frame .at) l
-          (found ∙ to-far N (w .cap) (root t) d r (frame .at) l (leb-false d r k)))))
+          (stepsAlong (link c t ch)) (cond q (nearT t (r - d) stack) [] ++ nearIn w ch r stack)
+      go true z few =
+          link-through w ch t stack through f n map left frame (metT t (r - d) stack) (nearT t (r - d) stack) v k few
+          (within d found (leb-true d r z) (omega arith) (omega arith) (omega (arith, length-append (metT t (r - d) stack) (metC w ch r stack))))
+      go false z few =
+          link-through w ch t stack through f n map left frame [] [] v k few
+          (ran-to (sym (after-none w map left (atLink frame (frame .at) l) stack))
+          (ran-within (steps-some t) (omega arith)
+          (step-stay w f n (omega (arith, steps-some t)) map left frame 1 (reads-one frame (root t) e) (omega arith) stack (frame .at) l
+          (found ∙ to-far N (w .cap) (root t) d r (frame .at) l (leb-false d r z)))))
 
   -- an inner child at distance d, within the radius
   module _ (x : ℕ) (bs : Buckets) (stack : List Frame) (h : Holds (cells (w .cap) (w .next) (innerP x bs)) N P)
       (s : Sound (w .cap) (w .pcap) (innerP x bs)) (u : Fit (w .b) len (innerP x bs) (suc (length stack)))
-      (f : ℕ) (map : List ℕ) (left : ℕ) (frame : Frame) (d l : ℕ) (i : frame .link ≡ x + 1)
+      (f n : ℕ) (map : List ℕ) (left : ℕ) (frame : Frame) (d l : ℕ) (i : frame .link ≡ x + 1)
       (e : stepIn N (w .cap) (w .b) frame (here w stack) ≡ stepTo N (w .cap) x d (frame .radius) (frame .at) l)
-      (c : 2 + stepsB bs ≤ f) (m : length (metT (innerP x bs) (frame .radius - d) stack) ≤ left) where
+      (c : 2 + stepsB bs ≤ f) (k : stepsAmong bs < n) (m : length (metT (innerP x bs) (frame .radius - d) stack) ≤ left) where
     abbrev t : Phys
     t = innerP x bs
 
@@ -297,7 +303,7 @@ module _ (w : Given) (small : w .cap ≤ 262144) (query : (k : ℕ) → getD (w 
     back = atLink frame (frame .at) l
 
     abbrev Passed : Type 0
-    Passed = Ran w f (state map left frame stack) (after w map left (metT t r stack) back stack) (2 + stepsB bs) (nearT t r stack)
+    Passed = Ran w f n (state map left frame stack) (after w map left (metT t r stack) back stack) (2 + stepsB bs) (suc (stepsAmong bs)) (nearT t r stack)
 
     -- with nothing of the radius left: by an exact descent
     exact-through : stepsAmong bs ≤ w .cap → frame .radius ≡ d → Passed
@@ -306,39 +312,41 @@ module _ (w : Given) (small : w .cap ≤ 262144) (query : (k : ℕ) → getD (w 
         let spent : r ≡ 0 = omega arith in
         let same : metT t r stack ≡ ps = ap (λ k. metT t k stack) spent in
         let level : length stack + 1 ≡ suc (length stack) = add-one (length stack) in
-        let xs : List ℕ = x ∷ exactBelow w x (length stack + 1) in
-        ran-went w f _ _ (2 + stepsB bs) xs (nearT t r stack)
+        ran-went
         (ap (λ k. x ∷ exactBelow w x k) level ∙ sub-near w small query t (suc (length stack)) h s u few ∙ ap (λ k. nearT t k stack) (sym spent))
-        (ran-to w f _ _ _ (2 + stepsB bs) xs (ap (λ qs. after w map left qs back stack) (sym same))
-        (ran-within w f _ _ 1 (2 + stepsB bs) xs (omega arith)
-        (step-exact w f (omega arith) map left frame stack x l (markAll map (w .words) ps) (left - length ps) (omega arith)
+        (ran-to (ap (λ qs. after w map left qs back stack) (sym same))
+        (ran-within {d = 1 + stepsAmong bs} (omega arith) (omega arith)
+        (step-exact w f n (omega arith) map left frame 1 (reads-one frame x i) (omega arith) stack x l (markAll map (w .words) ps) (left - length ps)
+        (stepsAmong bs) (omega arith)
         (e ∙ to-exact N (w .cap) x d (frame .radius) (frame .at) l z (h .0))
         (ap (λ k. mark w map left (leafFrom w (exactFrom w x k))) level
-        ∙ sub-marks w small query t (suc (length stack)) h s u few map left (omega (arith, ap length same))))))
+        ∙ sub-marks w small query t (suc (length stack)) h s u few map left (omega (arith, ap length same)))
+        (rw level (sub-drew w small query t (suc (length stack)) h s u few)) (omega arith))))
 
     -- else through all its chains
     down-through : d < frame .radius
-        → ((f′ : ℕ) → stepsB bs ≤ f′ → length (metB bs r (back ∷ stack)) ≤ left
-        → Under w f′ map left (entered N (w .cap) x r) (metB bs r (back ∷ stack)) (nearUnder bs r (back ∷ stack)) (back ∷ stack) (stepsB bs))
+        → ((f′ n′ : ℕ) → stepsB bs ≤ f′ → stepsAmong bs ≤ n′ → length (metB bs r (back ∷ stack)) ≤ left
+        → Under w f′ n′ map left (entered N (w .cap) x r) (metB bs r (back ∷ stack)) (nearUnder bs r (back ∷ stack)) (back ∷ stack) (stepsB bs)
+        (stepsAmong bs))
         → Passed
     unfolding met near
     down-through z through =
         let stack′ : List Frame = back ∷ stack in
-        let down = step-down w f (omega arith) map left frame stack x r l (omega arith)
+        let down = step-down w f n (omega arith) map left frame 1 (reads-one frame x i) (omega arith) stack x r l (omega arith)
         (e ∙ to-inner N (w .cap) x d (frame .radius) (frame .at) l z (h .0)) (omega (arith, u .0)) in
         let cons : behind w stack ≡ here w stack′ ∷ behind w stack′ = drop-cons (w .bytes) (suc (length stack)) 0 (u .0) in
         let ps : List ℕ = metB bs r stack′ in
         let same : metT t r stack ≡ ps = ap (metIn (w .b) r (kids bs)) cons in
         let xs : List ℕ = nearUnder bs r stack′ in
         let same-nodes : x ∷ xs ≡ nearT t r stack = sym (ap (λ ys. x ∷ nearB (w .b) r bs ys) cons) in
-        let under = through (down .rest) (omega (arith, down .enough)) (omega (arith, ap length same)) in
-        let up = step-up w (under .ran .rest) (omega (arith, under .ran .enough, down .enough)) (markAll map (w .words) ps) (left - length ps) (under .done) back stack
+        let under = through (down .rest) (down .over) (omega (arith, down .enough)) (omega (arith, down .lasts)) (omega (arith, ap length same)) in
+        let up = step-up w (under .ran .rest) (under .ran .over) (omega (arith, under .ran .enough, down .enough)) (markAll map (w .words) ps)
+        (left - length ps) (under .done) 0 (reads-none (under .done) (under .empty)) (omega arith) back stack
         (step-last N (w .cap) (w .b) (under .done) (here w stack′) (under .empty) (under .last)) in
-        ran-went w f _ _ (2 + stepsB bs) (x ∷ (xs ++ [])) (nearT t r stack) (ap (λ ys. x ∷ ys) (append-nil xs) ∙ same-nodes)
-        (ran-to w f _ _ _ (2 + stepsB bs) (x ∷ (xs ++ [])) (ap (λ qs. after w map left qs back stack) (sym same))
-        (ran-within w f _ _ (1 + (stepsB bs + 1)) (2 + stepsB bs) (x ∷ (xs ++ [])) (omega arith)
-        (ran-then w f _ _ _ 1 (stepsB bs + 1) (x ∷ []) (xs ++ []) down
-        (ran-then w (down .rest) _ _ _ (stepsB bs) 1 xs [] (under .ran) up))))
+        ran-went (ap (λ ys. x ∷ ys) (append-nil xs) ∙ same-nodes)
+        (ran-to (ap (λ qs. after w map left qs back stack) (sym same))
+        (ran-within {c = 1 + (stepsB bs + 1)} {d = 1 + (stepsAmong bs + 0)} {xs = x ∷ (xs ++ [])} (omega arith) (omega arith)
+        (ran-then down (ran-then (under .ran) up))))
 
   mutual
     unfolding met metIn near nearB nearC entered
@@ -346,78 +354,87 @@ module _ (w : Given) (small : w .cap ≤ 262144) (query : (k : ℕ) → getD (w 
     -- a child at distance d, within the radius
     tree-through : (t : Phys) (stack : List Frame) → Holds (cells (w .cap) (w .next) t) N P → Sound (w .cap) (w .pcap) t → Fit (w .b) len t (suc (length stack))
         → stepsBelow t ≤ w .cap
-        → (f : ℕ) (map : List ℕ) (left : ℕ) (frame : Frame) (d l : ℕ)
+        → (f n : ℕ) (map : List ℕ) (left : ℕ) (frame : Frame) (d l : ℕ)
         → frame .link ≡ root t + 1
         → stepIn N (w .cap) (w .b) frame (here w stack) ≡ stepTo N (w .cap) (root t) d (frame .radius) (frame .at) l → d ≤ frame .radius
-        → steps t ≤ f → length (metT t (frame .radius - d) stack) ≤ left
-        → Ran w f (state map left frame stack) (after w map left (metT t (frame .radius - d) stack) (atLink frame (frame .at) l) stack) (steps t)
-        (nearT t (frame .radius - d) stack)
-    tree-through (leafP x ps) stack h s u few f map left frame d l i e r c m =
-        step-leaf w f c map left frame stack x (first ps) l (markAll map (w .words) ps) (left - length ps) (omega arith)
+        → steps t ≤ f → stepsBelow t < n → length (metT t (frame .radius - d) stack) ≤ left
+        → Ran w f n (state map left frame stack) (after w map left (metT t (frame .radius - d) stack) (atLink frame (frame .at) l) stack) (steps t)
+        (suc (stepsBelow t)) (nearT t (frame .radius - d) stack)
+    tree-through (leafP x ps) stack h s u few f n map left frame d l i e r c k m =
+        step-leaf w f n c map left frame 1 (reads-one frame x i) (omega arith) stack x (first ps) l (markAll map (w .words) ps) (left - length ps) (omega arith)
         (e ∙ to-leaf N (w .cap) x d (frame .radius) (frame .at) l (first ps) r (h .0))
         (leaf-marks P (w .words) (w .pcap) (w .next) N map ps left (h .1 .1) (s .1) m)
-    tree-through (innerP x bs) stack h s u few f map left frame d l i e r c m = elim (ℕ-discrete (frame .radius) d) [
-      | yes z ↦ exact-through x bs stack h s u f map left frame d l i e c m few z
+    tree-through (innerP x bs) stack h s u few f n map left frame d l i e r c k m = elim (ℕ-discrete (frame .radius) d) [
+      | yes z ↦ exact-through x bs stack h s u f n map left frame d l i e c k m few z
       | no z ↦
-          down-through x bs stack h s u f map left frame d l i e c m (omega arith)
-          (λ f′ c′ m′.
-          all-through bs x 0 (atLink frame (frame .at) l ∷ stack) (h .1) (s .1) (u .1) (u .0) few f′ map left (entered N (w .cap) x (frame .radius - d))
-          (from-first bs x (frame .radius - d) (h .1) (s .1)) c′ m′)
+          down-through x bs stack h s u f n map left frame d l i e c k m (omega arith)
+          (λ f′ n′ c′ k′ m′.
+          all-through bs x 0 (atLink frame (frame .at) l ∷ stack) (h .1) (s .1) (u .1) (u .0) few f′ n′ map left
+          (entered N (w .cap) x (frame .radius - d)) (from-first bs x (frame .radius - d) (h .1) (s .1)) c′ k′ m′)
     ]
 
     -- the chains from g on
     all-through : (bs : Buckets) (x g : ℕ) (stack : List Frame) → Holds (cellsB (w .cap) (w .next) bs x g) N P → SoundB (w .cap) (w .pcap) bs g
         → FitB (w .b) len bs (length stack) → length stack < len → stepsAmong bs ≤ w .cap
-        → (f : ℕ) (map : List ℕ) (left : ℕ) (frame : Frame) → From w bs x g frame → stepsB bs ≤ f → length (metB bs (frame .radius) stack) ≤ left
-        → Under w f map left frame (metB bs (frame .radius) stack) (nearUnder bs (frame .radius) stack) stack (stepsB bs)
-    all-through end x g stack h s u v few f map left frame from c m = under-none f map left frame stack (from .0) (from .1)
-    all-through (bucket ch bs) x g stack h s u v few f map left frame from c m =
-        then-under ch bs x g stack (h .1) (s .1) f map left frame from c m
-        (λ f′ map′ left′ frame′ e′ c′ m′.
-        chain-through ch stack (headAt (w .cap) x g) 0 (32 * g) (32 * g + 32) (h .0) (s .0) (u .0) v (omega arith) f′ map′ left′ frame′ e′ c′ m′)
-        (λ f′ map′ left′ frame′ e′ c′ m′. all-through bs x (suc g) stack (h .1) (s .1) (u .1) v (omega arith) f′ map′ left′ frame′ e′ c′ m′)
+        → (f n : ℕ) (map : List ℕ) (left : ℕ) (frame : Frame) → From w bs x g frame → stepsB bs ≤ f → stepsAmong bs ≤ n
+        → length (metB bs (frame .radius) stack) ≤ left
+        → Under w f n map left frame (metB bs (frame .radius) stack) (nearUnder bs (frame .radius) stack) stack (stepsB bs) (stepsAmong bs)
+    all-through end x g stack h s u v few f n map left frame from c k m = under-none f n map left frame stack (from .0) (from .1)
+    all-through (bucket ch bs) x g stack h s u v few f n map left frame from c k m =
+        then-under ch bs x g stack (h .1) (s .1) f n map left frame from c k m
+        (λ f′ n′ map′ left′ frame′ e′ c′ k′ m′.
+        chain-through ch stack (headAt (w .cap) x g) 0 (32 * g) (32 * g + 32) (h .0) (s .0) (u .0) v (omega arith) f′ n′ map′ left′ frame′ e′ c′ k′ m′)
+        (λ f′ n′ map′ left′ frame′ e′ c′ k′ m′. all-through bs x (suc g) stack (h .1) (s .1) (u .1) v (omega arith) f′ n′ map′ left′ frame′ e′ c′ k′ m′)
 
     chain-through : (ch : Chain) (stack : List Frame) (at y lo hi : ℕ) → Holds (cellsC (w .cap) (w .next) ch at y) N P
         → SoundC (w .cap) (w .pcap) ch lo hi → FitC (w .b) len ch (length stack) → length stack < len → stepsAlong ch ≤ w .cap → Through w ch stack
-    chain-through stop stack at y lo hi h s u v few f map left frame e c m =
-        ran-to w f _ _ _ 0 []
-        (ap (λ n. state map left (atLink frame (frame .at) n) stack) e ∙ sym (after-none w map left (atLink frame (frame .at) 0) stack))
-        (ran-none w f (state map left frame stack))
-    chain-through (link b t ch) stack at y lo hi h s u v few f map left frame e c m =
-        child-through t ch stack b at y lo hi h s u f map left frame e c m
-        (λ f′ map′ left′ frame′ e′ c′ m′.
-        chain-through ch stack (root t) b (suc b) hi (h .1 .1) (s .3) (u .2) v (omega arith) f′ map′ left′ frame′ e′ c′ m′)
-        (λ d q r c′ m′. tree-through t stack (h .1 .0) (s .2) (u .1) (omega arith) f map left frame d (firstLink ch) e q r c′ m′)
+    chain-through stop stack at y lo hi h s u v few f n map left frame e c k m =
+        ran-to (ap (λ a. state map left (atLink frame (frame .at) a) stack) e ∙ sym (after-none w map left (atLink frame (frame .at) 0) stack)) ran-none
+    chain-through (link b t ch) stack at y lo hi h s u v few f n map left frame e c k m =
+        child-through t ch stack b at y lo hi h s u f n map left frame e c k m
+        (λ f′ n′ map′ left′ frame′ e′ c′ k′ m′.
+        chain-through ch stack (root t) b (suc b) hi (h .1 .1) (s .3) (u .2) v (omega arith) f′ n′ map′ left′ frame′ e′ c′ k′ m′)
+        (λ d q r c′ k′ m′. tree-through t stack (h .1 .0) (s .2) (u .1) (omega arith) f n map left frame d (firstLink ch) e q r c′ k′ m′)
 
   -- below an inner root
-  root-through : (x : ℕ) (bs : Buckets) (radius : ℕ) (map : List ℕ) → Holds (cells (w .cap) (w .next) (innerP x bs)) N P
+  root-through : (x : ℕ) (bs : Buckets) (radius n : ℕ) (map : List ℕ) → Holds (cells (w .cap) (w .next) (innerP x bs)) N P
       → Sound (w .cap) (w .pcap) (innerP x bs) → Fit (w .b) len (innerP x bs) 0 → stepsBelow (innerP x bs) ≤ w .cap
-      → steps (innerP x bs) ≤ 10 * (w .cap + 1) → length (metB bs radius []) ≤ w .pcap
-      → Under w (10 * (w .cap + 1)) map (w .pcap) (entered N (w .cap) x radius) (metB bs radius []) (nearUnder bs radius []) [] (stepsB bs)
+      → steps (innerP x bs) ≤ 10 * (w .cap + 1) → stepsBelow (innerP x bs) ≤ n → length (metB bs radius []) ≤ w .pcap
+      → Under w (10 * (w .cap + 1)) n map (w .pcap) (entered N (w .cap) x radius) (metB bs radius []) (nearUnder bs radius []) [] (stepsB bs) (stepsAmong bs)
   unfolding entered
-  root-through x bs radius map h s u few c m =
-      all-through bs x 0 [] (h .1) (s .1) (u .1) (u .0) few (10 * (w .cap + 1)) map (w .pcap) (entered N (w .cap) x radius)
-      (from-first bs x radius (h .1) (s .1)) (omega arith) m
+  root-through x bs radius n map h s u few c k m =
+      all-through bs x 0 [] (h .1) (s .1) (u .1) (u .0) few (10 * (w .cap + 1)) n map (w .pcap) (entered N (w .cap) x radius)
+      (from-first bs x radius (h .1) (s .1)) (omega arith) k m
 
   -- from the root, at a radius that is not 0
-  right-some : (t : Phys) (radius : ℕ) (map : List ℕ) → Holds (cells (w .cap) (w .next) t) N P → Sound (w .cap) (w .pcap) t → Fit (w .b) len t 0
-      → stepsBelow t ≤ w .cap → steps t ≤ 10 * (w .cap + 1) → length (met (w .b) radius (tree t) (w .bytes)) ≤ w .pcap → 0 < radius
-      → walkFrom w (root t) radius map ≡ walked (markAll map (w .words) (met (w .b) radius (tree t) (w .bytes))) true
+  right-some : (t : Phys) (radius budget : ℕ) (map : List ℕ) → Holds (cells (w .cap) (w .next) t) N P → Sound (w .cap) (w .pcap) t → Fit (w .b) len t 0
+      → stepsBelow t ≤ w .cap → steps t ≤ 10 * (w .cap + 1) → stepsBelow t ≤ budget → length (met (w .b) radius (tree t) (w .bytes)) ≤ w .pcap
+      → 0 < radius → WalkRight w t radius budget map
   unfolding met walkBelow
-  right-some (leafP x ps) radius map h s u few c m some =
+  right-some (leafP x ps) radius budget map h s u few c k m some =
       let word : getD N (stateAt (w .cap) x) 0 ≡ 2 + first ps = h .0 in
       let less : getD N (stateAt (w .cap) x) 0 - 2 ≡ first ps = omega arith in
-      sym (from-leaf w x radius map some (stateAt (w .cap) x) refl (omega arith))
-      ∙ ap walkedLeaf (ap (mark w map (w .pcap)) less ∙ leaf-marks P (w .words) (w .pcap) (w .next) N map ps (w .pcap) (h .1 .1) (s .1) m)
-  right-some (innerP x bs) radius map h s u few c m some =
+      record {
+        left = budget;
+        enough = omega (arith, steps-below (leafP x ps));
+        same = sym (from-leaf w x radius budget map some (stateAt (w .cap) x) refl (omega arith))
+            ∙ ap (onMarks (λ a l. marks a budget))
+            (ap (mark w map (w .pcap)) less ∙ leaf-marks P (w .words) (w .pcap) (w .next) N map ps (w .pcap) (h .1 .1) (s .1) m);
+      }
+  right-some (innerP x bs) radius budget map h s u few c k m some =
       let ps : List ℕ = metB bs radius [] in
       let same : met (w .b) radius (tree (innerP x bs)) (w .bytes) ≡ ps = ap (metIn (w .b) radius (kids bs)) (drop-cons (w .bytes) 0 0 (u .0)) in
-      let under = root-through x bs radius map h s u few c (omega (arith, ap length same)) in
-      sym (from-inner w x radius map some (stateAt (w .cap) x) refl (h .0))
-      ∙ under .ran .same
-      ∙ step-end w (under .ran .rest) (omega (arith, under .ran .enough)) (markAll map (w .words) ps) (w .pcap - length ps) (under .done)
-      (step-last N (w .cap) (w .b) (under .done) (here w []) (under .empty) (under .last))
-      ∙ ap (λ qs. walked (markAll map (w .words) qs) true) (sym same)
+      let under = root-through x bs radius budget map h s u few c k (omega (arith, ap length same)) in
+      record {
+        left = under .ran .over - 0;
+        enough = omega (arith, under .ran .lasts, steps-below (innerP x bs));
+        same = sym (from-inner w x radius budget map some (stateAt (w .cap) x) refl (h .0))
+            ∙ under .ran .same
+            ∙ step-end w (under .ran .rest) (under .ran .over) (omega (arith, under .ran .enough)) (markAll map (w .words) ps) (w .pcap - length ps)
+            (under .done) 0 (reads-none (under .done) (under .empty)) (omega arith)
+            (step-last N (w .cap) (w .b) (under .done) (here w []) (under .empty) (under .last))
+            ∙ ap (λ qs. marks (markAll map (w .words) qs) (under .ran .over - 0)) (sym same);
+      }
 
   -- the nodes that it goes through
   trail-some : (t : Phys) (radius : ℕ) (map : List ℕ) → Holds (cells (w .cap) (w .next) t) N P → Sound (w .cap) (w .pcap) t → Fit (w .b) len t 0
@@ -432,7 +449,7 @@ module _ (w : Given) (small : w .cap ≤ 262144) (query : (k : ℕ) → getD (w 
       let xs : List ℕ = nearUnder bs radius [] in
       let cons : w .bytes ≡ here w [] ∷ behind w [] = drop-cons (w .bytes) 0 0 (u .0) in
       let same : met (w .b) radius (tree (innerP x bs)) (w .bytes) ≡ ps = ap (metIn (w .b) radius (kids bs)) cons in
-      let under = root-through x bs radius map h s u few c (omega (arith, ap length same)) in
+      let under = root-through x bs radius (stepsAmong bs) map h s u few c (omega arith) (omega (arith, ap length same)) in
       let ended : trail w (under .ran .rest) (after w map (w .pcap) ps (under .done) []) ≡ [] =
       trail-end w (under .ran .rest) (omega (arith, under .ran .enough)) (markAll map (w .words) ps) (w .pcap - length ps) (under .done)
       (step-last N (w .cap) (w .b) (under .done) (here w []) (under .empty) (under .last)) in
@@ -448,14 +465,21 @@ module _ (w : Given) (small : w .cap ≤ 262144) (query : (k : ℕ) → getD (w 
   module _ (t : Phys) (radius : ℕ) (map : List ℕ) (h : Holds (cells (w .cap) (w .next) t) N P) (s : Sound (w .cap) (w .pcap) t) (u : Fit (w .b) len t 0)
       (few : stepsBelow t ≤ w .cap) (c : steps t ≤ 10 * (w .cap + 1)) (m : length (met (w .b) radius (tree t) (w .bytes)) ≤ w .pcap) where
     -- the pages that are met, marked in order
-    pub right : walkFrom w (root t) radius map ≡ walked (markAll map (w .words) (met (w .b) radius (tree t) (w .bytes))) true
-    right = elim (ℕ-discrete radius 0) [
+    pub right : (budget : ℕ) → nodes (tree t) ≤ budget + 1 → WalkRight w t radius budget map
+    right budget k = elim (ℕ-discrete radius 0) [
       | yes z ↦
           let same : met (w .b) radius (tree t) (w .bytes) ≡ met (w .b) 0 (tree t) (w .bytes) = ap (λ r. met (w .b) r (tree t) (w .bytes)) z in
-          sym (from-exact w (root t) radius map z)
-          ∙ ap walkedLeaf (sub-marks w small query t 0 h s u few map (w .pcap) (omega (arith, ap length same)))
-          ∙ ap (λ ps. walked (markAll map (w .words) ps) true) (sym same)
-      | no z ↦ right-some t radius map h s u few c m (omega arith)
+          let drew : drawnFrom w (exactFrom w (root t) 0) ≤ stepsBelow t = sub-drew w small query t 0 h s u few in
+          let left : ℕ = budget - drawnFrom w (exactFrom w (root t) 0) in
+          record {
+            left = left;
+            enough = omega (arith, steps-below t);
+            same = sym (from-exact w (root t) radius budget map z)
+                ∙ exact-paid w (λ a l n. marks a n) map (w .pcap) budget (exactFrom w (root t) 0) _ _ (omega (arith, steps-below t))
+                (sub-marks w small query t 0 h s u few map (w .pcap) (omega (arith, ap length same)))
+                ∙ ap (λ ps. marks (markAll map (w .words) ps) left) (sym same);
+          }
+      | no z ↦ right-some t radius budget map h s u few c (omega (arith, steps-below t)) m (omega arith)
     ]
 
     -- the nodes that it goes through

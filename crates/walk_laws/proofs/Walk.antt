@@ -1,5 +1,5 @@
--- The walk over one block's trie, on tables that hold a sound one: it marks exactly what is met, all of it below the page capacity, and goes through
--- exactly the nodes within the radius.
+-- The walk over one block's trie, on tables that hold a sound one: it marks exactly what is met, all of it below the page capacity, goes through
+-- exactly the nodes within the radius, and reads each node behind the root at most once.
 use Prim.Native.Nat.{ℕ, suc, _+_, _-_, _*_, _^_, _≤_, _<_}
 use native.Mathlib.Omega.{arith}
 use mathlib.Core.Path.{_≡_, refl, ap, _∙_}
@@ -16,25 +16,24 @@ use Rattle.meaning.proofs.Lists.{all-append, and-intro}
 use Rattle.trie.specs.Heap.{Holds}
 use Rattle.trie.specs.Phys.{Phys, leafP, innerP, Buckets, end, bucket, Chain, stop, link, root, tree, kids, kidsC, cells, Below, Sound, SoundB, SoundC}
 use Rattle.trie_laws.specs.Sound.{soundTrie}
-use Rattle.walk.specs.Mark.{markAll}
-use Rattle.walk.specs.Walk.{Given, walked, walkFrom}
+use Rattle.walk.specs.Walk.{Given}
 use Rattle.walk_laws.specs.Near.{near, nearNodes, pathsIn, pathNear}
 use Rattle.walk_laws.specs.Trail.{trailFrom}
 use Rattle.walk_laws.proofs.Fit.{fit}
 use Rattle.walk_laws.proofs.Leads.{steps-below}
 use Rattle.walk_laws.proofs.Near.{near-count, near-le, near-path, near-zero}
-use Rattle.walk_laws.proofs.Right.{right, right-trail, steps-nodes}
+use Rattle.walk_laws.proofs.Right.{WalkRight, right, right-trail, steps-nodes}
 
 -- ---- on tables that hold a sound trie
-pub walk-right : (w : Given) (bytesOf : ℕ → List ℕ) (n : ℕ) (t : Phys) (radius : ℕ) (map : List ℕ) → w .cap ≤ 262144
+pub walk-right : (w : Given) (bytesOf : ℕ → List ℕ) (n : ℕ) (t : Phys) (radius budget : ℕ) (map : List ℕ) → w .cap ≤ 262144
     → ((k : ℕ) → getD (w .bytes) k 0 < 2 ^ (w .b * perByte (w .b)))
     → Holds (cells (w .cap) (w .next) t) (w .nodes) (w .pages) → Sound (w .cap) (w .pcap) t
     → soundTrie bytesOf (w .b) n (length (w .bytes)) 0 (tree t) ≡ true
-    → nodes (tree t) ≤ w .cap → length (met (w .b) radius (tree t) (w .bytes)) ≤ w .pcap
-    → walkFrom w (root t) radius map ≡ walked (markAll map (w .words) (met (w .b) radius (tree t) (w .bytes))) true
-walk-right w bytesOf n t radius map small query h s sound few pages =
+    → nodes (tree t) ≤ w .cap → length (met (w .b) radius (tree t) (w .bytes)) ≤ w .pcap → nodes (tree t) ≤ budget + 1
+    → WalkRight w t radius budget map
+walk-right w bytesOf n t radius budget map small query h s sound few pages lasts =
     right w small query t radius map h s (fit bytesOf (w .b) n (length (w .bytes)) t 0 sound) (omega (arith, steps-below t))
-    (omega (arith, steps-nodes (w .cap) (w .pcap) t s)) pages
+    (omega (arith, steps-nodes (w .cap) (w .pcap) t s)) pages budget lasts
 
 -- ---- the nodes it goes through there
 module _ (w : Given) (bytesOf : ℕ → List ℕ) (n : ℕ) (t : Phys) (radius : ℕ) (map : List ℕ) (small : w .cap ≤ 262144)

@@ -7,12 +7,10 @@ use lib.ListN.{length, getD}
 use Rattle.layout.specs.Nodes.{byteOf, stateAt, freeState, innerState}
 use Rattle.descent.specs.declared.Cursor.{Cursor}
 use Rattle.descent.specs.Cursor.{advance}
-use Rattle.walk.specs.declared.mark.Left.{Left}
-use Rattle.walk.specs.declared.mark.Left.the-variants as budget
 use Rattle.walk.specs.declared.frame.Frame.{Frame}
 use Rattle.walk.specs.declared.frame.Step.{Step}
 use Rattle.walk.specs.declared.frame.Step.the-variants as step
-use Rattle.walk.specs.Mark.{Marks}
+use Rattle.walk.specs.Mark.{Marks, marks, broken}
 use Rattle.walk.specs.Frame.{entered, stepIn}
 use Rattle.walk.specs.Walk.{Given, State, state, atLink, mark, exactFrom, leafFrom}
 
@@ -32,12 +30,9 @@ module _ (nodes : List ℕ) (cap : ℕ) (bytes : List ℕ) where
 
 -- ---- of a walk
 -- the nodes behind a leaf, unless a link was not in order
-abbrev pub traceLeft : (List ℕ → ℕ → List ℕ) → List ℕ → Left → List ℕ
-traceLeft go map (budget.Some n) = go map n
-traceLeft go map budget.Broken = []
-
 abbrev pub traceMarks : (List ℕ → ℕ → List ℕ) → Marks → List ℕ
-traceMarks go m = traceLeft go (m .map) (m .answer)
+traceMarks go (marks map n) = go map n
+traceMarks go broken = []
 
 module _ (w : Given) where
   -- below node x, by the query's bytes from a level on

@@ -1,18 +1,17 @@
 -- `leaves`: the leaves of the blocks before j are collected.
-use lib.ListN.{length-set}
 use Prim.Native.Nat.{_-_}
 use native.Mathlib.Omega.{arith}
-use mathlib.Core.Path.{_≡_, refl, ap, _∙_}
+use mathlib.Core.Path.{refl}
 use borrow.Author.Needs.{needs}
-use Rattle.exact.proofs.Blocks.{started-inside, led, LeavesTo, leaves-none, leaves-next, leaves-all}
+use Rattle.exact.proofs.Blocks.{started-inside, LeavesTo, leaves-none, leaves-next, leaves-all}
 use Rattle.exact.proofs.leaves.Statement.{statement}
 use Rattle.exact.proofs.leaves.Tie as tie
 
 abbrev Inv-loop : tie.InvT-loop
-Inv-loop nodes h sketch cursors firsts₀ j₀ firsts j = LeavesTo h nodes sketch firsts j
+Inv-loop nodes h sketch budget cursors left firsts₀ j₀ firsts j = LeavesTo h cursors firsts j
 
 abbrev μ-loop : tie.MeasureT-loop
-μ-loop nodes h sketch cursors firsts₀ j₀ firsts j = h .q - j
+μ-loop nodes h sketch budget cursors left firsts₀ j₀ firsts j = h .q - j
 
 slice-aggregate-pack-blocks : tie.Need-slice-aggregate-pack-blocks Inv-loop μ-loop
 slice-aggregate-pack-blocks c = search needs
@@ -32,11 +31,13 @@ slice-aggregate-descend c = search needs
 descend-requires : tie.Need-descend-requires Inv-loop μ-loop
 descend-requires c κs =
     let pre = c .before .before .before .before .before .before .before .before .pre in
-    let long = c .before .before .before .before .pack-blocks .ensures .long in
-    (record { long = pre .1 .0; most = pre .0 .nodes-most; few = omega (arith, long) }, started-inside _ _ _ (c .before .start-all .ensures) (pre .0) long)
+    let long = c .before .before .before .before .pack-blocks .ensures .long in (
+      record { long = pre .1 .0; most = pre .0 .nodes-most; few = omega (arith, long) },
+      (started-inside _ _ _ (c .before .start-all .ensures) (pre .0) long, pre .1 .1 .1 .1),
+    )
 
 loop-holds : tie.Need-loop-holds Inv-loop μ-loop
-loop-holds c = search needs
+loop-holds c = leaves-none _ _ _ refl
 
 mul-leaf-of : tie.Need-mul-leaf-of Inv-loop μ-loop
 mul-leaf-of c = search needs
@@ -57,19 +58,15 @@ add-j : tie.Need-add-j Inv-loop μ-loop
 add-j c = search needs
 
 loop-less : tie.Need-loop-less Inv-loop μ-loop
-loop-less c = omega (arith, c .before .before .if1 .taken)
+loop-less c = search needs
 
 loop-again : tie.Need-loop-again Inv-loop μ-loop
-loop-again c =
-    let pre = c .before .before .before .before .before .before .before .before .before .before .before .before .before .before .pre in
-    let down = c .before .before .before .before .before in
-    leaves-next _ _ _ (c .before .before .before .before .loop .inv) (c .before .before .if1 .taken) (pre .0 .blocks-most) _
-    (c .leaf-of .ensures
-    ∙ led _ _ _ _ (pre .0) (pre .1 .1 .0) (down .before .before .before .before .before .pack-blocks .ensures) _ (down .before .before .start-all .ensures) _ (down .descend .ensures) _
-    (c .before .before .if1 .taken))
+loop-again c = leaves-next _ _ (c .before .before .before .before .loop .inv) (c .before .before .if1 .taken) (c .before .before .before .before .before .before .before .before .before .before .before .before .before .before .before .pre .0 .blocks-most) _ (c .leaf-of .ensures)
 
 returns : tie.Need-returns Inv-loop μ-loop
-returns c = leaves-all _ _ _ (c .before .before .loop .inv) (c .if1 .left)
+returns c =
+    let pre = c .before .before .before .before .before .before .before .before .before .before .before .before .before .pre in
+    leaves-all _ _ _ _ (pre .0) (pre .1 .1 .0) (c .before .before .before .before .before .before .before .before .before .pack-blocks .ensures) _ (c .before .before .before .before .before .before .start-all .ensures) _ (c .before .before .before .before .descend .ensures) (c .before .before .loop .inv) (c .if1 .left)
 
 pub leaves-spec : {M : Type 1} → statement M
 leaves-spec =

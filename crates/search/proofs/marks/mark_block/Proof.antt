@@ -69,7 +69,7 @@ walk-requires : tie.Need-walk-requires
 walk-requires c κs =
     let p = c .before .before .before in
     let pre = start p .pre in
-    (pre .0, (fitting-call _ _ _ _ _ _ _ _ _ (c .before .before .next-at .ensures) (pre .1 .1 .1 .0) (block-bytes p) (pre .1 .0) (pre .1 .1 .0) (pre .1 .1 .1 .1 .0), (omega (arith, pre .1 .0 .limits .nodes-least, pre .1 .1 .1 .1 .0), pre .1 .1 .1 .1 .1)))
+    (pre .0, (fitting-call _ _ _ _ _ _ _ _ _ (c .before .before .next-at .ensures) (pre .1 .1 .1 .0) (block-bytes p) (pre .1 .0) (pre .1 .1 .0) (pre .1 .1 .1 .1 .0), (omega (arith, pre .1 .0 .limits .nodes-least, pre .1 .1 .1 .1 .0), pre .1 .1 .1 .1 .2, pre .1 .1 .1 .1 .1)))
 
 same-length : tie.Need-same-length
 same-length c = search needs
@@ -79,7 +79,7 @@ returns c =
     let w = c .before .before in
     let n = w .before .before .before in
     w .walk .ensures
-    ∙ walk-call _ _ _ _ _ _ _ _ _ (n .next-at .ensures) (start (n .before) .pre .1 .1 .1 .0) (block-bytes (n .before)) _
+    ∙ walk-call _ _ _ _ _ _ _ _ _ (n .next-at .ensures) (start (n .before) .pre .1 .1 .1 .0) (block-bytes (n .before)) _ _
 
 pub mark-block-spec : {M : Type 1} → statement M
 mark-block-spec =

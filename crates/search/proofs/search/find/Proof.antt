@@ -1,8 +1,7 @@
 -- `find` walks, then lists.
 use mathlib.Core.Path.{_∙_}
 use borrow.Author.Needs.{needs}
-use borrow.Author.Tests.{not-true, not-false}
-use Rattle.search.proofs.Walked.{test-fits, walked-room, walked-summary, walked-clears, answers-stopped, answers-open}
+use Rattle.search.proofs.Walked.{test-fits, stopped-room, stopped-clears, walked-broken, walked-room, walked-summary, walked-clears, answers-stopped, answers-open}
 use Rattle.search.proofs.search.find.Statement.{statement}
 use Rattle.search.proofs.search.find.Tie as tie
 
@@ -12,22 +11,27 @@ start m = m .before .before .before .before .before .before .before .before .bef
 mark-blocks-requires : tie.Need-mark-blocks-requires
 mark-blocks-requires c κs = search needs
 
+enum-told : tie.Need-enum-told
+enum-told c = search needs
+
+enum-told-2 : tie.Need-enum-told-2
+enum-told-2 c = search needs
+
 clear-marks-requires : tie.Need-clear-marks-requires
 clear-marks-requires c κs =
-    let m = c .before .before .before .before in
+    let m = c .before .before .before .before .before in
     let pre = start m .pre in
-    walked-room _ _ _ _ _ _ _ (pre .0) (pre .1 .1 .1 .1 .0) _ _ (m .mark-blocks .ensures)
+    stopped-room _ _ _ _ _ (pre .0) (pre .1 .1 .1 .1 .0) _ (pre .1 .1 .1 .1 .1 .0) (m .mark-blocks .kept .1 .1 .0)
 
 same-length : tie.Need-same-length
 same-length c = search needs
 
 returns : tie.Need-returns
 returns c =
-    let t = c .before .before .before .before in
-    let m = t .before .before .before in
+    let m = c .before .before .before .before .before .before .before .before in
     let pre = start m .pre in (
-      answers-stopped _ _ _ _ _ _ _ (pre .0) (pre .1 .1 .1 .1 .0) _ _ (m .mark-blocks .ensures) _ _ (not-true _ (t .if1 .taken)),
-      c .before .before .clear-marks .ensures ∙ walked-clears _ _ _ _ _ _ _ (pre .0) (pre .1 .1 .1 .1 .0) _ _ (m .mark-blocks .ensures),
+      answers-stopped _ _ _ _ (walked-broken _ _ _ _ _ _ _ (pre .0) (pre .1 .1 .1 .1 .0) _ _ (m .mark-blocks .ensures) (c .before .before .before .before .enum-told2 .given .1)),
+      c .before .before .clear-marks .ensures ∙ stopped-clears _ _ _ _ _ (pre .0) (pre .1 .1 .1 .1 .0) _ (pre .1 .1 .1 .1 .1 .0) (m .mark-blocks .kept .1 .1 .0),
     )
 
 open-classes-requires : tie.Need-open-classes-requires
@@ -35,14 +39,10 @@ open-classes-requires c κs = search needs
 
 list-hits-requires : tie.Need-list-hits-requires
 list-hits-requires c κs =
-    let m = c .before .before .before .before .before .before in
-    let pre = start m .pre in (
-      walked-room _ _ _ _ _ _ _ (pre .0) (pre .1 .1 .1 .1 .0) _ _ (m .mark-blocks .ensures),
-      (
-        walked-summary _ _ _ _ _ _ _ (pre .0) (pre .1 .1 .1 .1 .0) _ _ (m .mark-blocks .ensures) (pre .1 .1 .1 .1 .1),
-        test-fits _ _ _ _ _ _ _ _ (pre .0) (pre .1 .1 .0) (pre .1 .0),
-      ),
-    )
+    let m = c .before .before .before .before .before .before .before in
+    let pre = start m .pre in
+    let told = c .before .before .before .enum-told .given .1 in
+    (walked-room _ _ _ _ _ _ _ (pre .0) (pre .1 .1 .1 .1 .0) _ _ (m .mark-blocks .ensures) _ told, (walked-summary _ _ _ _ _ _ _ (pre .0) (pre .1 .1 .1 .1 .0) _ _ (m .mark-blocks .ensures) _ told (pre .1 .1 .1 .1 .1 .1), test-fits _ _ _ _ _ _ _ _ (pre .0) (pre .1 .1 .0) (pre .1 .0)))
 
 same-length-2 : tie.Need-same-length-2
 same-length-2 c = search needs
@@ -53,13 +53,11 @@ same-length-3 c = search needs
 returns-2 : tie.Need-returns-2
 returns-2 c =
     let l = c .before .before .before .before in
-    let o = l .before .before .before in
-    let t = o .before in
-    let m = t .before .before .before in
-    let pre = start m .pre in (
-      answers-open _ _ _ _ _ _ _ (pre .0) (pre .1 .1 .1 .1 .0) _ _ (m .mark-blocks .ensures) _ _ _ (o .open-classes .ensures) (not-false _ (t .if1 .left)) _ _ _ _
-          (l .list-hits .ensures .0),
-      l .list-hits .ensures .1 ∙ walked-clears _ _ _ _ _ _ _ (pre .0) (pre .1 .1 .1 .1 .0) _ _ (m .mark-blocks .ensures),
+    let m = c .before .before .before .before .before .before .before .before .before .before .before .before in
+    let pre = start m .pre in
+    let told = c .before .before .before .before .before .before .before .before .enum-told .given .1 in (
+      answers-open _ _ _ _ _ _ _ (pre .0) (pre .1 .1 .1 .1 .0) _ _ (m .mark-blocks .ensures) _ told _ _ _ (c .before .before .before .before .before .before .before .open-classes .ensures) _ _ _ _ (l .list-hits .ensures .0),
+      l .list-hits .ensures .1 ∙ walked-clears _ _ _ _ _ _ _ (pre .0) (pre .1 .1 .1 .1 .0) _ _ (m .mark-blocks .ensures) _ told,
     )
 
 pub find-spec : {M : Type 1} → statement M
@@ -67,6 +65,8 @@ find-spec =
     tie.close
     (tie.spec
     mark-blocks-requires
+    enum-told
+    enum-told-2
     clear-marks-requires
     same-length
     returns

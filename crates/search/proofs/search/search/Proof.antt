@@ -8,7 +8,9 @@ use Rattle.index.specs.Entry.{entry}
 use Rattle.index.proofs.Enters.{Entered, entry-shown}
 use Rattle.search.proofs.Enters.{lends}
 use Rattle.search.proofs.Queries.{query-passed}
-use Rattle.search.proofs.Walked.{lent-room, cleared-lent, cleared-summary}
+use lib.Seq.{length-take-le}
+use native.Mathlib.Omega.{arith}
+use Rattle.search.proofs.Walked.{lent-room, cleared-lent, part-long, part-lent, part-summary}
 use Rattle.search.proofs.Promises.{promise-tables, promise-query, promise-found}
 use Rattle.search.proofs.search.search.Statement.{statement}
 use Rattle.search.proofs.search.search.Tie as tie
@@ -69,17 +71,44 @@ returns-2 c =
     let k = m .before .before .before in
     promise-query _ _ _ _ _ _ (shows k) _ (m .before .before .map-words .ensures) _ (m .clear-marks .ensures) _ (q .query-number .ensures) (c .if1 .taken)
 
+working-length-requires : tie.Need-working-length-requires
+working-length-requires c κs = opened (c .before .before .before .before .before .before .before) .limits
+
+-- the needed part lies in the working table
+slice-relend-prefix-find : tie.Need-slice-relend-prefix-find
+slice-relend-prefix-find c =
+    let ready = cleared-lent _ _ _ _ (lends _ _ (opened (c .before .before .before .before .before .before .before .before))) _ (c .before .before .before .before .before .before .before .map-words .ensures) _ (c .before .before .before .before .before .clear-marks .ensures) in
+    omega (arith, c .working-length .ensures, ready .working-long)
+
+slice-aggregate-find : tie.Need-slice-aggregate-find
+slice-aggregate-find c = sym (length-take-le _ _ (slice-relend-prefix-find (c .before)))
+
 find-requires : tie.Need-find-requires
 find-requires c κs =
-    let t = c .before .before in
-    let q = t .before in
-    let m = q .before .before .before in
-    let o = opened (m .before .before .before) in
+    let q = c .before .before .before .before in
+    let m = c .before .before .before .before .before .before .before in
+    let o = opened (c .before .before .before .before .before .before .before .before .before .before) in
     let lent-now = lends _ _ o in
-    let words = m .before .before .map-words .ensures in
-    let passed = query-passed _ _ _ _ (sym (q .query-number .ensures) ∙ t .if1 .left) in (
-      cleared-lent _ _ _ _ lent-now _ words _ (m .clear-marks .ensures),
-      (o .sketches-long, (passed .1, ((o .settings-long, passed .0), (words, cleared-summary _ _ _ _ lent-now _ words _ (m .clear-marks .ensures))))),
+    let words = c .before .before .before .before .before .before .before .before .before .map-words .ensures in
+    let size = c .before .before .working-length .ensures in
+    let passed = query-passed _ _ _ _ (sym (q .query-number .ensures) ∙ c .before .before .before .if1 .left) in (
+      part-lent _ _ _ _ lent-now _ words _ (m .clear-marks .ensures) _ size,
+      (
+        o .sketches-long,
+        (
+          passed .1,
+          (
+            (o .settings-long, passed .0),
+            (
+              words,
+              (
+                part-long _ _ _ _ lent-now _ words _ (m .clear-marks .ensures) _ size,
+                part-summary _ _ _ _ lent-now _ words _ (m .clear-marks .ensures) _ size,
+              ),
+            ),
+          ),
+        ),
+      ),
     )
 
 same-length-3 : tie.Need-same-length-3
@@ -91,11 +120,8 @@ same-length-4 c = search needs
 returns-3 : tie.Need-returns-3
 returns-3 c =
     let f = c .before .before .before .before in
-    let t = f .before .before .before in
-    let q = t .before in
-    let m = q .before .before .before in
-    let k = m .before .before .before in
-    promise-found _ _ _ _ _ _ (shows k) _ (m .before .before .map-words .ensures) _ (m .clear-marks .ensures) (sym (q .query-number .ensures) ∙ t .if1 .left) _ _ _ _
+    let k = c .before .before .before .before .before .before .before .before .before .before .before .before .before .before .before in
+    promise-found _ _ _ _ _ _ (shows k) _ (c .before .before .before .before .before .before .before .before .before .before .before .before .before .before .map-words .ensures) _ (c .before .before .before .before .before .before .before .before .before .before .before .before .clear-marks .ensures) (sym (c .before .before .before .before .before .before .before .before .before .query-number .ensures) ∙ c .before .before .before .before .before .before .before .before .if1 .left) _ (c .before .before .before .before .before .before .before .working-length .ensures) _ _ _ _
     (f .find .ensures .0) (f .find .ensures .1)
 
 pub search-spec : {M : Type 1} → statement M
@@ -112,6 +138,9 @@ search-spec =
     query-number-requires
     same-length-2
     returns-2
+    working-length-requires
+    slice-relend-prefix-find
+    slice-aggregate-find
     find-requires
     same-length-3
     same-length-4

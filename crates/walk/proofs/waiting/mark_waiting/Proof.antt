@@ -1,4 +1,4 @@
--- `mark_waiting` is `markWaiting`: the descents end, then each turn marks a leaf.
+-- `mark_waiting` is `flush`: the descents end, then each turn marks a leaf.
 use Prim.Native.Nat.{_-_, _≤_}
 use native.Mathlib.Nat.{sub-zero}
 use native.Mathlib.Omega.{arith}
@@ -6,24 +6,32 @@ use mathlib.Core.Path.{_≡_, refl, sym, _∙_}
 use lib.ListN.{length}
 use borrow.Author.Needs.{needs}
 use Rattle.walk.specs.Walk.{given}
-use Rattle.walk.proofs.Marking.{markFrom, from-next, from-broken, from-end, from-start}
+use Rattle.walk.proofs.Flush.{flush-by}
+use Rattle.walk.proofs.Marking.{markFrom, from-next, from-broken, from-end, flush-from}
 use Rattle.walk.proofs.waiting.mark_waiting.Statement.{statement}
 use Rattle.walk.proofs.waiting.mark_waiting.Tie as tie
 
 abbrev Inv-loop : tie.InvT-loop
-Inv-loop nodes pages map₀ cap pcap next words b bytes n budget cursors left₀ i₀ map left i =
+Inv-loop nodes pages map₀ cap pcap next words b bytes n budget reads cursors over left₀ i₀ map left i =
     (markFrom (given nodes pages cap pcap next words b bytes) cursors map left i (n - i)
     ≡ markFrom (given nodes pages cap pcap next words b bytes) cursors map₀ budget 0 n)
     × (length map ≡ length map₀)
     × (i ≤ n)
 
 abbrev μ-loop : tie.MeasureT-loop
-μ-loop nodes pages map₀ cap pcap next words b bytes n budget cursors left₀ i₀ map left i = n - i
+μ-loop nodes pages map₀ cap pcap next words b bytes n budget reads cursors over left₀ i₀ map left i = n - i
 
 descend-requires : tie.Need-descend-requires Inv-loop μ-loop
-descend-requires c κs =
-    let fit = c .before .before .before .before .pre .0 in
-    (record { long = fit .nodes; most = fit .cap; few = omega (arith, fit .bytes) }, c .before .before .before .before .pre .1)
+descend-requires c κs = search needs
+
+enum-known-unread : tie.Need-enum-known-unread Inv-loop μ-loop
+enum-known-unread c = search needs
+
+enum-told : tie.Need-enum-told Inv-loop μ-loop
+enum-told c = search needs
+
+returns : tie.Need-returns Inv-loop μ-loop
+returns c = flush-by _ _ _ _ _ _ (sym (c .enum-told .given .1) ∙ c .before .before .before .descend .ensures .left)
 
 loop-holds : tie.Need-loop-holds Inv-loop μ-loop
 loop-holds c = (rw sub-zero refl, refl, omega arith)
@@ -43,23 +51,22 @@ mark-leaf-requires c κs = search needs
 enum-known-k : tie.Need-enum-known-k Inv-loop μ-loop
 enum-known-k c = search needs
 
-enum-told : tie.Need-enum-told Inv-loop μ-loop
-enum-told c = search needs
+enum-told-2 : tie.Need-enum-told-2 Inv-loop μ-loop
+enum-told-2 c = search needs
 
 same-length : tie.Need-same-length Inv-loop μ-loop
-same-length c = c .before .before .before .before .mark-leaf .kept .1 .0 ∙ c .before .before .before .before .before .before .before .before .before .loop .inv .1
+same-length c = search needs
 
-returns : tie.Need-returns Inv-loop μ-loop
-returns c =
-    sym (from-broken _ _ _ _ _ _ (c .before .before .before .before .before .before .before .before .loop-test .taken) _ (c .before .before .before .before .before .before .leaf-of .ensures) _ _ (c .before .before .before .before .mark-leaf .ensures) (c .enum-told .given .1))
-    ∙ c .before .before .before .before .before .before .before .before .before .loop .inv .0
-    ∙ from-start _ _ _ _ (c .before .before .before .before .before .before .before .before .before .before .before .before .before .before .before .pre .1) (c .before .before .before .before .before .before .before .before .before .before .descend .ensures) _ _
+returns-2 : tie.Need-returns-2 Inv-loop μ-loop
+returns-2 c =
+    flush-from _ _ _ (c .before .before .before .before .before .before .before .before .before .before .before .before .before .before .before .before .before .before .before .pre .1 .0) _ _ (c .before .before .before .before .before .before .before .before .before .before .before .before .before .before .descend .ensures) _ (c .before .before .before .before .before .before .before .before .before .before .before .unread .given .1) _ _ (c .before .before .before .before .before .before .before .before .before .loop .inv .0)
+    (from-broken _ _ _ _ _ _ (c .before .before .before .before .before .before .before .before .loop-test .taken) _ (c .before .before .before .before .before .before .leaf-of .ensures) _ _ (c .before .before .before .before .mark-leaf .ensures) (c .enum-told2 .given .1))
 
 add-i : tie.Need-add-i Inv-loop μ-loop
 add-i c = search needs
 
 loop-less : tie.Need-loop-less Inv-loop μ-loop
-loop-less c = omega arith
+loop-less c = search needs
 
 loop-again : tie.Need-loop-again Inv-loop μ-loop
 loop-again c = (
@@ -69,10 +76,11 @@ loop-again c = (
 )
 
 same-length-2 : tie.Need-same-length-2 Inv-loop μ-loop
-same-length-2 c = c .before .loop .inv .1
+same-length-2 c = search needs
 
-returns-2 : tie.Need-returns-2 Inv-loop μ-loop
-returns-2 c = sym (from-end _ _ _ _ _ _ (c .loop-test .left)) ∙ c .before .loop .inv .0 ∙ from-start _ _ _ _ (c .before .before .before .before .before .before .before .pre .1) (c .before .before .descend .ensures) _ _
+returns-3 : tie.Need-returns-3 Inv-loop μ-loop
+returns-3 c =
+    flush-from _ _ _ (c .before .before .before .before .before .before .before .before .before .before .before .pre .1 .0) _ _ (c .before .before .before .before .before .before .descend .ensures) _ (c .before .before .before .unread .given .1) _ _ (c .before .loop .inv .0) (from-end _ _ _ _ _ _ (c .loop-test .left))
 
 pub mark-waiting-spec : {M : Type 1} → statement M
 mark-waiting-spec =
@@ -81,17 +89,20 @@ mark-waiting-spec =
     Inv-loop
     μ-loop
     descend-requires
+    enum-known-unread
+    enum-told
+    returns
     loop-holds
     mul-leaf-of
     array-copy-out-leaf-of
     leaf-of-requires
     mark-leaf-requires
     enum-known-k
-    enum-told
+    enum-told-2
     same-length
-    returns
+    returns-2
     add-i
     loop-less
     loop-again
     same-length-2
-    returns-2)
+    returns-3)

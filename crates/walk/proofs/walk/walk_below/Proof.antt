@@ -1,10 +1,9 @@
 -- `walk_below` is `walkBelow`: each turn takes one step of the machine, behind the leaves that wait.
-use Prim.Native.Nat.{_<_}
+use Prim.Native.Nat.{_<_, _≤_}
 use native.Mathlib.Omega.{arith}
 use mathlib.Core.Path.{_≡_, refl, sym, _∙_}
-use mathlib.Core.Bool.{false}
 use mathlib.Core.Logic.{⊎-elim}
-use lib.ListN.{length, take, length-set}
+use lib.ListN.{length, take}
 use borrow.Author.Needs.{needs}
 use Rattle.meaning.proofs.Stacks.{above, above-length, above-put, above-take, Held, held-stay, held-down, held-up, held-start}
 use Rattle.descent.specs.Cursor.{AllInside}
@@ -13,22 +12,22 @@ use Rattle.walk.proofs.Stack.{noFrame, Inside, inside-entered}
 use Rattle.walk.proofs.Steps.{exact-within, down-within}
 use Rattle.walk.proofs.Turns.{fitting-kept}
 use Rattle.walk.proofs.Pending.{take-put, inside-put, inside-none, inside-ended, inside-arrived, none-yet}
-use Rattle.walk.proofs.Behind.{behind, behind-start, behind-failed, behind-end, behind-stay, behind-leaf, leaf-marked, leaf-failed, behind-exact, behind-down, behind-up, behind-done, behind-deep, behind-broken}
+use Rattle.walk.proofs.Behind.{behind, behind-start, behind-spent, behind-failed, behind-short, behind-stay, behind-leaf, leaf-marked, leaf-failed, behind-exact, behind-down, behind-up, behind-done, behind-deep, behind-broken}
 use Rattle.walk.proofs.Ready.{Ready, ready-kept, ready-marked}
 use Rattle.walk.proofs.walk.walk_below.Statement.{statement}
 use Rattle.walk.proofs.walk.walk_below.Tie as tie
 
 abbrev Inv-loop : tie.InvT-loop
-Inv-loop table nodes pages map₀ cap pcap next words b bytes x radius last frame₀ stack₀ depth₀ waiting₀ n₀ left₀ steps₀ whole₀ map frame stack depth waiting n left steps whole =
-    (behind (given nodes pages cap pcap next words b bytes) map left (take n waiting) whole steps frame (above noFrame stack depth)
-    ≡ walkBelow (given nodes pages cap pcap next words b bytes) x radius map₀)
+Inv-loop table nodes pages map₀ cap pcap next words b bytes x radius budget last frame₀ stack₀ depth₀ waiting₀ n₀ left₀ reads₀ steps₀ map frame stack depth waiting n left reads steps =
+    (behind (given nodes pages cap pcap next words b bytes) map left reads (take n waiting) steps frame (above noFrame stack depth)
+    ≡ walkBelow (given nodes pages cap pcap next words b bytes) x radius budget map₀)
     × (length map ≡ length map₀)
     × Held noFrame (Inside cap) (length bytes) frame stack depth
     × AllInside bytes waiting n
-    × (0 < steps → whole ≡ false)
+    × (reads ≤ budget)
 
 abbrev μ-loop : tie.MeasureT-loop
-μ-loop table nodes pages map₀ cap pcap next words b bytes x radius last frame₀ stack₀ depth₀ waiting₀ n₀ left₀ steps₀ whole₀ map frame stack depth waiting n left steps whole = steps
+μ-loop table nodes pages map₀ cap pcap next words b bytes x radius budget last frame₀ stack₀ depth₀ waiting₀ n₀ left₀ reads₀ steps₀ map frame stack depth waiting n left reads steps = steps
 
 sub-last : tie.Need-sub-last Inv-loop μ-loop
 sub-last c = search needs
@@ -53,19 +52,22 @@ mul-steps c = record { fits = omega (arith, c .before .before .before .before .b
 
 loop-holds : tie.Need-loop-holds Inv-loop μ-loop
 loop-holds c =
-    let fit = c .before .before .before .before .before .before .pre .1 .0 in (
-      behind-start _ _ _ _ _ _ (c .before .enter .ensures) (above-length noFrame _ 0),
+    let pre = c .before .before .before .before .before .before .pre in (
+      behind-start _ _ _ _ _ _ _ (c .before .enter .ensures) (above-length noFrame _ 0),
       refl,
-      held-start noFrame _ _ _ _ (inside-entered _ _ _ _ _ (c .before .enter .ensures) (c .before .before .before .before .before .before .pre .1 .1)) refl (fit .some) (fit .bytes),
+      held-start noFrame _ _ _ _ (inside-entered _ _ _ _ _ (c .before .enter .ensures) (pre .1 .1 .0)) refl (pre .1 .0 .some) (pre .1 .0 .bytes),
       inside-none _ _ refl,
-      λ h. refl,
+      omega arith,
     )
 
 sub-steps : tie.Need-sub-steps Inv-loop μ-loop
 sub-steps c = search needs
 
 mark-waiting-requires : tie.Need-mark-waiting-requires Inv-loop μ-loop
-mark-waiting-requires c κs = (fitting-kept _ _ _ (c .before .before .before .loop .inv .1) (c .before .before .before .before .before .before .before .before .before .before .pre .1 .0), c .before .before .before .loop .inv .3)
+mark-waiting-requires c κs =
+    let inv = c .before .before .before .loop .inv in
+    let pre = c .before .before .before .before .before .before .before .before .before .before .pre in
+    (fitting-kept _ _ _ (inv .1) (pre .1 .0), (inv .3, omega (arith, inv .4, pre .1 .1 .1)))
 
 enum-known-k : tie.Need-enum-known-k Inv-loop μ-loop
 enum-known-k c = search needs
@@ -79,9 +81,54 @@ same-length c = c .before .before .before .before .mark-waiting .kept .1 .1 .0 �
 returns : tie.Need-returns Inv-loop μ-loop
 returns c =
     let at = c .before .before .before .before .before .before .before .before .loop in
-    sym
-    (behind-failed _ _ _ _ _ _ (c .before .before .before .before .mark-waiting .ensures) (at .whole) (at .steps) (at .frame) (above noFrame (at .stack) (at .depth)) (c .enum-told .given .1))
-    ∙ at .inv .0
+    sym (behind-failed _ _ _ _ _ (at .steps) (at .frame) (above noFrame (at .stack) (at .depth)) _ _ (c .before .before .before .before .mark-waiting .ensures) (c .enum-told .given .1)) ∙ at .inv .0
+
+-- at a turn, once there is room for one more leaf
+abbrev Room : Type 0
+Room = tie.Joined1 Inv-loop μ-loop
+
+abbrev start : Room → tie.Start Inv-loop μ-loop
+start j = j .before .before .before .before .before .before .before .before .before
+
+abbrev at : Room → tie.At-loop Inv-loop μ-loop
+at j = j .before .before
+
+-- there was a step left
+some : (j : Room) → 0 < at j .loop .steps
+some j = j .before .loop-test .taken
+
+-- fewer than 16 leaves wait
+settled : (j : Room) →
+    let args = start j .args in
+    let w = given (args .nodes .now) (args .pages .now) (args .cap) (args .pcap) (args .next) (args .words) (args .b) (args .bytes .now) in
+    let loop = at j .loop in
+    Ready w (walkBelow w (args .x) (args .radius) (args .budget) (args .map .now)) (length (args .map .now)) (args .budget) (loop .waiting) (loop .steps)
+    (loop .frame) (above noFrame (loop .stack) (loop .depth)) (j .if1 .map) (j .if1 .n) (j .if1 .left) (j .if1 .reads)
+settled j =
+    let inv = at j .loop .inv in
+    ⊎-elim
+    (λ w.
+    ready-marked _ _ _ _ _ _ _ _ _ _ _ _ (inv .0) (inv .3) (inv .4) _ _ _ _ _ _ _ _ (w .2 .ensures) (w .6 .given .1) (w .2 .kept .1 .1 .0 ∙ inv .1) (w .8) (w .9) (w .10) (w .11))
+    (λ w. ready-kept _ _ _ _ _ _ _ _ _ _ _ _ (inv .0) (inv .3) (inv .4) _ _ _ _ (inv .1) (w .0 .left) (w .1) (w .2) (w .3) (w .4))
+    (j .if1 .came)
+
+-- once its step is found
+abbrev Turn : Type 0
+Turn = tie.After-next-step Inv-loop μ-loop
+
+abbrev room : Turn → Room
+room t = t .before .before .before .before .before
+
+reads-requires : tie.Need-reads-requires Inv-loop μ-loop
+reads-requires c κs = search needs
+
+same-length-2 : tie.Need-same-length-2 Inv-loop μ-loop
+same-length-2 c = settled (c .before .before) .long
+
+returns-2 : tie.Need-returns-2 Inv-loop μ-loop
+returns-2 c =
+    let j = c .before .before in
+    sym (behind-short _ _ _ _ _ _ _ _ (some j) _ (c .before .reads .ensures) (c .if2 .taken)) ∙ settled j .walk
 
 shared-slice-read-next-step : tie.Need-shared-slice-read-next-step Inv-loop μ-loop
 shared-slice-read-next-step c = search needs
@@ -89,52 +136,21 @@ shared-slice-read-next-step c = search needs
 next-step-requires : tie.Need-next-step-requires Inv-loop μ-loop
 next-step-requires c κs = search needs
 
--- a turn, once its step is found
-abbrev Turn : Type 0
-Turn = tie.After-next-step Inv-loop μ-loop
-
-abbrev start : Turn → tie.Start Inv-loop μ-loop
-start t = t .before .before .before .before .before .before .before .before .before .before .before
-
-abbrev at : Turn → tie.At-loop Inv-loop μ-loop
-at t = t .before .before .before .before
-
--- there was a step left, and the walk was not over
-some : (t : Turn) → 0 < at t .loop .steps
-some t = t .before .before .before .loop-test .taken
-
-going : (t : Turn) → at t .loop .whole ≡ false
-going t = at t .loop .inv .4 (some t)
-
--- fewer than 16 leaves wait
-settled : (t : Turn) →
-    let args = start t .args in
-    let w = given (args .nodes .now) (args .pages .now) (args .cap) (args .pcap) (args .next) (args .words) (args .b) (args .bytes .now) in
-    let loop = at t .loop in
-    Ready w (walkBelow w (args .x) (args .radius) (args .map .now)) (length (args .map .now)) (loop .waiting) (loop .whole) (loop .steps) (loop .frame)
-    (above noFrame (loop .stack) (loop .depth)) (t .before .before .if1 .map) (t .before .before .if1 .n) (t .before .before .if1 .left)
-settled t =
-    let inv = at t .loop .inv in
-    ⊎-elim
-    (λ w.
-    ready-marked _ _ _ _ _ _ _ _ _ _ _ (inv .0) (inv .3) _ _ _ _ _ _ (w .2 .ensures) (w .6 .given .1) (w .2 .kept .1 .1 .0 ∙ inv .1) (w .8) (w .9) (w .10))
-    (λ w. ready-kept _ _ _ _ _ _ _ _ _ _ _ (inv .0) (inv .3) _ _ _ (inv .1) (w .0 .left) (w .1) (w .2) (w .3))
-    (t .before .before .if1 .came)
-
 enum-known-at : tie.Need-enum-known-at Inv-loop μ-loop
 enum-known-at c = search needs
 
 loop-less : tie.Need-loop-less Inv-loop μ-loop
-loop-less c = omega (arith, c .before .before .before .before .before .before .loop-test .taken)
+loop-less c = omega (arith, some (c .before .before .before .before .before .before .before .before))
 
 loop-again : tie.Need-loop-again Inv-loop μ-loop
 loop-again c =
-    let t = c .before .before .before in (
-      sym (behind-stay _ _ _ _ _ _ _ _ (going t) (some t) _ (above-length _ _ _) _ (t .next-step .ensures) _ _ (c .before .at .given .1)) ∙ settled t .walk,
-      settled t .long,
-      held-stay _ _ _ _ _ _ (at t .loop .inv .2) _ (at t .loop .inv .2 .inside),
-      settled t .inside,
-      λ h. going t,
+    let t = c .before .before .before in
+    let j = room t in (
+      sym (behind-stay _ _ _ _ _ _ _ _ (some j) _ (t .before .before .before .before .reads .ensures) (t .before .before .before .if2 .left) _ (above-length _ _ _) _ (t .next-step .ensures) _ _ (c .before .at .given .1)) ∙ settled j .walk,
+      settled j .long,
+      held-stay _ _ _ _ _ _ (at j .loop .inv .2) _ (at j .loop .inv .2 .inside),
+      settled j .inside,
+      omega (arith, settled j .few),
     )
 
 enum-known-first : tie.Need-enum-known-first Inv-loop μ-loop
@@ -142,66 +158,70 @@ enum-known-first c = search needs
 
 mark-leaf-requires : tie.Need-mark-leaf-requires Inv-loop μ-loop
 mark-leaf-requires c κs =
-    let fit = fitting-kept _ _ (c .before .before .before .before .before .before .before .if1 .map) (settled (c .before .before .before .before .before) .long) (start (c .before .before .before .before .before) .pre .1 .0) in
+    let j = room (c .before .before .before .before .before) in
+    let fit = fitting-kept _ _ (j .if1 .map) (settled j .long) (start j .pre .1 .0) in
     (fit .pages, ((fit .pcap, fit .words, fit .bits), fit .summary))
 
 enum-known-k-2 : tie.Need-enum-known-k-2 Inv-loop μ-loop
 enum-known-k-2 c = search needs
 
 loop-less-2 : tie.Need-loop-less-2 Inv-loop μ-loop
-loop-less-2 c = omega (arith, c .before .before .before .before .before .before .before .before .before .before .before .before .before .before .loop-test .taken)
+loop-less-2 c = omega (arith, some (c .before .before .before .before .before .before .before .before .before .before .before .before .before .before .before .before))
 
 loop-again-2 : tie.Need-loop-again-2 Inv-loop μ-loop
 loop-again-2 c =
-    let t = c .before .before .before .before .before .before .before .before .before .before .before in (
+    let t = c .before .before .before .before .before .before .before .before .before .before .before in
+    let j = room t in (
       sym
-          (leaf-marked _ _ _ _ _ _ _ _ (going t) (some t) _ (above-length _ _ _) _ (t .next-step .ensures) (none-yet (at t .loop .waiting) (c .before .before .before .before .before .before .before .if2 .taken)) _ _ (c .before .before .before .before .before .before .before .before .before .first .given .1) _ _ (c .before .before .before .before .before .mark-leaf .ensures) _ (c .before .k2 .given .1))
-          ∙ settled t .walk,
-      c .before .before .before .before .before .mark-leaf .kept .1 .0 ∙ settled t .long,
-      held-stay _ _ _ _ _ _ (at t .loop .inv .2) _ (at t .loop .inv .2 .inside),
-      settled t .inside,
-      λ h. going t,
+          (leaf-marked _ _ _ _ _ _ _ _ (some j) _ (t .before .before .before .before .reads .ensures) (t .before .before .before .if2 .left) _ (above-length _ _ _) _ (t .next-step .ensures) (none-yet (at j .loop .waiting) (c .before .before .before .before .before .before .before .if3 .taken)) _ _ (c .before .before .before .before .before .before .before .before .before .first .given .1) _ _ (c .before .before .before .before .before .mark-leaf .ensures) _ (c .before .k2 .given .1))
+          ∙ settled j .walk,
+      c .before .before .before .before .before .mark-leaf .kept .1 .0 ∙ settled j .long,
+      held-stay _ _ _ _ _ _ (at j .loop .inv .2) _ (at j .loop .inv .2 .inside),
+      settled j .inside,
+      omega (arith, settled j .few),
     )
 
 enum-told-2 : tie.Need-enum-told-2 Inv-loop μ-loop
 enum-told-2 c = search needs
 
-same-length-2 : tie.Need-same-length-2 Inv-loop μ-loop
-same-length-2 c = c .before .before .before .before .mark-leaf .kept .1 .0 ∙ settled (c .before .before .before .before .before .before .before .before .before .before) .long
+same-length-3 : tie.Need-same-length-3 Inv-loop μ-loop
+same-length-3 c = c .before .before .before .before .mark-leaf .kept .1 .0 ∙ settled (room (c .before .before .before .before .before .before .before .before .before .before)) .long
 
-returns-2 : tie.Need-returns-2 Inv-loop μ-loop
-returns-2 c =
+returns-3 : tie.Need-returns-3 Inv-loop μ-loop
+returns-3 c =
     let t = c .before .before .before .before .before .before .before .before .before .before in
+    let j = room t in
     sym
-    (leaf-failed _ _ _ _ _ _ _ _ (going t) (some t) _ (above-length noFrame (at t .loop .stack) (at t .loop .depth)) _ (t .next-step .ensures) (none-yet (at t .loop .waiting) (c .before .before .before .before .before .before .if2 .taken)) _ _ (c .before .before .before .before .before .before .before .before .first .given .1) _ _ (c .before .before .before .before .mark-leaf .ensures) (c .enum-told2 .given .1))
-    ∙ settled t .walk
+    (leaf-failed _ _ _ _ _ _ _ _ (some j) _ (t .before .before .before .before .reads .ensures) (t .before .before .before .if2 .left) _ (above-length noFrame (at j .loop .stack) (at j .loop .depth)) _ (t .next-step .ensures) (none-yet (at j .loop .waiting) (c .before .before .before .before .before .before .if3 .taken)) _ _ (c .before .before .before .before .before .before .before .before .first .given .1) _ _ (c .before .before .before .before .mark-leaf .ensures) (c .enum-told2 .given .1))
+    ∙ settled j .walk
 
 ended-requires-2 : tie.Need-ended-requires-2 Inv-loop μ-loop
 ended-requires-2 c κs = search needs
 
 mul-waiting : tie.Need-mul-waiting Inv-loop μ-loop
-mul-waiting c = record { fits = omega (arith, settled (c .before .before .before .before .before .before) .room) }
+mul-waiting c = record { fits = omega (arith, settled (room (c .before .before .before .before .before .before)) .room) }
 
 array-set-from-waiting : tie.Need-array-set-from-waiting Inv-loop μ-loop
-array-set-from-waiting c = let now = settled (c .before .before .before .before .before .before) in omega (arith, now .room, now .inside .long)
+array-set-from-waiting c = let now = settled (room (c .before .before .before .before .before .before)) in omega (arith, now .room, now .inside .long)
 
 add-n : tie.Need-add-n Inv-loop μ-loop
-add-n c = record { fits = omega (arith, settled (c .before .before .before .before .before .before) .room) }
+add-n c = record { fits = omega (arith, settled (room (c .before .before .before .before .before .before)) .room) }
 
 loop-less-3 : tie.Need-loop-less-3 Inv-loop μ-loop
-loop-less-3 c = omega (arith, c .before .before .before .before .before .before .before .before .before .loop-test .taken)
+loop-less-3 c = omega (arith, some (c .before .before .before .before .before .before .before .before .before .before .before))
 
 loop-again-3 : tie.Need-loop-again-3 Inv-loop μ-loop
 loop-again-3 c =
-    let t = c .before .before .before .before .before .before in (
+    let t = c .before .before .before .before .before .before in
+    let j = room t in (
       sym
-          (behind-leaf _ _ _ _ _ _ _ _ (going t) (some t) _ (above-length _ _ _) _ (t .next-step .ensures) _ _ _ _ (c .before .before .before .before .first .given .1) (c .before .ended2 .ensures)
-          (take-put (at t .loop .waiting) (t .before .before .if1 .n) _ (omega (arith, settled t .room, settled t .inside .long))))
-          ∙ settled t .walk,
-      settled t .long,
-      held-stay _ _ _ _ _ _ (at t .loop .inv .2) _ (at t .loop .inv .2 .inside),
-      inside-put _ _ _ _ (settled t .inside) (settled t .room) (inside-ended _ _ _ (c .before .ended2 .ensures) (start t .pre .1 .0 .some)),
-      λ h. going t,
+          (behind-leaf _ _ _ _ _ _ _ _ (some j) _ (t .before .before .before .before .reads .ensures) (t .before .before .before .if2 .left) _ (above-length _ _ _) _ (t .next-step .ensures) _ _ _ _ (c .before .before .before .before .first .given .1) (c .before .ended2 .ensures)
+          (take-put (at j .loop .waiting) (j .if1 .n) _ (omega (arith, settled j .room, settled j .inside .long))))
+          ∙ settled j .walk,
+      settled j .long,
+      held-stay _ _ _ _ _ _ (at j .loop .inv .2) _ (at j .loop .inv .2 .inside),
+      inside-put _ _ _ _ (settled j .inside) (settled j .room) (inside-ended _ _ _ (c .before .ended2 .ensures) (start j .pre .1 .0 .some)),
+      omega (arith, settled j .few),
     )
 
 enum-known-child : tie.Need-enum-known-child Inv-loop μ-loop
@@ -218,55 +238,52 @@ cast-arrive-2 c = search needs
 
 arrive-requires : tie.Need-arrive-requires Inv-loop μ-loop
 arrive-requires c κs =
-    let fit = c .before .before .before .before .before .before .before .before .before .before .before .before .before .before .pre .1 .0 in (
+    let t = c .before .before .before in
+    let fit = start (room t) .pre .1 .0 in (
       record { long = fit .nodes; most = fit .cap; few = omega (arith, fit .bytes) },
-      (exact-within _ _ _ _ _ _ (c .before .before .before .next-step .ensures) _ _ (c .before .child .given .1), omega (arith, fit .some)),
+      (exact-within _ _ _ _ _ _ (t .next-step .ensures) _ _ (c .before .child .given .1), omega (arith, fit .some)),
     )
 
 mul-waiting-2 : tie.Need-mul-waiting-2 Inv-loop μ-loop
-mul-waiting-2 c = record { fits = omega (arith, settled (c .before .before .before .before .before) .room) }
+mul-waiting-2 c = record { fits = omega (arith, settled (room (c .before .before .before .before .before)) .room) }
 
 array-set-from-waiting-2 : tie.Need-array-set-from-waiting-2 Inv-loop μ-loop
-array-set-from-waiting-2 c = let now = settled (c .before .before .before .before .before) in omega (arith, now .room, now .inside .long)
+array-set-from-waiting-2 c = let now = settled (room (c .before .before .before .before .before)) in omega (arith, now .room, now .inside .long)
 
 add-n-2 : tie.Need-add-n-2 Inv-loop μ-loop
-add-n-2 c = record { fits = omega (arith, settled (c .before .before .before .before .before) .room) }
+add-n-2 c = record { fits = omega (arith, settled (room (c .before .before .before .before .before)) .room) }
 
 loop-less-4 : tie.Need-loop-less-4 Inv-loop μ-loop
-loop-less-4 c = omega (arith, c .before .before .before .before .before .before .before .before .loop-test .taken)
+loop-less-4 c = omega (arith, some (c .before .before .before .before .before .before .before .before .before .before))
 
 loop-again-4 : tie.Need-loop-again-4 Inv-loop μ-loop
 loop-again-4 c =
-    let t = c .before .before .before .before .before in (
+    let t = c .before .before .before .before .before in
+    let j = room t in (
       sym
-          (behind-exact _ _ _ _ _ _ _ _ (going t) (some t) _ (above-length _ _ _) _ (t .next-step .ensures) _ _ _ _ (c .before .before .before .child .given .1) (c .before .arrive .ensures)
-          (take-put (at t .loop .waiting) (t .before .before .if1 .n) _ (omega (arith, settled t .room, settled t .inside .long))))
-          ∙ settled t .walk,
-      settled t .long,
-      held-stay _ _ _ _ _ _ (at t .loop .inv .2) _ (at t .loop .inv .2 .inside),
-      inside-put _ _ _ _ (settled t .inside) (settled t .room) (inside-arrived _ _ _ _ _ _ _ (c .before .arrive .ensures) (omega (arith, start t .pre .1 .0 .some))),
-      λ h. going t,
+          (behind-exact _ _ _ _ _ _ _ _ (some j) _ (t .before .before .before .before .reads .ensures) (t .before .before .before .if2 .left) _ (above-length _ _ _) _ (t .next-step .ensures) _ _ _ _ (c .before .before .before .child .given .1) (c .before .arrive .ensures)
+          (take-put (at j .loop .waiting) (j .if1 .n) _ (omega (arith, settled j .room, settled j .inside .long))))
+          ∙ settled j .walk,
+      settled j .long,
+      held-stay _ _ _ _ _ _ (at j .loop .inv .2) _ (at j .loop .inv .2 .inside),
+      inside-put _ _ _ _ (settled j .inside) (settled j .room) (inside-arrived _ _ _ _ _ _ _ (c .before .arrive .ensures) (omega (arith, start j .pre .1 .0 .some))),
+      omega (arith, settled j .few),
     )
 
 enum-known-child-2 : tie.Need-enum-known-child-2 Inv-loop μ-loop
 enum-known-child-2 c = search needs
 
-add-if3 : tie.Need-add-if3 Inv-loop μ-loop
-add-if3 c = search needs
+add-if4 : tie.Need-add-if4 Inv-loop μ-loop
+add-if4 c = search needs
 
-loop-less-5 : tie.Need-loop-less-5 Inv-loop μ-loop
-loop-less-5 c = omega (arith, c .before .before .before .before .before .before .before .loop-test .taken)
+same-length-4 : tie.Need-same-length-4 Inv-loop μ-loop
+same-length-4 c = settled (room (c .before .before .before .before)) .long
 
-loop-again-5 : tie.Need-loop-again-5 Inv-loop μ-loop
-loop-again-5 c =
-    let t = c .before .before .before .before in (
-      sym (behind-deep _ _ _ _ _ _ _ _ (going t) (some t) _ (above-length _ _ _) _ (t .next-step .ensures) _ _ _ (c .before .before .child2 .given .1) (c .if3 .taken))
-          ∙ settled t .walk,
-      settled t .long,
-      at t .loop .inv .2,
-      settled t .inside,
-      λ h. going t,
-    )
+returns-4 : tie.Need-returns-4 Inv-loop μ-loop
+returns-4 c =
+    let t = c .before .before .before .before in
+    let j = room t in
+    sym (behind-deep _ _ _ _ _ _ _ _ (some j) _ (t .before .before .before .before .reads .ensures) (t .before .before .before .if2 .left) _ (above-length _ _ _) _ (t .next-step .ensures) _ _ _ (c .before .before .child2 .given .1) (c .if4 .taken)) ∙ settled j .walk
 
 mul-stack : tie.Need-mul-stack Inv-loop μ-loop
 mul-stack c = search needs
@@ -282,44 +299,48 @@ cast-enter c = search needs
 
 enter-requires-2 : tie.Need-enter-requires-2 Inv-loop μ-loop
 enter-requires-2 c κs =
-    let fit = c .before .before .before .before .before .before .before .before .before .before .before .before .before .before .before .pre .1 .0 in
-    (fit .nodes, fit .cap, down-within _ _ _ _ _ _ (c .before .before .before .before .next-step .ensures) _ _ _ (c .before .before .child2 .given .1))
+    let t = c .before .before .before .before in
+    let fit = start (room t) .pre .1 .0 in
+    (fit .nodes, fit .cap, down-within _ _ _ _ _ _ (t .next-step .ensures) _ _ _ (c .before .before .child2 .given .1))
 
-loop-less-6 : tie.Need-loop-less-6 Inv-loop μ-loop
-loop-less-6 c = omega (arith, c .before .before .before .before .before .before .before .before .loop-test .taken)
+loop-less-5 : tie.Need-loop-less-5 Inv-loop μ-loop
+loop-less-5 c = omega (arith, some (c .before .before .before .before .before .before .before .before .before .before))
 
-loop-again-6 : tie.Need-loop-again-6 Inv-loop μ-loop
-loop-again-6 c =
+loop-again-5 : tie.Need-loop-again-5 Inv-loop μ-loop
+loop-again-5 c =
     let t = c .before .before .before .before .before in
-    let held = at t .loop .inv .2 in
+    let j = room t in
+    let held = at j .loop .inv .2 in
     let in-table = down-within _ _ _ _ _ _ (t .next-step .ensures) _ _ _ (c .before .before .before .child2 .given .1) in (
       sym
-          (behind-down _ _ _ _ _ _ _ _ (going t) (some t) _ (above-length _ _ _) _ (t .next-step .ensures) _ _ _ _ _ (c .before .before .before .child2 .given .1) (c .before .if3 .left)
+          (behind-down _ _ _ _ _ _ _ _ (some j) _ (t .before .before .before .before .reads .ensures) (t .before .before .before .if2 .left) _ (above-length _ _ _) _ (t .next-step .ensures) _ _ _ _ _ (c .before .before .before .child2 .given .1) (c .before .if4 .left)
           (c .enter2 .ensures)
           (above-put _ _ _ _ (omega (arith, held .level, held .levels, held .room))))
-          ∙ settled t .walk,
-      settled t .long,
-      held-down _ _ _ _ _ _ held _ _ (held .inside) (inside-entered _ _ _ _ _ (c .enter2 .ensures) in-table) (c .before .if3 .left),
-      settled t .inside,
-      λ h. going t,
+          ∙ settled j .walk,
+      settled j .long,
+      held-down _ _ _ _ _ _ held _ _ (held .inside) (inside-entered _ _ _ _ _ (c .enter2 .ensures) in-table) (c .before .if4 .left),
+      settled j .inside,
+      omega (arith, settled j .few),
     )
 
 enum-told-3 : tie.Need-enum-told-3 Inv-loop μ-loop
 enum-told-3 c = search needs
 
-loop-less-7 : tie.Need-loop-less-7 Inv-loop μ-loop
-loop-less-7 c = omega (arith, c .before .before .before .before .before .before .loop-test .taken)
+finish-requires : tie.Need-finish-requires Inv-loop μ-loop
+finish-requires c κs =
+    let j = room (c .before .before .before .before) in
+    (fitting-kept _ _ _ (settled j .long) (start j .pre .1 .0), (settled j .inside, omega (arith, settled j .few, start j .pre .1 .1 .1)))
 
-loop-again-7 : tie.Need-loop-again-7 Inv-loop μ-loop
-loop-again-7 c =
-    let t = c .before .before .before in (
-      sym (behind-done _ _ _ _ _ _ _ _ (going t) (some t) _ (above-length _ _ _) _ (t .next-step .ensures) (c .before .enum-told3 .given .1) (c .if4 .taken))
-          ∙ settled t .walk,
-      settled t .long,
-      at t .loop .inv .2,
-      settled t .inside,
-      λ h. absurd (omega arith),
-    )
+same-length-5 : tie.Need-same-length-5 Inv-loop μ-loop
+same-length-5 c = c .before .before .finish .kept .1 .1 .0 ∙ settled (room (c .before .before .before .before .before .before .before)) .long
+
+returns-5 : tie.Need-returns-5 Inv-loop μ-loop
+returns-5 c =
+    let t = c .before .before .before .before .before .before .before in
+    let j = room t in
+    c .before .before .finish .ensures
+    ∙ sym (behind-done _ _ _ _ _ _ _ _ (some j) _ (t .before .before .before .before .reads .ensures) (t .before .before .before .if2 .left) _ (above-length _ _ _) _ (t .next-step .ensures) (c .before .before .before .before .before .enum-told3 .given .1) (c .before .before .before .before .if5 .taken))
+    ∙ settled j .walk
 
 sub-depth : tie.Need-sub-depth Inv-loop μ-loop
 sub-depth c = search needs
@@ -330,63 +351,40 @@ mul-frame c = search needs
 array-copy-out-frame : tie.Need-array-copy-out-frame Inv-loop μ-loop
 array-copy-out-frame c = search needs
 
-loop-less-8 : tie.Need-loop-less-8 Inv-loop μ-loop
-loop-less-8 c = omega (arith, c .before .before .before .before .before .before .before .loop-test .taken)
+loop-less-6 : tie.Need-loop-less-6 Inv-loop μ-loop
+loop-less-6 c = omega (arith, some (c .before .before .before .before .before .before .before .before .before))
 
-loop-again-8 : tie.Need-loop-again-8 Inv-loop μ-loop
-loop-again-8 c =
-    let t = c .before .before .before .before in (
+loop-again-6 : tie.Need-loop-again-6 Inv-loop μ-loop
+loop-again-6 c =
+    let t = c .before .before .before .before in
+    let j = room t in (
       sym
-          (behind-up _ _ _ _ _ _ _ _ (going t) (some t) _ (above-length _ _ _) _ (t .next-step .ensures) _ _ (c .before .before .enum-told3 .given .1)
+          (behind-up _ _ _ _ _ _ _ _ (some j) _ (t .before .before .before .before .reads .ensures) (t .before .before .before .if2 .left) _ (above-length _ _ _) _ (t .next-step .ensures) _ _ (c .before .before .enum-told3 .given .1)
           (above-take _ _ _ (omega arith)))
-          ∙ settled t .walk,
-      settled t .long,
-      held-up _ _ _ _ _ _ (at t .loop .inv .2) (omega arith),
-      settled t .inside,
-      λ h. going t,
+          ∙ settled j .walk,
+      settled j .long,
+      held-up _ _ _ _ _ _ (at j .loop .inv .2) (omega arith),
+      settled j .inside,
+      omega (arith, settled j .few),
     )
 
 enum-told-4 : tie.Need-enum-told-4 Inv-loop μ-loop
 enum-told-4 c = search needs
 
-loop-less-9 : tie.Need-loop-less-9 Inv-loop μ-loop
-loop-less-9 c = omega (arith, c .before .before .before .before .before .loop-test .taken)
+same-length-6 : tie.Need-same-length-6 Inv-loop μ-loop
+same-length-6 c = settled (room (c .before .before)) .long
 
-loop-again-9 : tie.Need-loop-again-9 Inv-loop μ-loop
-loop-again-9 c =
-    let t = c .before .before in (
-      sym (behind-broken _ _ _ _ _ _ _ _ (going t) (some t) _ (above-length _ _ _) _ (t .next-step .ensures) (c .enum-told4 .given .1)) ∙ settled t .walk,
-      settled t .long,
-      at t .loop .inv .2,
-      settled t .inside,
-      λ h. going t,
-    )
+returns-6 : tie.Need-returns-6 Inv-loop μ-loop
+returns-6 c =
+    let t = c .before .before in
+    let j = room t in
+    sym (behind-broken _ _ _ _ _ _ _ _ (some j) _ (t .before .before .before .before .reads .ensures) (t .before .before .before .if2 .left) _ (above-length _ _ _) _ (t .next-step .ensures) (c .enum-told4 .given .1)) ∙ settled j .walk
 
-mark-waiting-requires-2 : tie.Need-mark-waiting-requires-2 Inv-loop μ-loop
-mark-waiting-requires-2 c κs = (fitting-kept _ _ _ (c .before .before .loop .inv .1) (c .before .before .before .before .before .before .before .before .before .pre .1 .0), c .before .before .loop .inv .3)
+same-length-7 : tie.Need-same-length-7 Inv-loop μ-loop
+same-length-7 c = c .before .loop .inv .1
 
-enum-told-5 : tie.Need-enum-told-5 Inv-loop μ-loop
-enum-told-5 c = search needs
-
-enum-told-6 : tie.Need-enum-told-6 Inv-loop μ-loop
-enum-told-6 c = search needs
-
-same-length-3 : tie.Need-same-length-3 Inv-loop μ-loop
-same-length-3 c = c .before .before .before .before .mark-waiting2 .kept .1 .1 .0 ∙ c .before .before .before .before .before .before .before .loop .inv .1
-
-returns-3 : tie.Need-returns-3 Inv-loop μ-loop
-returns-3 c =
-    sym (behind-end _ _ _ _ _ _ (c .before .before .before .before .mark-waiting2 .ensures) _ _ _ _ _ (c .enum-told5 .given .1) (omega (arith, c .before .before .before .before .before .before .loop-test .left))) ∙ c .before .before .before .before .before .before .before .loop .inv .0
-
-same-length-4 : tie.Need-same-length-4 Inv-loop μ-loop
-same-length-4 c = c .before .before .before .before .mark-waiting2 .kept .1 .1 .0 ∙ c .before .before .before .before .before .before .before .loop .inv .1
-
-returns-4 : tie.Need-returns-4 Inv-loop μ-loop
-returns-4 c =
-    let at = c .before .before .before .before .before .before .before .loop in
-    sym
-    (behind-failed _ _ _ _ _ _ (c .before .before .before .before .mark-waiting2 .ensures) (at .whole) (at .steps) (at .frame) (above noFrame (at .stack) (at .depth)) (c .enum-told6 .given .1))
-    ∙ at .inv .0
+returns-7 : tie.Need-returns-7 Inv-loop μ-loop
+returns-7 c = sym (behind-spent _ _ _ _ _ _ _ _ (omega (arith, c .loop-test .left))) ∙ c .before .loop .inv .0
 
 pub walk-below-spec : {M : Type 1} → statement M
 walk-below-spec =
@@ -408,6 +406,9 @@ walk-below-spec =
     enum-told
     same-length
     returns
+    reads-requires
+    same-length-2
+    returns-2
     shared-slice-read-next-step
     next-step-requires
     enum-known-at
@@ -419,8 +420,8 @@ walk-below-spec =
     loop-less-2
     loop-again-2
     enum-told-2
-    same-length-2
-    returns-2
+    same-length-3
+    returns-3
     ended-requires-2
     mul-waiting
     array-set-from-waiting
@@ -438,31 +439,27 @@ walk-below-spec =
     loop-less-4
     loop-again-4
     enum-known-child-2
-    add-if3
-    loop-less-5
-    loop-again-5
+    add-if4
+    same-length-4
+    returns-4
     mul-stack
     array-set-from-stack
     add-depth
     cast-enter
     enter-requires-2
-    loop-less-6
-    loop-again-6
+    loop-less-5
+    loop-again-5
     enum-told-3
-    loop-less-7
-    loop-again-7
+    finish-requires
+    same-length-5
+    returns-5
     sub-depth
     mul-frame
     array-copy-out-frame
-    loop-less-8
-    loop-again-8
+    loop-less-6
+    loop-again-6
     enum-told-4
-    loop-less-9
-    loop-again-9
-    mark-waiting-requires-2
-    enum-told-5
-    enum-told-6
-    same-length-3
-    returns-3
-    same-length-4
-    returns-4)
+    same-length-6
+    returns-6
+    same-length-7
+    returns-7)

@@ -1,0 +1,194 @@
+//! Question 14: where it refuses a search, against a plain walk with the same budgets; and that no damage makes a search slow.
+use std::time::{Duration, Instant};
+use vetchdawn_tests::calls;
+use vetchdawn_tests::random::Random;
+use vetchdawn_tests::stores::{damage, filled, scramble, small_settings};
+use vetchdawn_tests::tables::{lengths, Settings, Tables, SETTINGS};
+use vetchdawn_tests::walks::met;
+
+/// Tables of zeros, opened; reader 0 is open to all classes.
+fn opened(s: &Settings) -> Tables {
+    let [nodes, pages, sketches, working] = lengths(s.m, s.q, s.pages, s.nodes);
+    let mut t = Tables {
+        settings: vec![0; SETTINGS],
+        nodes: vec![0; nodes],
+        pages: vec![0; pages],
+        sketches: vec![0; sketches],
+        working: vec![0; working],
+    };
+    assert_eq!(calls::open(&mut t, s), 0);
+    assert_eq!(calls::join(&mut t, 0, 0), 0);
+    for class in 0..64 {
+        assert_eq!(calls::grant(&mut t, 0, class), 0);
+    }
+    t
+}
+
+fn settings(b: u32, m: u32, q: u32, pages: u32, nodes: u32, threshold: u16) -> Settings {
+    Settings { b, m, q, pages, nodes, thresholds: vec![threshold; 64] }
+}
+
+/// The number and the pages listed, and the time of the best of three.
+fn search(t: &mut Tables, radius: u32, query: &[u8]) -> (u32, Vec<u16>, Duration) {
+    let mut output = vec![0u16; 65_535];
+    let mut best = Duration::MAX;
+    let mut given = None;
+    for _ in 0..3 {
+        let start = Instant::now();
+        let found = calls::search(&mut t.lend(), 0, radius, query, &mut output);
+        best = best.min(start.elapsed());
+        given = Some(found);
+    }
+    let found = given.unwrap();
+    let count = if found.number == 0 { found.value as usize } else { 0 };
+    (found.number, output[..count].to_vec(), best)
+}
+
+/// What the plain walk says that the search gives.
+fn wanted(t: &Tables, s: &Settings, reader: u32, radius: u32, query: &[u8]) -> (u32, Vec<u16>) {
+    let Some(met) = met(t, s, radius, query) else {
+        return (14, vec![]);
+    };
+    let (cap, m) = (s.pages as usize, s.m as usize);
+    let hit = |&p: &usize| {
+        met[p]
+            && t.pages[p] == 1
+            && t.opens(reader, t.pages[cap + p])
+            && t.sketches[p * m..p * m + m].iter().zip(query).filter(|(a, b)| a != b).count() <= radius as usize
+    };
+    (0, (0..cap).filter(hit).map(|p| p as u16).collect())
+}
+
+#[test]
+fn as_a_plain_walk_has_it() {
+    let mut random = Random::new(71);
+    let mut numbers = [0u32; 16];
+    for round in 0..4_000 {
+        let s = small_settings(&mut random);
+        let (mut t, _, sketches) = filled(&mut random, &s, 40);
+        if round % 4 == 0 {
+            scramble(&mut random, &mut t, &s);
+        } else {
+            damage(&mut random, &mut t, &s);
+        }
+        for _ in 0..8 {
+            let (reader, radius, query) = (random.below(4) as u32, random.below(65) as u32, sketches.near(&mut random, 5));
+            let (number, list) = wanted(&t, &s, reader, radius, &query);
+            let mut output = vec![0u16; s.pages as usize];
+            let given = calls::search(&mut t.lend(), reader, radius, &query, &mut output);
+            assert_eq!((given.number, &output[..given.value as usize]), (number, &list[..]), "{s:?}");
+            numbers[number as usize] += 1;
+        }
+    }
+    assert!(numbers[0] > 1_000 && numbers[14] > 1_000, "{numbers:?}");
+}
+
+/// Node x of a chain: its link, byte, state and the link of all its heads.
+fn put(t: &mut Tables, cap: usize, x: usize, link: usize, byte: usize, state: u32, head: usize) {
+    t.nodes[x] = (link + (byte << 19)) as u32;
+    t.nodes[cap + x] = state;
+    t.nodes[2 * cap + 8 * x..2 * cap + 8 * x + 8].fill(0);
+    t.nodes[2 * cap + 8 * x] = head as u32;
+}
+
+/// A root over chains of `k` inner nodes, the nodes of each sharing the next chain; the last chain has leaves.
+fn shared_chains(s: &Settings, levels: usize) -> Tables {
+    let mut t = opened(s);
+    let cap = s.nodes as usize;
+    let k = (cap - 1) / levels;
+    put(&mut t, cap, 0, 0, 0, 1, 2);
+    for level in 0..levels {
+        let first = 1 + level * k;
+        for i in 0..k {
+            let (x, last) = (first + i, level + 1 == levels);
+            let (state, head) = if last { (2, 0) } else { (1, first + k + 1) };
+            put(&mut t, cap, x, if i + 1 < k { x + 2 } else { 0 }, 0, state, head);
+        }
+    }
+    t
+}
+
+/// A chain of leaves whose last leads back to its first.
+fn cycle(s: &Settings) -> Tables {
+    let mut t = shared_chains(s, 1);
+    let cap = s.nodes as usize;
+    put(&mut t, cap, cap - 1, 2, 0, 2, 0);
+    t
+}
+
+/// Children at the edge of the radius, below each of which the query's own byte leads into a chain that leads back to itself.
+fn cycles_below(s: &Settings) -> Tables {
+    let mut t = opened(s);
+    let cap = s.nodes as usize;
+    put(&mut t, cap, 0, 0, 0, 1, 2);
+    for x in 1..cap - 1 {
+        put(&mut t, cap, x, if x + 2 < cap { x + 2 } else { 0 }, 1, 1, cap);
+    }
+    // the query's next byte is 1, this one's is 0: the descent goes on along the chain
+    put(&mut t, cap, cap - 1, cap, 0, 2, 0);
+    t
+}
+
+/// Two words of a sound store changed: a child of the first root, at the edge of the radius, follows itself and is its own child.
+/// Gives the query too.
+fn two_words(t: &mut Tables, s: &Settings) -> Vec<u8> {
+    let cap = s.nodes as usize;
+    let head = t.nodes[2 * cap] as usize;
+    let x = head - 1;
+    assert_eq!(t.nodes[cap + x], 1, "a child that is inner");
+    let byte = t.nodes[x] >> 19;
+    let y = byte as u8 ^ 1; // one symbol differs
+    t.nodes[x] = (head as u32) | byte << 19;
+    t.nodes[2 * cap + 8 * x + 7] = head as u32;
+    // the query: its first byte is at distance 1 from the child's, its second is above it and in the last chain
+    let symbols = |v: u8| [v & 15, v >> 4];
+    let mut query = vec![0u8; s.m as usize];
+    query[..2].copy_from_slice(&symbols(y));
+    query[2..4].copy_from_slice(&symbols(0xff));
+    query
+}
+
+fn full_store(s: &Settings, random: &mut Random) -> Tables {
+    let mut t = opened(s);
+    for page in 0..s.pages {
+        let x = random.bytes(s.m as usize, 1 << s.b);
+        assert_eq!(calls::add(&mut t.lend(), page, page % 64, &x), 0);
+    }
+    t
+}
+
+#[test]
+fn no_damage_makes_it_slow() {
+    let mut random = Random::new(72);
+    // the slowest search of a sound store of full capacity: every page is met in every block, and listed
+    let s = settings(4, 32, 4, 65_535, 262_144, 32);
+    let mut t = full_store(&s, &mut random);
+    let (number, list, sound) = search(&mut t, 64, &[0; 32]);
+    assert_eq!((number, list.len()), (0, 65_535));
+    println!("a sound store of 65,535 pages, all listed: {:.2} ms", sound.as_secs_f64() * 1e3);
+
+    let mut slowest = Duration::ZERO;
+    let mut report = |name: &str, nodes: u32, t: &mut Tables, s: &Settings, radius: u32, query: &[u8]| {
+        let (number, list, time) = search(t, radius, query);
+        assert_eq!((number, list), wanted(t, s, 0, radius, query), "{name}");
+        println!("{name}, {nodes} nodes: {number} in {:.3} ms", time.as_secs_f64() * 1e3);
+        assert_eq!(number, 14, "{name}");
+        slowest = slowest.max(time);
+    };
+    for nodes in [64, 8_192, 65_536, 262_144] {
+        let s = settings(8, 4, 1, 100, nodes, 1);
+        // within radius 1 of byte 0 are the nodes of byte 0; radius 1 left for each chain in turn
+        report("two shared chains", nodes, &mut shared_chains(&s, 2), &s, 1, &[0, 0, 0, 0]);
+        report("three shared chains", nodes, &mut shared_chains(&s, 3), &s, 1, &[0, 0, 0, 0]);
+        // at the edge: exact descents into a shared chain
+        report("exact descents into a shared chain", nodes, &mut shared_chains(&s, 2), &s, 1, &[7, 9, 0, 0]);
+        report("a cycle", nodes, &mut cycle(&s), &s, 1, &[0, 0, 0, 0]);
+        report("cycles below exact descents", nodes, &mut cycles_below(&s), &s, 1, &[0, 1, 0, 0]);
+        report("a cycle in an exact descent", nodes, &mut cycle(&s), &s, 0, &[9, 0, 0, 0]);
+    }
+    let s = settings(4, 32, 2, 65_535, 262_144, 32);
+    let mut t = full_store(&s, &mut random);
+    let query = two_words(&mut t, &s);
+    report("two words of a sound store", 262_144, &mut t, &s, 2, &query);
+    assert!(slowest < 4 * sound + Duration::from_millis(20), "{slowest:?}, {sound:?}");
+}
