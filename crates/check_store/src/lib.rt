@@ -10,7 +10,7 @@ ghost use Rattle.check_store.specs.Store.{testStore};
 ghost use Rattle.store.specs.Calls.{CheckPromise};
 use layout::Header;
 use layout::Opening;
-use trie_check::leaf::Left;
+use node_check::leaf::Left;
 
 mod free;
 mod pages;

@@ -1,0 +1,15 @@
+use borrow.Author.Needs.{needs}
+use Rattle.trie_check.proofs.test.past_leaf.Statement.{statement}
+use Rattle.trie_check.proofs.test.past_leaf.Tie as tie
+
+past-child-requires : tie.Need-past-child-requires
+past-child-requires c κs = search needs
+
+sub-t6 : tie.Need-sub-t6
+sub-t6 c = search needs
+
+returns : tie.Need-returns
+returns c = cc
+
+pub past-leaf-spec : {M : Type 1} → statement M
+past-leaf-spec = tie.close (tie.spec past-child-requires sub-t6 returns)
