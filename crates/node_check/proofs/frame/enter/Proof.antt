@@ -18,7 +18,7 @@ shared-slice-read-t8 c = search needs
 
 returns : tie.Need-returns
 unfolding entered
-returns c = cc
+returns c = rw (← c .before .head-at .ensures)
 
 pub enter-spec : {M : Type 1} → statement M
 enter-spec = tie.close (tie.spec cast-t4 head-at-requires mul-t6 shared-slice-read-t8 returns)
