@@ -91,9 +91,7 @@ fn test_below(
                 place.depth = depth;
                 place.frame = stack[depth];
             }
-            Move::Failed => {
-                return Left::Failed;
-            }
+            Move::Failed => return Left::Failed,
         }
     }
     Left::Failed
