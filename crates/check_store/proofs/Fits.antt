@@ -18,8 +18,9 @@ use Rattle.sketch.proofs.BlockEnds.{block-ends}
 use Rattle.trie.specs.declared.Rows.{Rows}
 use Rattle.trie_room.specs.RowBytes.{rowsOf}
 use Rattle.trie_room.proofs.RowBytes.{rows-table}
-use Rattle.trie_check.specs.declared.mark.Window.{Window}
-use Rattle.trie_check.specs.Trie.{given, Fitting, testTrie}
+use Rattle.node_check.specs.declared.mark.Window.{Window}
+use Rattle.trie_visit.specs.Visit.{given, Fitting}
+use Rattle.trie_check.specs.Trie.{testTrie}
 use Rattle.check_store.specs.Lent.{Lent}
 use Rattle.check_store.specs.Windows.{blockGiven}
 

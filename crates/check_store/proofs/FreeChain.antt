@@ -12,8 +12,8 @@ use Rattle.layout.specs.Nodes.{stateAt, freeState}
 use Rattle.trie.specs.Heap.{Holds}
 use Rattle.trie.specs.Phys.{first, freeCells, Below}
 use Rattle.meaning.proofs.Lists.{and-first, and-second}
-use Rattle.trie_check.specs.declared.leaf.Left.the-variants.{Some, Failed}
-use Rattle.trie_check.specs.Leaf.{bare}
+use Rattle.node_check.specs.declared.leaf.Left.the-variants.{Some, Failed}
+use Rattle.node_check.specs.Leaf.{bare}
 use Rattle.trie_check_laws.proofs.RightTests.{refused, passed}
 use Rattle.trie_check_laws.proofs.RightLeaf.{bare-holds}
 use Rattle.trie_check_laws.proofs.WholeLeaf.{held-bare}

@@ -9,9 +9,9 @@ use borrow.Author.Tests.{eq-eqb, ne-eqb, lt-ltb, le-ltb, not-true, not-false}
 use lib.Dec.{ltb}
 use lib.ListN.{getD}
 use Rattle.layout.specs.Nodes.{stateAt}
-use Rattle.trie_check.specs.declared.leaf.Left.{Left}
-use Rattle.trie_check.specs.declared.leaf.Left.the-variants.{Some, Failed}
-use Rattle.trie_check.specs.Leaf.{bare}
+use Rattle.node_check.specs.declared.leaf.Left.{Left}
+use Rattle.node_check.specs.declared.leaf.Left.the-variants.{Some, Failed}
+use Rattle.node_check.specs.Leaf.{bare}
 use Rattle.check_store.specs.Free.{isFree, freeFrom}
 
 -- ---- a node

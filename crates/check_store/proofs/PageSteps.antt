@@ -10,8 +10,8 @@ use mir.Val.{boolByte}
 use Rattle.meaning.specs.Sketch.{inRange}
 use Rattle.meaning.specs.Ledger.{Settings}
 use Rattle.layout.specs.Pages.{isLive, classOf, rowOf}
-use Rattle.trie_check.specs.declared.leaf.Left.{Left}
-use Rattle.trie_check.specs.declared.leaf.Left.the-variants.{Some, Failed}
+use Rattle.node_check.specs.declared.leaf.Left.{Left}
+use Rattle.node_check.specs.declared.leaf.Left.the-variants.{Some, Failed}
 use Rattle.check_store.specs.Pages.{pageFits, countFrom, testPages}
 
 -- ---- a page

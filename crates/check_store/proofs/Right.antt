@@ -25,8 +25,8 @@ use Rattle.trie_laws.proofs.Walk.{walk-sound}
 use Rattle.trie_laws.proofs.Agree.{sound-agree}
 use Rattle.trie_room.specs.RowBytes.{rowBytes}
 use Rattle.trie_room.proofs.RowBytes.{row-same}
-use Rattle.trie_check.specs.declared.leaf.Left.{Left}
-use Rattle.trie_check.specs.declared.leaf.Left.the-variants.{Some, Failed}
+use Rattle.node_check.specs.declared.leaf.Left.{Left}
+use Rattle.node_check.specs.declared.leaf.Left.the-variants.{Some, Failed}
 use Rattle.trie_check_laws.proofs.Once.{pages-stand}
 use Rattle.trie_check_laws.proofs.Once.{pages-once as page-once}
 use Rattle.promises.specs.Tables.{Tables, given, pageClass, pageRow}

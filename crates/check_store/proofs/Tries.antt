@@ -21,10 +21,11 @@ use Rattle.meaning.specs.Trie.{pagesIn}
 use Rattle.trie_laws.specs.Walk.{soundWalk}
 use Rattle.trie_room.specs.RowBytes.{rowBytes, rowsOf}
 use Rattle.trie_room.proofs.RowBytes.{level-byte}
-use Rattle.trie_check.specs.declared.leaf.Left.{Left}
-use Rattle.trie_check.specs.declared.leaf.Left.the-variants.{Some, Failed}
-use Rattle.trie_check.specs.declared.mark.Window.{Window}
-use Rattle.trie_check.specs.Trie.{Given, tested, testTrie}
+use Rattle.node_check.specs.declared.leaf.Left.{Left}
+use Rattle.node_check.specs.declared.leaf.Left.the-variants.{Some, Failed}
+use Rattle.node_check.specs.declared.mark.Window.{Window}
+use Rattle.trie_visit.specs.Visit.{Given}
+use Rattle.trie_check.specs.Trie.{tested, testTrie}
 use Rattle.trie_check_laws.specs.Uses.{uses}
 use Rattle.trie_check_laws.specs.Found.{Reads, Found, Marked, one}
 use Rattle.trie_check_laws.proofs.RightTrie.{test-right}

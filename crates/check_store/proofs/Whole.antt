@@ -28,7 +28,7 @@ use Rattle.trie_laws.proofs.Walk.{walk-sound}
 use Rattle.trie_laws.proofs.Agree.{sound-agree}
 use Rattle.trie_room.specs.RowBytes.{rowBytes}
 use Rattle.trie_room.proofs.RowBytes.{row-same}
-use Rattle.trie_check.specs.declared.leaf.Left.the-variants.{Some}
+use Rattle.node_check.specs.declared.leaf.Left.the-variants.{Some}
 use Rattle.promises.specs.Tables.{Tables, given, pageClass, pageRow}
 use Rattle.store.specs.Sound.{triesCells, Rooted, livePage, pageBytes, Sound}
 use Rattle.check_store.specs.Lent.{Lent}

@@ -10,9 +10,10 @@ use lib.Dec.{ltb, eqb}
 use lib.ListN.{length}
 use Rattle.meaning.specs.Ledger.{Settings}
 use Rattle.words.specs.Bits.{zeroed}
-use Rattle.trie_check.specs.declared.leaf.Left.{Left}
-use Rattle.trie_check.specs.declared.leaf.Left.the-variants.{Some, Failed}
-use Rattle.trie_check.specs.Trie.{Given, tested, testTrie}
+use Rattle.node_check.specs.declared.leaf.Left.{Left}
+use Rattle.node_check.specs.declared.leaf.Left.the-variants.{Some, Failed}
+use Rattle.trie_visit.specs.Visit.{Given}
+use Rattle.trie_check.specs.Trie.{tested, testTrie}
 use Rattle.check_store.specs.Windows.{Passed, passed, onTested, onYes, windowAt, blocksFrom, blockGiven, testWindow, windowsFrom, testWindows}
 
 -- ---- the blocks

@@ -6,8 +6,8 @@ use lib.Dec.{ltb}
 use Rattle.meaning.specs.Sketch.{inRange}
 use Rattle.meaning.specs.Ledger.{Settings}
 use Rattle.layout.specs.Pages.{isLive, classOf, rowOf}
-use Rattle.trie_check.specs.declared.leaf.Left.{Left}
-use Rattle.trie_check.specs.declared.leaf.Left.the-variants.{Some, Failed}
+use Rattle.node_check.specs.declared.leaf.Left.{Left}
+use Rattle.node_check.specs.declared.leaf.Left.the-variants.{Some, Failed}
 
 -- page p is not live, or has a class below 64 and symbols below 2^b
 unfoldable pub pageFits : Settings → List ℕ → List ℕ → ℕ → Bool

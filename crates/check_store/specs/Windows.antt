@@ -9,10 +9,11 @@ use Rattle.words.specs.Bits.{zeroed}
 use Rattle.layout.specs.Pages.{nextAt}
 use Rattle.trie.specs.declared.Block.{Block}
 use Rattle.trie_room.specs.RowBytes.{rowsOf}
-use Rattle.trie_check.specs.declared.leaf.Left.{Left}
-use Rattle.trie_check.specs.declared.leaf.Left.the-variants.{Some, Failed}
-use Rattle.trie_check.specs.declared.mark.Window.{Window}
-use Rattle.trie_check.specs.Trie.{Given, given, Tested, testTrie}
+use Rattle.node_check.specs.declared.leaf.Left.{Left}
+use Rattle.node_check.specs.declared.leaf.Left.the-variants.{Some, Failed}
+use Rattle.node_check.specs.declared.mark.Window.{Window}
+use Rattle.trie_visit.specs.Visit.{Given, given}
+use Rattle.trie_check.specs.Trie.{Tested, testTrie}
 
 -- where the trie of block j lies
 abbrev pub blockOf : Settings → ℕ → Block

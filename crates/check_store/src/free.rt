@@ -3,7 +3,7 @@ ghost use mathlib.Core.Path.{_≡_};
 ghost use Prim.Native.Nat.{_<_};
 ghost use Rattle.trie.specs.Tables.{NodeTable};
 ghost use Rattle.check_store.specs.Free.{isFree, testFree};
-use trie_check::leaf::Left;
+use node_check::leaf::Left;
 
 fn is_free(nodes: &[u32], cap: usize, x: usize) -> bool
     requires { ⌜ NodeTable cap (now nodes) ⌝ }
@@ -13,7 +13,7 @@ fn is_free(nodes: &[u32], cap: usize, x: usize) -> bool
     if nodes[layout::nodes::state_at(cap, x)] != 0 {
         return false;
     }
-    trie_check::leaf::is_bare(nodes, cap, x)
+    node_check::leaf::is_bare(nodes, cap, x)
 }
 
 // How many nodes are not free, where all on the chain are.

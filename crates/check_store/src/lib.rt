@@ -11,7 +11,7 @@ ghost use Rattle.check_store.specs.Store.{testStore};
 ghost use Rattle.store.specs.Relation.{withVerdict, Promised};
 use layout::Header;
 use layout::Opening;
-use trie_check::leaf::Left;
+use node_check::leaf::Left;
 
 mod free;
 mod pages;

@@ -7,7 +7,7 @@ ghost use Rattle.layout.specs.Limits.{HeaderLimits};
 ghost use Rattle.layout.specs.Lengths.{pagesLength, sketchesLength};
 ghost use Rattle.check_store.specs.Pages.{pageFits, testPages};
 use layout::Header;
-use trie_check::leaf::Left;
+use node_check::leaf::Left;
 
 const CLASSES: u32 = 64;
 

@@ -8,11 +8,12 @@ ghost use Rattle.trie_check.specs.Trie.{tested, testTrie};
 ghost use Rattle.check_store.specs.Lent.{Lent};
 ghost use Rattle.check_store.specs.Windows.{passed, blocksFrom, blockGiven, testWindow, testWindows};
 use layout::Header;
+use node_check::leaf::Left;
+use node_check::mark::Window;
 use trie::Block;
-use trie_check::leaf::Left;
-use trie_check::mark::Window;
 use trie_check::test::test_trie;
 use trie_room::rows::rows_of;
+use trie_visit::Scope;
 
 // How many passes reach all nodes.
 const WINDOWS: usize = 8;
@@ -39,19 +40,12 @@ fn test_block(
         pages: h.pages,
         base: layout::pages::next_at(h.pages, j),
     };
-    let rows = rows_of(h, j);
-    test_trie(
-        nodes,
-        pages,
-        sketches,
-        map,
+    let scope = Scope {
         block,
-        rows,
+        rows: rows_of(h, j),
         window,
-        j,
-        left,
-        live,
-    )
+    };
+    test_trie(nodes, pages, sketches, map, scope, j, left, live)
 }
 
 // The tries of all blocks: `budget` nodes together, each with `live` pages.

@@ -12,13 +12,14 @@ use Rattle.layout.specs.Pages.{isLive}
 use Rattle.trie.specs.declared.Block.{Block}
 use Rattle.trie.specs.declared.Rows.{Rows}
 use Rattle.trie.specs.Model.{rowByte, pageByte, levelAt}
-use Rattle.trie_check.specs.declared.leaf.Left.{Left}
-use Rattle.trie_check.specs.declared.leaf.Left.the-variants.{Some, Failed}
-use Rattle.trie_check.specs.declared.mark.Window.{Window}
-use Rattle.trie_check.specs.Mark.{markOnce}
-use Rattle.trie_check.specs.Leaf.{bare, kindOf, onPath, testLeaf}
-use Rattle.trie_check.specs.Frame.{entered, stepAlong, stepIn}
-use Rattle.trie_check.specs.Trie.{given, Fitting, visitChild, visit, leftIf, run, testBelow, testTrie}
+use Rattle.node_check.specs.declared.leaf.Left.{Left}
+use Rattle.node_check.specs.declared.leaf.Left.the-variants.{Some, Failed}
+use Rattle.node_check.specs.declared.mark.Window.{Window}
+use Rattle.node_check.specs.Mark.{markOnce}
+use Rattle.node_check.specs.Leaf.{bare, kindOf, onPath, testLeaf}
+use Rattle.node_check.specs.Frame.{entered, stepAlong, stepIn}
+use Rattle.trie_visit.specs.Visit.{given, Fitting, visitChild, visit}
+use Rattle.trie_check.specs.Trie.{leftIf, run, testBelow, testTrie}
 
 -- three symbols of 8 bits, a byte each; 6 nodes, 3 pages
 block : Block

@@ -1,6 +1,3 @@
-pub mod LeafSteps
-pub mod Steps
-pub mod Visits
 pub mod Stack
 pub mod Turns
 pub mod Example

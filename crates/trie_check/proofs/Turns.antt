@@ -1,27 +1,26 @@
 -- The turns of the test, by where a visit leads.
 use Prim.Native.Nat.{ℕ, _+_, _*_, _-_, _<_}
 use native.Mathlib.Omega.{arith}
-use mathlib.Core.Path.{_≡_, refl, sym, ap, ap₂, _∙_, subst}
+use mathlib.Core.Path.{_≡_, refl, sym, ap, _∙_}
 use mathlib.Core.Bool.{Bool, true, false, cond}
 use mathlib.Core.List.{List, [], _∷_}
-use lib.Dec.{ltb, eqb}
-use lib.ListN.{length, replicate, set}
-use borrow.Author.Tests.{ltb-true, eq-eqb, ne-eqb, eqb-false}
-use Rattle.meaning.proofs.Stacks.{suc-pred, length-none, above}
-use Rattle.trie_check.specs.declared.frame.Frame.{Frame}
-use Rattle.trie_check.specs.declared.frame.Step.{Step}
-use Rattle.trie_check.specs.declared.frame.Step.the-variants as step
-use Rattle.trie_check.specs.declared.leaf.Kind.{Kind}
-use Rattle.trie_check.specs.declared.leaf.Kind.the-variants as kind
-use Rattle.trie_check.specs.declared.leaf.Left.{Left}
-use Rattle.trie_check.specs.declared.leaf.Left.the-variants as budget
-use Rattle.trie_check.specs.declared.test.Move.{Move}
-use Rattle.trie_check.specs.declared.test.Move.the-variants as move
-use Rattle.trie_check.specs.Mark.{Noted, noted, markOnce}
-use Rattle.trie_check.specs.Leaf.{kindOf}
-use Rattle.trie_check.specs.Frame.{entered, pastChild, nextChain, stepIn}
-use Rattle.trie_check.specs.Trie.{Given, Fitting, pastLeaf, leafLeft, childMove, visitChild, Visited, visited, visitStep, visit, state, Tested, tested, leftIf, leftLeaf, follow, run, testBelow, testKind, testTrie}
-use Rattle.trie_check.proofs.Steps.{chain-within, child-within}
+use lib.Dec.{eqb}
+use lib.ListN.{length, getD, replicate, set}
+use borrow.Author.Tests.{eq-eqb, ne-eqb}
+use Rattle.meaning.proofs.Stacks.{suc-pred, length-none, above, above-length, above-put, above-take}
+use Rattle.node_check.specs.declared.frame.Frame.{Frame}
+use Rattle.node_check.specs.declared.leaf.Kind.{Kind}
+use Rattle.node_check.specs.declared.leaf.Kind.the-variants as kind
+use Rattle.node_check.specs.declared.leaf.Left.{Left}
+use Rattle.node_check.specs.declared.leaf.Left.the-variants as budget
+use Rattle.trie_visit.specs.declared.Place.{Place}
+use Rattle.trie_visit.specs.declared.Move.{Move}
+use Rattle.trie_visit.specs.declared.Move.the-variants as move
+use Rattle.node_check.specs.Mark.{Noted, noted, markOnce}
+use Rattle.node_check.specs.Leaf.{kindOf}
+use Rattle.node_check.specs.Frame.{entered, pastChild, nextChain}
+use Rattle.trie_visit.specs.Visit.{Given, Fitting, leafLeft, Visited, visited, visit, placed}
+use Rattle.trie_check.specs.Trie.{State, state, Tested, tested, leftIf, leftLeaf, follow, run, testBelow, testKind, testTrie}
 use Rattle.trie_check.proofs.Stack.{noFrame}
 
 pub fitting-kept : (w : Given) (map after : List ℕ) → length after ≡ length map → Fitting w map → Fitting w after
@@ -37,133 +36,76 @@ fitting-kept w map after e h = record {
   bitmap = omega (arith, h .bitmap);
 }
 
-module _ (w : Given) (f : ℕ) (map path : List ℕ) (left pages : ℕ) (frame : Frame) (stack : List Frame) where
-  pub run-spent : f ≡ 0 → run w f (state map path left pages frame stack) ≡ tested map budget.Failed
+-- the machine at a place, with the frames of the nodes above in an array
+abbrev stateAt : List ℕ → List ℕ → Place → List Frame → State
+stateAt map path at array = state map path (at .left) (at .pages) (at .frame) (above noFrame array (at .depth))
+
+abbrev pub runAt : Given → ℕ → List ℕ → List ℕ → Place → List Frame → Tested
+runAt w f map path at array = run w f (stateAt map path at array)
+
+module _ (w : Given) (f : ℕ) (map path : List ℕ) (at : Place) (array : List Frame) where
+  pub run-spent : f ≡ 0 → runAt w f map path at array ≡ tested map budget.Failed
   unfolding run
   run-spent e = rw e refl
 
-  module _ (some : 0 < f) (depth : ℕ) (level : length stack ≡ depth) (after path′ : List ℕ) (found : Move)
-      (e : visited after path′ found ≡ visit w map path depth frame left pages) where
+  module _ (some : 0 < f) (after path′ : List ℕ) (found : Move)
+      (e : visited after path′ found ≡ visit w map path (at .depth) (at .frame) (at .left) (at .pages)) where
     run-by : (m : Move) → found ≡ m
-        → run w f (state map path left pages frame stack)
-        ≡ follow w (run w (f - 1)) (state map path left pages frame stack) (visited after path′ m) m
+        → runAt w f map path at array ≡ follow w (run w (f - 1)) (stateAt map path at array) (visited after path′ m) m
     unfolding run
     run-by m q =
-        ap (λ n. run w n (state map path left pages frame stack)) (suc-pred f some)
-        ∙ ap (λ n. turned (visit w map path n frame left pages)) level
+        ap (λ n. run w n (stateAt map path at array)) (suc-pred f some)
+        ∙ ap (λ n. turned (visit w map path n (at .frame) (at .left) (at .pages))) (above-length noFrame array (at .depth))
         ∙ ap turned (sym e)
         ∙ ap (λ t. turned (visited after path′ t)) q
       where
         turned : Visited → Tested
-        turned v = follow w (run w (f - 1)) (state map path left pages frame stack) v (v .move)
+        turned v = follow w (run w (f - 1)) (stateAt map path at array) v (v .move)
 
-    pub run-chain : (link : ℕ) → found ≡ move.Chain link
-        → run w f (state map path left pages frame stack) ≡ run w (f - 1) (state after path′ left pages (nextChain frame link) stack)
-    run-chain link q = run-by (move.Chain link) q
+    pub run-chain : (link : ℕ) (frame : Frame) → found ≡ move.Chain link → frame ≡ nextChain (at .frame) link
+        → runAt w f map path at array ≡ runAt w (f - 1) after path′ (placed (at .depth) frame (at .left) (at .pages)) array
+    run-chain link frame q g =
+        run-by (move.Chain link) q ∙ ap (λ x. runAt w (f - 1) after path′ (placed (at .depth) x (at .left) (at .pages)) array) (sym g)
 
-    pub run-past : (byte link n : ℕ) → found ≡ move.Past byte link n
-        → run w f (state map path left pages frame stack) ≡ run w (f - 1) (state after path′ (left - 1) n (pastChild frame byte link) stack)
-    run-past byte link n q = run-by (move.Past byte link n) q
+    pub run-past : (byte link n : ℕ) (next : Place) → found ≡ move.Past byte link n
+        → next ≡ placed (at .depth) (pastChild (at .frame) byte link) (at .left - 1) n
+        → runAt w f map path at array ≡ runAt w (f - 1) after path′ next array
+    run-past byte link n next q g = run-by (move.Past byte link n) q ∙ ap (λ p. runAt w (f - 1) after path′ p array) (sym g)
 
-    pub run-down : (x byte link : ℕ) (below : Frame) (stack′ : List Frame) → found ≡ move.Down x byte link
-        → below ≡ entered (w .nodes) (w .block .nodes) x → stack′ ≡ pastChild frame byte link ∷ stack
-        → run w f (state map path left pages frame stack) ≡ run w (f - 1) (state after path′ (left - 1) pages below stack′)
-    run-down x byte link below stack′ q b s =
-        run-by (move.Down x byte link) q ∙ ap₂ (λ g fs. run w (f - 1) (state after path′ (left - 1) pages g fs)) (sym b) (sym s)
+    pub run-down : (x byte link : ℕ) (rest : Frame) (next : Place) → found ≡ move.Down x byte link → rest ≡ pastChild (at .frame) byte link
+        → next ≡ placed (at .depth + 1) (entered (w .nodes) (w .block .nodes) x) (at .left - 1) (at .pages) → at .depth < length array
+        → runAt w f map path at array ≡ runAt w (f - 1) after path′ next (set array (at .depth) rest)
+    run-down x byte link rest next q r g l =
+        run-by (move.Down x byte link) q
+        ∙ ap (λ fs. run w (f - 1) (state after path′ (at .left - 1) (at .pages) (entered (w .nodes) (w .block .nodes) x) fs))
+        (ap (λ t. t ∷ above noFrame array (at .depth)) (sym r) ∙ sym (above-put noFrame array (at .depth) rest l))
+        ∙ ap (λ p. runAt w (f - 1) after path′ p (set array (at .depth) rest)) (sym g)
 
-    pub run-up : (back : Frame) (stack′ : List Frame) → found ≡ move.Up → stack ≡ back ∷ stack′
-        → run w f (state map path left pages frame stack) ≡ run w (f - 1) (state after path′ left pages back stack′)
-    run-up back stack′ q s =
+    pub run-up : found ≡ move.Up → 0 < at .depth
+        → runAt w f map path at array
+        ≡ runAt w (f - 1) after path′ (placed (at .depth - 1) (getD array (at .depth - 1) noFrame) (at .left) (at .pages)) array
+    run-up q l =
         run-by move.Up q
-        ∙ ap (λ fs. follow w (run w (f - 1)) (state map path left pages frame fs) (visited after path′ move.Up) move.Up) s
+        ∙ ap (λ fs. follow w (run w (f - 1)) (state map path (at .left) (at .pages) (at .frame) fs) (visited after path′ move.Up) move.Up)
+        (above-take noFrame array (at .depth) l)
 
-    pub run-done : (answer : Left) → found ≡ move.Up → depth ≡ 0 → answer ≡ leftIf left (eqb pages 0)
-        → run w f (state map path left pages frame stack) ≡ tested after answer
+    pub run-done : (answer : Left) → found ≡ move.Up → at .depth ≡ 0 → answer ≡ leftIf (at .left) (eqb (at .pages) 0)
+        → runAt w f map path at array ≡ tested after answer
     run-done answer q z a =
         run-by move.Up q
-        ∙ ap (λ fs. follow w (run w (f - 1)) (state map path left pages frame fs) (visited after path′ move.Up) move.Up)
-        (length-none stack (level ∙ z))
+        ∙ ap (λ fs. follow w (run w (f - 1)) (state map path (at .left) (at .pages) (at .frame) fs) (visited after path′ move.Up) move.Up)
+        (length-none (above noFrame array (at .depth)) (above-length noFrame array (at .depth) ∙ z))
         ∙ ap (tested after) (sym a)
 
-    pub run-failed : found ≡ move.Failed → run w f (state map path left pages frame stack) ≡ tested after budget.Failed
+    pub run-failed : found ≡ move.Failed → runAt w f map path at array ≡ tested after budget.Failed
     run-failed q = run-by move.Failed q
 
-pub run-start : (w : Given) (root : ℕ) (map : List ℕ) (left pages : ℕ) (frame : Frame) (stack : List Frame)
+pub run-start : (w : Given) (root : ℕ) (map : List ℕ) (left pages : ℕ) (frame : Frame) (array : List Frame)
     → frame ≡ entered (w .nodes) (w .block .nodes) root
-    → run w (10 * (w .block .nodes + 1)) (state map (replicate 64 0) left pages frame (above noFrame stack 0)) ≡ testBelow w root map left pages
+    → runAt w (10 * (w .block .nodes + 1)) map (replicate 64 0) (placed 0 frame left pages) array ≡ testBelow w root map left pages
 unfolding testBelow above
-run-start w root map left pages frame stack e =
+run-start w root map left pages frame array e =
     ap (λ f. run w (10 * (w .block .nodes + 1)) (state map (replicate 64 0) left pages f [])) e
-
--- a visit leads to a chain of the eight, or past a byte while nodes are left, or to a node of the table above the last level
-abbrev MoveWithin : Given → ℕ → ℕ → Frame → Move → Type 0
-MoveWithin w left k frame (move.Chain link) = frame .group < 7
-MoveWithin w left k frame (move.Past byte link n) = (0 < left) × (byte < 256)
-MoveWithin w left k frame (move.Down x byte link) = (0 < left) × (byte < 256) × (x < w .block .nodes) × (k + 1 < w .rows .bytes)
-MoveWithin w left k frame move.Up = Unit {0}
-MoveWithin w left k frame move.Failed = Unit {0}
-
-module _ (w : Given) (map path : List ℕ) (k : ℕ) (frame : Frame) (left pages : ℕ) (in-group : frame .group < 8) where
-  child-moves : (x byte link : ℕ) → 0 < left → (x < w .block .nodes) × (byte < 256) → (s : Kind)
-      → MoveWithin w left k frame (childMove w (set path k byte) k x byte link pages s)
-  child-moves x byte link m h kind.Damaged = tt
-  child-moves x byte link m h kind.Inner = go (ltb (k + 1) (w .rows .bytes)) refl
-    where
-      go : (q : Bool) → ltb (k + 1) (w .rows .bytes) ≡ q → MoveWithin w left k frame (cond q (move.Down x byte link) move.Failed)
-      go true f = (m, h .1, h .0, ltb-true (k + 1) (w .rows .bytes) f)
-      go false f = tt
-  child-moves x byte link m h (kind.Leaf first) = go (eqb first 0) (leafLeft w (set path k byte) (k + 1) first pages)
-    where
-      go : (q : Bool) (a : Left) → MoveWithin w left k frame (cond q move.Failed (pastLeaf byte link a))
-      go true a = tt
-      go false (budget.Some n) = (m, h .1)
-      go false budget.Failed = tt
-
-  seen-moves : (x byte link : ℕ) → 0 < left → (x < w .block .nodes) × (byte < 256)
-      → MoveWithin w left k frame (visitChild w map (set path k byte) k x byte link pages .move)
-  unfolding visitChild
-  seen-moves x byte link m h =
-      go (markOnce (w .window) map x .fresh) (childMove w (set path k byte) k x byte link pages (kindOf (w .nodes) (w .block .nodes) x))
-      (child-moves x byte link m h (kindOf (w .nodes) (w .block .nodes) x))
-    where
-      go : (q : Bool) (s : Move) → MoveWithin w left k frame s → MoveWithin w left k frame (cond q s move.Failed)
-      go true s i = i
-      go false s i = tt
-
-  step-moves : (s : Step) → stepIn (w .nodes) (w .block .nodes) (w .rows .bits) (w .rows .length) k frame ≡ s
-      → MoveWithin w left k frame (visitStep w map path k left pages s .move)
-  step-moves (step.Chain link) e = chain-within (w .nodes) (w .block .nodes) (w .rows .bits) (w .rows .length) k frame in-group link e
-  step-moves (step.Child x byte link) e = go (eqb left 0) refl
-    where
-      go : (q : Bool) → eqb left 0 ≡ q
-          → MoveWithin w left k frame
-          (cond q (visited map path move.Failed)
-          (visited (visitChild w map (set path k byte) k x byte link pages .map) (set path k byte)
-          (visitChild w map (set path k byte) k x byte link pages .move))
-          .move)
-      go true f = tt
-      go false f =
-          seen-moves x byte link (omega (arith, eqb-false left 0 f))
-          (child-within (w .nodes) (w .block .nodes) (w .rows .bits) (w .rows .length) k frame in-group x byte link e)
-  step-moves step.Up e = tt
-  step-moves step.Broken e = tt
-
-  module _ (after path′ : List ℕ) (found : Move) (e : visited after path′ found ≡ visit w map path k frame left pages) where
-    visit-moves : (m : Move) → found ≡ m → MoveWithin w left k frame m
-    unfolding visit
-    visit-moves m q =
-        subst (MoveWithin w left k frame) (sym (ap (λ v. v .move) e) ∙ q)
-        (step-moves (stepIn (w .nodes) (w .block .nodes) (w .rows .bits) (w .rows .length) k frame) refl)
-
-    pub chain-inside : (link : ℕ) → found ≡ move.Chain link → frame .group < 7
-    chain-inside link q = visit-moves (move.Chain link) q
-
-    pub past-inside : (byte link n : ℕ) → found ≡ move.Past byte link n → (0 < left) × (byte < 256)
-    past-inside byte link n q = visit-moves (move.Past byte link n) q
-
-    pub down-inside : (x byte link : ℕ) → found ≡ move.Down x byte link
-        → (0 < left) × (byte < 256) × (x < w .block .nodes) × (k + 1 < w .rows .bytes)
-    down-inside x byte link q = visit-moves (move.Down x byte link) q
 
 -- ---- from a root
 module _ (w : Given) (root : ℕ) (map : List ℕ) (left pages : ℕ) where

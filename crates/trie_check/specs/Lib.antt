@@ -1,4 +1,1 @@
-pub mod Mark
-pub mod Leaf
-pub mod Frame
 pub mod Trie

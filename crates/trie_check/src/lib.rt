@@ -1,5 +1,2 @@
 // The test of one block's trie: a walk over all its nodes and pages. It says yes exactly where the tables hold a sound trie there.
-pub mod frame;
-pub mod leaf;
-pub mod mark;
 pub mod test;

@@ -1,126 +1,45 @@
 // The walk over one block's trie. It ends on any tables: each step, node and page draws on a budget.
 ghost use mathlib.Core.Path.{_≡_};
-ghost use Prim.Native.Nat.{_<_};
-ghost use lib.ListN.{length};
-ghost use Rattle.trie_check.specs.Trie.{given, Fitting, seen, visitChild, visited, visit, leftIf, tested, testBelow, testTrie};
-use crate::frame::Frame;
-use crate::frame::Step;
-use crate::leaf::Kind;
-use crate::leaf::Left;
-use crate::mark::Window;
-use trie::Block;
-use trie::Rows;
+ghost use Prim.Native.Nat.{_+_, _-_, _<_};
+ghost use Rattle.trie.specs.Tables.{NodeTable};
+ghost use Rattle.node_check.specs.Frame.{entered, pastChild};
+ghost use Rattle.trie_visit.specs.Visit.{within, Fitting, placed};
+ghost use Rattle.trie_check.specs.Trie.{leftIf, tested, testBelow, testTrie};
+use node_check::frame::enter;
+use node_check::frame::next_chain;
+use node_check::frame::past_child;
+use node_check::leaf::Kind;
+use node_check::leaf::Left;
+use trie_visit::Move;
+use trie_visit::Place;
+use trie_visit::Scope;
+use trie_visit::visit;
 
-// Where a visit leads.
-pub enum Move {
-    // to the next chain, by its first link
-    Chain(u32),
-    // past a leaf with a byte, to the link after it, with what is left of the page budget
-    Past(u32, u32, u32),
-    // to an inner node: its number, its byte, and the link after it
-    Down(u32, u32, u32),
-    // back to the node above
-    Up,
-    // the trie is not sound
-    Failed,
-}
-
-// Tests node x, a child with a byte of a node at level `depth`; `link` is after it.
-fn visit_child(
-    nodes: &[u32],
-    pages: &[u32],
-    sketches: &[u8],
-    map: &mut [u32],
-    path: &[u8; 64],
-    block: Block,
-    rows: Rows,
-    window: Window,
-    depth: usize,
-    x: u32,
-    byte: u32,
-    link: u32,
-    pages_left: u32,
-) -> Move
-    requires { ⌜ Fitting (given (now nodes) (now pages) (now sketches) block rows window) (now map) ⌝ }
-    requires { ⌜ (x < block .nodes) × (depth < rows .bytes) ⌝ }
-    ensures { λ r. ⌜ seen (now (map .exit)) r ≡ visitChild (given (now (nodes .entry)) (now (pages .entry)) (now (sketches .entry)) block rows window) (now (map .entry)) (now (path .entry)) depth x byte link «pages_left» ⌝ }
+// After a leaf with a byte: `link` is after it, `pages` what is left of the page budget.
+fn past_leaf(place: Place, byte: u32, link: u32, pages: u32) -> Place
+    requires { ⌜ (byte < 256) × (0 < place .left) ⌝ }
+    ensures { λ r. ⌜ r ≡ placed (place .depth) (pastChild (place .frame) byte link) (place .left - 1) pages ⌝ }
 {
-    if !crate::mark::mark_once(map, window, x as usize) {
-        return Move::Failed;
-    }
-    match crate::leaf::kind_of(nodes, block.nodes, x as usize) {
-        Kind::Damaged => Move::Failed,
-        Kind::Inner => {
-            if depth + 1 >= rows.bytes {
-                return Move::Failed;
-            }
-            Move::Down(x, byte, link)
-        }
-        Kind::Leaf(first) => {
-            if first == 0 {
-                return Move::Failed;
-            }
-            match crate::leaf::test_leaf(
-                pages,
-                sketches,
-                block,
-                rows,
-                path,
-                depth + 1,
-                first,
-                pages_left,
-            ) {
-                Left::Some(n) => Move::Past(byte, link, n),
-                Left::Failed => Move::Failed,
-            }
-        }
+    Place {
+        depth: place.depth,
+        frame: past_child(place.frame, byte, link),
+        left: place.left - 1,
+        pages,
     }
 }
 
-// Takes one step in a node at level `depth`, and tests the child that it leads to.
-fn visit(
-    nodes: &[u32],
-    pages: &[u32],
-    sketches: &[u8],
-    map: &mut [u32],
-    path: &mut [u8; 64],
-    block: Block,
-    rows: Rows,
-    window: Window,
-    depth: usize,
-    frame: Frame,
-    left: u32,
-    pages_left: u32,
-) -> Move
-    requires { ⌜ Fitting (given (now nodes) (now pages) (now sketches) block rows window) (now map) ⌝ }
-    requires { ⌜ (frame .node < block .nodes) × (frame .group < 8) × (depth < rows .bytes) ⌝ }
-    ensures { λ r. ⌜ visited (now (map .exit)) (now (path .exit)) r ≡ visit (given (now (nodes .entry)) (now (pages .entry)) (now (sketches .entry)) block rows window) (now (map .entry)) (now (path .entry)) depth frame left «pages_left» ⌝ }
+// In an inner node x, a level below.
+fn enter_child(nodes: &[u32], cap: usize, place: Place, x: u32) -> Place
+    requires { ⌜ NodeTable cap (now nodes) ⌝ }
+    requires { ⌜ x < cap ⌝ }
+    requires { ⌜ (place .depth < 64) × (0 < place .left) ⌝ }
+    ensures { λ r. ⌜ r ≡ placed (place .depth + 1) (entered (now (nodes .entry)) cap x) (place .left - 1) (place .pages) ⌝ }
 {
-    match crate::frame::next_step(nodes, block.nodes, rows.bits, rows.length, depth, frame) {
-        Step::Chain(link) => Move::Chain(link),
-        Step::Up => Move::Up,
-        Step::Broken => Move::Failed,
-        Step::Child(x, byte, link) => {
-            if left == 0 {
-                return Move::Failed;
-            }
-            path[depth] = byte as u8;
-            visit_child(
-                nodes,
-                pages,
-                sketches,
-                map,
-                path,
-                block,
-                rows,
-                window,
-                depth,
-                x,
-                byte,
-                link,
-                pages_left,
-            )
-        }
+    Place {
+        depth: place.depth + 1,
+        frame: enter(nodes, cap, x as usize),
+        left: place.left - 1,
+        pages: place.pages,
     }
 }
 
@@ -130,74 +49,49 @@ fn test_below(
     pages: &[u32],
     sketches: &[u8],
     map: &mut [u32],
-    block: Block,
-    rows: Rows,
-    window: Window,
+    scope: Scope,
     root: usize,
-    budget: u32,
-    page_budget: u32,
+    left: u32,
+    live: u32,
 ) -> Left
-    requires { ⌜ Fitting (given (now nodes) (now pages) (now sketches) block rows window) (now map) ⌝ }
-    requires { ⌜ root < block .nodes ⌝ }
-    ensures { λ r. ⌜ tested (now (map .exit)) r ≡ testBelow (given (now (nodes .entry)) (now (pages .entry)) (now (sketches .entry)) block rows window) root (now (map .entry)) budget «page_budget» ⌝ }
+    requires { ⌜ Fitting (within (now nodes) (now pages) (now sketches) scope) (now map) ⌝ }
+    requires { ⌜ root < scope .block .nodes ⌝ }
+    ensures { λ r. ⌜ tested (now (map .exit)) r ≡ testBelow (within (now (nodes .entry)) (now (pages .entry)) (now (sketches .entry)) scope) root (now (map .entry)) left live ⌝ }
 {
-    let mut frame = crate::frame::enter(nodes, block.nodes, root);
-    let mut stack = [Frame {
-        node: 0,
-        group: 0,
-        link: 0,
-        least: 0,
-    }; 64];
+    let cap = scope.block.nodes;
+    let frame = enter(nodes, cap, root);
+    let mut place = Place {
+        depth: 0,
+        frame,
+        left,
+        pages: live,
+    };
+    let mut stack = [frame; 64];
     let mut path = [0u8; 64];
-    let mut depth = 0;
-    let mut left = budget;
-    let mut pages_left = page_budget;
-    let mut steps = 10 * (block.nodes + 1);
+    let mut steps = 10 * (cap + 1);
     while steps > 0 {
         steps -= 1;
-        match visit(
-            nodes,
-            pages,
-            sketches,
-            map,
-            &mut path,
-            block,
-            rows,
-            window,
-            depth,
-            frame,
-            left,
-            pages_left,
-        ) {
+        match visit(nodes, pages, sketches, map, &mut path, scope, place) {
             Move::Chain(link) => {
-                frame.group += 1;
-                frame.link = link;
-                frame.least = 32 * frame.group;
+                place.frame = next_chain(place.frame, link);
             }
             Move::Past(byte, link, n) => {
-                frame.link = link;
-                frame.least = byte + 1;
-                left -= 1;
-                pages_left = n;
+                place = past_leaf(place, byte, link, n);
             }
-            Move::Down(child, byte, link) => {
-                frame.link = link;
-                frame.least = byte + 1;
-                left -= 1;
-                stack[depth] = frame;
-                depth += 1;
-                frame = crate::frame::enter(nodes, block.nodes, child as usize);
+            Move::Down(x, byte, link) => {
+                let depth = place.depth;
+                stack[depth] = past_child(place.frame, byte, link);
+                place = enter_child(nodes, cap, place, x);
             }
             Move::Up => {
-                if depth == 0 {
-                    return left_if(left, pages_left == 0);
+                if place.depth == 0 {
+                    return left_if(place.left, place.pages == 0);
                 }
-                depth -= 1;
-                frame = stack[depth];
+                let depth = place.depth - 1;
+                place.depth = depth;
+                place.frame = stack[depth];
             }
-            Move::Failed => {
-                return Left::Failed;
-            }
+            Move::Failed => return Left::Failed,
         }
     }
     Left::Failed
@@ -219,41 +113,38 @@ pub fn test_trie(
     pages: &[u32],
     sketches: &[u8],
     map: &mut [u32],
-    block: Block,
-    rows: Rows,
-    window: Window,
+    scope: Scope,
     root: usize,
     budget: u32,
     live: u32,
 ) -> Left
-    requires { ⌜ Fitting (given (now nodes) (now pages) (now sketches) block rows window) (now map) ⌝ }
-    requires { ⌜ root < block .nodes ⌝ }
-    ensures { λ r. ⌜ tested (now (map .exit)) r ≡ testTrie (given (now (nodes .entry)) (now (pages .entry)) (now (sketches .entry)) block rows window) root (now (map .entry)) budget live ⌝ }
+    requires { ⌜ Fitting (within (now nodes) (now pages) (now sketches) scope) (now map) ⌝ }
+    requires { ⌜ root < scope .block .nodes ⌝ }
+    ensures { λ r. ⌜ tested (now (map .exit)) r ≡ testTrie (within (now (nodes .entry)) (now (pages .entry)) (now (sketches .entry)) scope) root (now (map .entry)) budget live ⌝ }
 {
     if budget == 0 {
         return Left::Failed;
     }
-    if !crate::mark::mark_once(map, window, root) {
+    if !node_check::mark::mark_once(map, scope.window, root) {
         return Left::Failed;
     }
-    match crate::leaf::kind_of(nodes, block.nodes, root) {
+    let left = budget - 1;
+    match node_check::leaf::kind_of(nodes, scope.block.nodes, root) {
         Kind::Damaged => Left::Failed,
-        Kind::Inner => test_below(
-            nodes,
-            pages,
-            sketches,
-            map,
-            block,
-            rows,
-            window,
-            root,
-            budget - 1,
-            live,
-        ),
+        Kind::Inner => test_below(nodes, pages, sketches, map, scope, root, left, live),
         Kind::Leaf(first) => {
             let path = [0u8; 64];
-            match crate::leaf::test_leaf(pages, sketches, block, rows, &path, 0, first, live) {
-                Left::Some(n) => left_if(budget - 1, n == 0),
+            match node_check::leaf::test_leaf(
+                pages,
+                sketches,
+                scope.block,
+                scope.rows,
+                &path,
+                0,
+                first,
+                live,
+            ) {
+                Left::Some(n) => left_if(left, n == 0),
                 Left::Failed => Left::Failed,
             }
         }

@@ -10,11 +10,12 @@ use Rattle.words.specs.Bits.{bit, withBit, flag, withFlag}
 use Rattle.layout.specs.Pages.{isLive}
 use Rattle.trie.specs.Phys.{Phys, tree}
 use Rattle.trie.specs.Model.{rowByte, pageByte, levelAt}
-use Rattle.trie_check.specs.declared.leaf.Left.the-variants.{Some}
-use Rattle.trie_check.specs.Mark.{markOnce}
-use Rattle.trie_check.specs.Leaf.{bare, kindOf, onPath, testLeaf}
-use Rattle.trie_check.specs.Frame.{entered, stepAlong, stepIn}
-use Rattle.trie_check.specs.Trie.{Given, given, Fitting, tested, visitChild, visit, run, leftIf, testBelow, testTrie}
+use Rattle.node_check.specs.declared.leaf.Left.the-variants.{Some}
+use Rattle.node_check.specs.Mark.{markOnce}
+use Rattle.node_check.specs.Leaf.{bare, kindOf, onPath, testLeaf}
+use Rattle.node_check.specs.Frame.{entered, stepAlong, stepIn}
+use Rattle.trie_visit.specs.Visit.{Given, given, Fitting, visitChild, visit}
+use Rattle.trie_check.specs.Trie.{tested, run, leftIf, testBelow, testTrie}
 use Rattle.trie_check_laws.specs.Found.{Reads, Found, Marked}
 use Rattle.trie_check_laws.proofs.RightTrie.{test-right}
 

@@ -20,11 +20,11 @@ use Rattle.trie_laws.specs.Path.{follows}
 use Rattle.meaning.proofs.Lists.{and-intro}
 use Rattle.trie_laws.proofs.Lists.{upto-all}
 use Rattle.trie_laws.proofs.Path.{shift}
-use Rattle.trie_check.specs.declared.leaf.Kind.the-variants.{Inner, Leaf, Damaged}
-use Rattle.trie_check.specs.declared.leaf.Left.{Left}
-use Rattle.trie_check.specs.declared.leaf.Left.the-variants.{Some, Failed}
-use Rattle.trie_check.specs.Leaf.{bare, kindOf, onPath, testLeaf}
-use Rattle.trie_check.specs.Trie.{Given}
+use Rattle.node_check.specs.declared.leaf.Kind.the-variants.{Inner, Leaf, Damaged}
+use Rattle.node_check.specs.declared.leaf.Left.{Left}
+use Rattle.node_check.specs.declared.leaf.Left.the-variants.{Some, Failed}
+use Rattle.node_check.specs.Leaf.{bare, kindOf, onPath, testLeaf}
+use Rattle.trie_visit.specs.Visit.{Given}
 use Rattle.trie_check_laws.specs.Found.{Reads}
 use Rattle.trie_check_laws.proofs.RightTests.{refused, passed}
 

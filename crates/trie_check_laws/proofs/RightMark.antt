@@ -12,8 +12,8 @@ use Rattle.words.specs.Bits.{flag, withFlag}
 use Rattle.words.proofs.Flags.{length-with, flag-with}
 use Rattle.trie.specs.Heap.{hit}
 use Rattle.trie.proofs.Frame.{hit-other, hit-same}
-use Rattle.trie_check.specs.declared.mark.Window.{Window}
-use Rattle.trie_check.specs.Mark.{Noted, noted, markOnce}
+use Rattle.node_check.specs.declared.mark.Window.{Window}
+use Rattle.node_check.specs.Mark.{Noted, noted, markOnce}
 use Rattle.trie_check_laws.specs.Found.{one}
 
 -- node x is in map′ once more than in map

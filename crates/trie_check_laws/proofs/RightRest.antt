@@ -19,9 +19,9 @@ use Rattle.trie.proofs.Fresh.{linkC, afterC, chain-head}
 use Rattle.trie_laws.specs.Sound.{filled}
 use Rattle.trie_laws.specs.Walk.{soundWalk, walkFrom}
 use Rattle.meaning.proofs.Lists.{and-intro, and-first, and-second, all-append}
-use Rattle.trie_check.specs.declared.frame.Frame.{Frame}
-use Rattle.trie_check.specs.Frame.{entered, pastChild, nextChain}
-use Rattle.trie_check.specs.Trie.{Given}
+use Rattle.node_check.specs.declared.frame.Frame.{Frame}
+use Rattle.node_check.specs.Frame.{entered, pastChild, nextChain}
+use Rattle.trie_visit.specs.Visit.{Given}
 use Rattle.trie_check_laws.specs.Uses.{usesB, usesC}
 use Rattle.trie_check_laws.proofs.RightStep.{AtChild, AtChain, AtEnd}
 

@@ -8,9 +8,9 @@ use lib.Seq.{take-set-le}
 use Rattle.meaning.specs.Trie.{nodes, nodesIn, pagesIn, pagesAmong}
 use Rattle.words.specs.Bits.{flag}
 use Rattle.trie.specs.Phys.{Phys, end, bucket, stop, link, tree}
-use Rattle.trie_check.specs.declared.frame.Frame.{Frame}
-use Rattle.trie_check.specs.Frame.{pastChild, nextChain}
-use Rattle.trie_check.specs.Trie.{Given}
+use Rattle.node_check.specs.declared.frame.Frame.{Frame}
+use Rattle.node_check.specs.Frame.{pastChild, nextChain}
+use Rattle.trie_visit.specs.Visit.{Given}
 use Rattle.trie_check_laws.specs.Uses.{uses}
 use Rattle.trie_check_laws.specs.Found.{one}
 use Rattle.trie_check_laws.proofs.RightStep.{AtChild, AtChain, AtEnd}

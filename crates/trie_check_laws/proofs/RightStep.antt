@@ -9,10 +9,10 @@ use lib.ListN.{getD}
 use borrow.Author.Tests.{eqb-true, eqb-false, ltb-true, ltb-false}
 use Rattle.meaning.specs.Sketch.{packable}
 use Rattle.layout.specs.Nodes.{linkOf, byteOf, chainWord, headAt}
-use Rattle.trie_check.specs.declared.frame.Frame.{Frame}
-use Rattle.trie_check.specs.declared.frame.Step.{Step}
-use Rattle.trie_check.specs.declared.frame.Step.the-variants.{Chain, Child, Up, Broken}
-use Rattle.trie_check.specs.Frame.{stepAlong, stepIn}
+use Rattle.node_check.specs.declared.frame.Frame.{Frame}
+use Rattle.node_check.specs.declared.frame.Step.{Step}
+use Rattle.node_check.specs.declared.frame.Step.the-variants.{Chain, Child, Up, Broken}
+use Rattle.node_check.specs.Frame.{stepAlong, stepIn}
 use Rattle.trie_check_laws.proofs.RightTests.{refused, passed}
 
 module _ (N : List ℕ) (cap b n k : ℕ) (f : Frame) where

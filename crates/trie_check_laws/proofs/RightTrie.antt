@@ -17,19 +17,20 @@ use Rattle.trie.specs.Phys.{Phys, leafP, innerP, bucket, tree, first}
 use Rattle.trie_laws.specs.Sound.{filled}
 use Rattle.trie_laws.specs.Path.{follows}
 use Rattle.trie_laws.specs.Walk.{soundWalk}
-use Rattle.trie_check.specs.declared.frame.Frame.{Frame}
-use Rattle.trie_check.specs.declared.frame.Step.{Step}
-use Rattle.trie_check.specs.declared.frame.Step.the-variants as step
-use Rattle.trie_check.specs.declared.leaf.Kind.{Kind}
-use Rattle.trie_check.specs.declared.leaf.Kind.the-variants as kind
-use Rattle.trie_check.specs.declared.leaf.Left.{Left}
-use Rattle.trie_check.specs.declared.leaf.Left.the-variants as budget
-use Rattle.trie_check.specs.declared.test.Move.{Move}
-use Rattle.trie_check.specs.declared.test.Move.the-variants as move
-use Rattle.trie_check.specs.Mark.{markOnce}
-use Rattle.trie_check.specs.Leaf.{kindOf}
-use Rattle.trie_check.specs.Frame.{entered, pastChild, nextChain, stepIn}
-use Rattle.trie_check.specs.Trie.{Given, Fitting, state, Tested, tested, Visited, visited, childMove, leafLeft, pastLeaf, visitChild, visitStep, visit, follow, run, leftIf, leftLeaf, testBelow, testKind, testTrie}
+use Rattle.node_check.specs.declared.frame.Frame.{Frame}
+use Rattle.node_check.specs.declared.frame.Step.{Step}
+use Rattle.node_check.specs.declared.frame.Step.the-variants as step
+use Rattle.node_check.specs.declared.leaf.Kind.{Kind}
+use Rattle.node_check.specs.declared.leaf.Kind.the-variants as kind
+use Rattle.node_check.specs.declared.leaf.Left.{Left}
+use Rattle.node_check.specs.declared.leaf.Left.the-variants as budget
+use Rattle.trie_visit.specs.declared.Move.{Move}
+use Rattle.trie_visit.specs.declared.Move.the-variants as move
+use Rattle.node_check.specs.Mark.{markOnce}
+use Rattle.node_check.specs.Leaf.{kindOf}
+use Rattle.node_check.specs.Frame.{entered, pastChild, nextChain, stepIn}
+use Rattle.trie_visit.specs.Visit.{Given, Fitting, Visited, visited, childMove, leafLeft, pastLeaf, visitChild, visitStep, visit}
+use Rattle.trie_check.specs.Trie.{state, Tested, tested, follow, run, leftIf, leftLeaf, testBelow, testKind, testTrie}
 use Rattle.trie_check_laws.specs.Found.{Reads, Found, Marked, one}
 use Rattle.trie_check_laws.proofs.RightTests.{passed}
 use Rattle.trie_check_laws.proofs.RightStep.{AtChild, step-child, step-chain, step-up}

@@ -20,9 +20,9 @@ use Rattle.trie.specs.Phys.{leafP, innerP, Buckets, first, noHeads, pageCells, 
 use Rattle.trie.specs.Model.{pageByte, levelAt}
 use Rattle.trie_laws.specs.Path.{follows}
 use Rattle.meaning.proofs.Lists.{and-intro, and-first, and-second}
-use Rattle.trie_check.specs.declared.leaf.Kind.the-variants.{Inner, Leaf}
-use Rattle.trie_check.specs.declared.leaf.Left.the-variants.{Some}
-use Rattle.trie_check.specs.Leaf.{bare, kindOf, onPath, testLeaf}
+use Rattle.node_check.specs.declared.leaf.Kind.the-variants.{Inner, Leaf}
+use Rattle.node_check.specs.declared.leaf.Left.the-variants.{Some}
+use Rattle.node_check.specs.Leaf.{bare, kindOf, onPath, testLeaf}
 
 -- ---- what a node is
 module _ (N P : List ℕ) (cap base x : ℕ) where

@@ -9,15 +9,16 @@ use lib.ListN.{length, getD, set}
 use borrow.Author.Tests.{eq-eqb, ne-eqb, lt-ltb, le-ltb}
 use Rattle.meaning.specs.Sketch.{packable}
 use Rattle.layout.specs.Nodes.{linkOf, byteOf, chainWord, headAt}
-use Rattle.trie_check.specs.declared.frame.Frame.{Frame}
-use Rattle.trie_check.specs.declared.frame.Step.{Step}
-use Rattle.trie_check.specs.declared.frame.Step.the-variants as step
-use Rattle.trie_check.specs.declared.leaf.Kind.{Kind}
-use Rattle.trie_check.specs.declared.test.Move.the-variants as move
-use Rattle.trie_check.specs.Mark.{noted, markOnce}
-use Rattle.trie_check.specs.Leaf.{kindOf}
-use Rattle.trie_check.specs.Frame.{entered, pastChild, nextChain, stepAlong, stepIn}
-use Rattle.trie_check.specs.Trie.{Given, Visited, visited, childMove, onMark, visitChild, onChild, visitStep, visit, State, state, Tested, tested, leftIf, follow, run}
+use Rattle.node_check.specs.declared.frame.Frame.{Frame}
+use Rattle.node_check.specs.declared.frame.Step.{Step}
+use Rattle.node_check.specs.declared.frame.Step.the-variants as step
+use Rattle.node_check.specs.declared.leaf.Kind.{Kind}
+use Rattle.trie_visit.specs.declared.Move.the-variants as move
+use Rattle.node_check.specs.Mark.{noted, markOnce}
+use Rattle.node_check.specs.Leaf.{kindOf}
+use Rattle.node_check.specs.Frame.{entered, pastChild, nextChain, stepAlong, stepIn}
+use Rattle.trie_visit.specs.Visit.{Given, Visited, visited, childMove, onMark, visitChild, onChild, visitStep, visit}
+use Rattle.trie_check.specs.Trie.{State, state, Tested, tested, leftIf, follow, run}
 
 -- ---- from state to state
 pub record Ran (w : Given) (f : ℕ) (s s′ : State) (cost : ℕ) : Type 0 where

@@ -18,15 +18,16 @@ use Rattle.trie.specs.Phys.{Sound as SoundNodes}
 use Rattle.trie.proofs.Spot.{root-below}
 use Rattle.trie.proofs.Fresh.{linkC, chain-head, link-below}
 use Rattle.trie_laws.specs.Sound.{filled}
-use Rattle.trie_check.specs.declared.frame.Frame.{Frame}
-use Rattle.trie_check.specs.declared.frame.Step.the-variants as step
-use Rattle.trie_check.specs.declared.leaf.Kind.{Kind}
-use Rattle.trie_check.specs.declared.leaf.Kind.the-variants as kind
-use Rattle.trie_check.specs.declared.leaf.Left.the-variants as budget
-use Rattle.trie_check.specs.Mark.{Noted, noted, markOnce}
-use Rattle.trie_check.specs.Leaf.{kindOf}
-use Rattle.trie_check.specs.Frame.{entered, pastChild, nextChain}
-use Rattle.trie_check.specs.Trie.{Given, Fitting, leafLeft, pastLeaf, State, state, Tested, tested, leftIf, leftLeaf, run, testBelow, testKind, testTrie}
+use Rattle.node_check.specs.declared.frame.Frame.{Frame}
+use Rattle.node_check.specs.declared.frame.Step.the-variants as step
+use Rattle.node_check.specs.declared.leaf.Kind.{Kind}
+use Rattle.node_check.specs.declared.leaf.Kind.the-variants as kind
+use Rattle.node_check.specs.declared.leaf.Left.the-variants as budget
+use Rattle.node_check.specs.Mark.{Noted, noted, markOnce}
+use Rattle.node_check.specs.Leaf.{kindOf}
+use Rattle.node_check.specs.Frame.{entered, pastChild, nextChain}
+use Rattle.trie_visit.specs.Visit.{Given, Fitting, leafLeft, pastLeaf}
+use Rattle.trie_check.specs.Trie.{State, state, Tested, tested, leftIf, leftLeaf, run, testBelow, testKind, testTrie}
 use Rattle.trie_check_laws.specs.Uses.{uses, usesB, usesC}
 use Rattle.trie_check_laws.specs.Found.{Reads, Found, Marked, one}
 use Rattle.trie_check_laws.proofs.WholeMarks.{Clear, Counted, counted-none, counted-then, clear-first, clear-then, Fresh, mark-once}

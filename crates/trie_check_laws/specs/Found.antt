@@ -13,7 +13,7 @@ use Rattle.trie.specs.Phys.{Phys, root, tree, cells}
 use Rattle.trie.specs.Phys.{Sound as SoundNodes}
 use Rattle.trie.specs.Model.{pageByte, levelAt}
 use Rattle.trie_laws.specs.Walk.{soundWalk}
-use Rattle.trie_check.specs.Trie.{Given}
+use Rattle.trie_visit.specs.Visit.{Given}
 use Rattle.trie_check_laws.specs.Uses.{uses}
 
 -- the packed bytes are those that the rows of the sketch table give

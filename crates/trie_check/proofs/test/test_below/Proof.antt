@@ -3,117 +3,111 @@ use mathlib.Core.Path.{_≡_, refl, sym, _∙_}
 use native.Mathlib.Omega.{arith}
 use lib.ListN.{length}
 use borrow.Author.Needs.{needs}
-use Rattle.trie_check.specs.Trie.{given, state, run, testBelow}
-use Rattle.meaning.proofs.Stacks.{above, above-length, above-put, above-take, Held, held-start, held-stay, held-down, held-up}
-use Rattle.trie_check.proofs.Stack.{noFrame, Inside, inside-entered}
-use Rattle.trie_check.proofs.Turns.{fitting-kept, run-start, run-spent, run-chain, run-past, run-down, run-up, run-done, run-failed, chain-inside, past-inside, down-inside}
+use Rattle.trie_visit.specs.Visit.{within}
+use Rattle.trie_check.specs.Trie.{testBelow}
+use Rattle.trie_check.proofs.Stack.{Safe, safe-start, safe-chain, safe-past, safe-down, safe-up}
+use Rattle.trie_check.proofs.Turns.{fitting-kept, runAt, run-start, run-spent, run-chain, run-past, run-down, run-up, run-done, run-failed}
+use Rattle.trie_visit.proofs.Moves.{chain-inside, past-inside, down-inside}
 use Rattle.trie_check.proofs.test.test_below.Statement.{statement}
 use Rattle.trie_check.proofs.test.test_below.Tie as tie
 
 abbrev Inv-loop : tie.InvT-loop
-Inv-loop nodes pages sketches map₀ block rows window root budget page-budget frame₀ stack₀ path₀ depth₀ left₀ pages-left₀ steps₀ map frame stack path depth left pages-left steps =
-    (run (given nodes pages sketches block rows window) steps (state map path left pages-left frame (above noFrame stack depth))
-    ≡ testBelow (given nodes pages sketches block rows window) root map₀ budget page-budget)
+Inv-loop nodes pages sketches map₀ scope root left live cap place₀ stack₀ path₀ steps₀ map place stack path steps =
+    (runAt (within nodes pages sketches scope) steps map path place stack ≡ testBelow (within nodes pages sketches scope) root map₀ left live)
     × (length map ≡ length map₀)
-    × Held noFrame (Inside (block .nodes)) (rows .bytes) frame stack depth
+    × Safe (scope .block .nodes) (scope .rows .bytes) (place .frame) stack (place .depth)
 
 abbrev μ-loop : tie.MeasureT-loop
-μ-loop nodes pages sketches map₀ block rows window root budget page-budget frame₀ stack₀ path₀ depth₀ left₀ pages-left₀ steps₀ map frame stack path depth left pages-left steps = steps
+μ-loop nodes pages sketches map₀ scope root left live cap place₀ stack₀ path₀ steps₀ map place stack path steps = steps
 
 enter-requires : tie.Need-enter-requires Inv-loop μ-loop
 enter-requires c κs = (c .before .before .before .before .pre .0 .nodes, c .before .before .before .before .pre .1)
 
 add-steps : tie.Need-add-steps Inv-loop μ-loop
-add-steps c = let fit = c .before .before .before .before .before .before .pre .0 in record { fits = omega (arith, fit .nodes .small) }
+add-steps c = record { fits = omega (arith, c .before .before .before .before .before .pre .0 .nodes .small) }
 
 mul-steps : tie.Need-mul-steps Inv-loop μ-loop
-mul-steps c = let fit = c .before .before .before .before .before .before .pre .0 in record { fits = omega (arith, fit .nodes .small) }
+mul-steps c = record { fits = omega (arith, c .before .before .before .before .before .pre .0 .nodes .small) }
 
 loop-holds : tie.Need-loop-holds Inv-loop μ-loop
-loop-holds c =
-    let fit = c .before .before .before .before .before .before .pre .0 in (
-      run-start _ _ _ _ _ _ _ (c .before .enter .ensures),
-      refl,
-      held-start noFrame _ _ _ _ (inside-entered _ _ _ _ (c .before .enter .ensures) (c .before .before .before .before .before .before .pre .1)) refl (fit .some) (fit .rows .short),
-    )
+loop-holds c = (
+  run-start _ _ _ _ _ _ _ (c .enter .ensures),
+  refl,
+  safe-start _ _ _ _ _ _ (c .enter .ensures) (c .before .before .before .before .before .pre .1) refl (c .before .before .before .before .before .pre .0 .some) (c .before .before .before .before .before .pre .0 .rows .short),
+)
 
 sub-steps : tie.Need-sub-steps Inv-loop μ-loop
 sub-steps c = omega arith
 
 visit-requires : tie.Need-visit-requires Inv-loop μ-loop
-visit-requires c κs = let h = c .before .before .before .loop .inv .2 in (fitting-kept _ _ _ (c .before .before .before .loop .inv .1) (c .before .before .before .before .before .before .before .before .before .before .pre .0), (h .inside .0, h .inside .1, h .level))
+visit-requires c κs =
+    let safe = c .before .before .before .loop .inv .2 in
+    (fitting-kept _ _ _ (c .before .before .before .loop .inv .1) (c .before .before .before .before .before .before .before .before .before .pre .0), (safe .inside .0, safe .inside .1, safe .level))
 
 enum-known-link : tie.Need-enum-known-link Inv-loop μ-loop
 enum-known-link c = search needs
 
-add-frame : tie.Need-add-frame Inv-loop μ-loop
-add-frame c = let h = c .before .before .before .before .before .before .before .before .before .before .loop .inv .2 in record { fits = omega (arith, h .inside .1) }
-
-mul-frame : tie.Need-mul-frame Inv-loop μ-loop
-mul-frame c = let h = c .before .before .before .before .before .before .before .before .before .before .before .loop .inv .2 in record { fits = omega (arith, h .inside .1) }
+next-chain-requires : tie.Need-next-chain-requires Inv-loop μ-loop
+next-chain-requires c κs = chain-inside _ _ _ _ _ _ _ (c .before .before .before .before .before .before .before .before .before .loop .inv .2 .inside .1) _ _ _ (c .before .before .before .before .before .visit .ensures) _ (c .before .link .given .1)
 
 loop-less : tie.Need-loop-less Inv-loop μ-loop
 loop-less c = omega arith
 
 loop-again : tie.Need-loop-again Inv-loop μ-loop
 loop-again c = (
-  sym (run-chain _ _ _ _ _ _ _ _ (omega arith) _ (above-length _ _ _) _ _ _ (c .before .before .before .before .before .before .before .visit .ensures) _ (c .before .before .before .link .given .1)) ∙ c .before .before .before .before .before .before .before .before .before .before .before .loop .inv .0,
-  c .before .before .before .before .before .before .before .visit .kept .1 .1 .1 .0 ∙ c .before .before .before .before .before .before .before .before .before .before .before .loop .inv .1,
-  let inside = chain-inside _ _ _ _ _ _ _ (c .before .before .before .before .before .before .before .before .before .before .before .loop .inv .2 .inside .1) _ _ _ (c .before .before .before .before .before .before .before .visit .ensures) _ (c .before .before .before .link .given .1) in let h = c .before .before .before .before .before .before .before .before .before .before .before .loop .inv .2 in held-stay _ _ _ _ _ _ h _ (h .inside .0, omega (arith, inside)),
+  sym (run-chain _ _ _ _ (c .before .before .before .before .before .before .before .before .before .before .loop .place) _ (omega arith) _ _ _ (c .before .before .before .before .before .before .visit .ensures) _ _ (c .before .before .link .given .1) (c .next-chain .ensures)) ∙ c .before .before .before .before .before .before .before .before .before .before .loop .inv .0,
+  c .before .before .before .before .before .before .visit .kept .1 .1 .1 .0 ∙ c .before .before .before .before .before .before .before .before .before .before .loop .inv .1,
+  safe-chain (c .before .before .before .before .before .before .before .before .before .before .before .before .before .before .before .before .args .nodes .now) _ _ (c .before .before .before .before .before .before .before .before .before .before .loop .place) _ (c .before .before .before .before .before .before .before .before .before .before .loop .inv .2) _ _ (c .next-chain .ensures) (chain-inside _ _ _ _ _ _ _ (c .before .before .before .before .before .before .before .before .before .before .loop .inv .2 .inside .1) _ _ _ (c .before .before .before .before .before .before .visit .ensures) _ (c .before .before .link .given .1)),
 )
 
 enum-known-byte : tie.Need-enum-known-byte Inv-loop μ-loop
 enum-known-byte c = search needs
 
-add-frame-2 : tie.Need-add-frame-2 Inv-loop μ-loop
-add-frame-2 c = let inside = past-inside _ _ _ _ _ _ _ (c .before .before .before .before .before .before .before .before .before .loop .inv .2 .inside .1) _ _ _ (c .before .before .before .before .before .visit .ensures) _ _ _ (c .before .byte .given .1) in record { fits = omega (arith, inside .1) }
-
-sub-left : tie.Need-sub-left Inv-loop μ-loop
-sub-left c = let inside = past-inside _ _ _ _ _ _ _ (c .before .before .before .before .before .before .before .before .before .loop .inv .2 .inside .1) _ _ _ (c .before .before .before .before .before .visit .ensures) _ _ _ (c .before .byte .given .1) in omega (arith, inside .0)
+past-leaf-requires : tie.Need-past-leaf-requires Inv-loop μ-loop
+past-leaf-requires c κs =
+    let inside = past-inside _ _ _ _ _ _ _ (c .before .before .before .before .before .before .before .before .before .loop .inv .2 .inside .1) _ _ _ (c .before .before .before .before .before .visit .ensures) _ _ _ (c .before .byte .given .1) in
+    (inside .1, inside .0)
 
 loop-less-2 : tie.Need-loop-less-2 Inv-loop μ-loop
 loop-less-2 c = omega arith
 
 loop-again-2 : tie.Need-loop-again-2 Inv-loop μ-loop
 loop-again-2 c = (
-  sym (run-past _ _ _ _ _ _ _ _ (omega arith) _ (above-length _ _ _) _ _ _ (c .before .before .before .before .before .visit .ensures) _ _ _ (c .before .byte .given .1)) ∙ c .before .before .before .before .before .before .before .before .before .loop .inv .0,
-  c .before .before .before .before .before .visit .kept .1 .1 .1 .0 ∙ c .before .before .before .before .before .before .before .before .before .loop .inv .1,
-  held-stay _ _ _ _ _ _ (c .before .before .before .before .before .before .before .before .before .loop .inv .2) _ (c .before .before .before .before .before .before .before .before .before .loop .inv .2 .inside),
+  sym (run-past _ _ _ _ (c .before .before .before .before .before .before .before .before .before .before .loop .place) _ (omega arith) _ _ _ (c .before .before .before .before .before .before .visit .ensures) _ _ _ _ (c .before .before .byte .given .1) (c .past-leaf .ensures)) ∙ c .before .before .before .before .before .before .before .before .before .before .loop .inv .0,
+  c .before .before .before .before .before .before .visit .kept .1 .1 .1 .0 ∙ c .before .before .before .before .before .before .before .before .before .before .loop .inv .1,
+  safe-past (c .before .before .before .before .before .before .before .before .before .before .before .before .before .before .before .before .args .nodes .now) _ _ (c .before .before .before .before .before .before .before .before .before .before .loop .place) _ (c .before .before .before .before .before .before .before .before .before .before .loop .inv .2) _ _ _ _ _ (c .past-leaf .ensures),
 )
 
-enum-known-child : tie.Need-enum-known-child Inv-loop μ-loop
-enum-known-child c = search needs
+enum-known-x : tie.Need-enum-known-x Inv-loop μ-loop
+enum-known-x c = search needs
 
-add-frame-3 : tie.Need-add-frame-3 Inv-loop μ-loop
-add-frame-3 c = let inside = down-inside _ _ _ _ _ _ _ (c .before .before .before .before .before .before .before .before .before .loop .inv .2 .inside .1) _ _ _ (c .before .before .before .before .before .visit .ensures) _ _ _ (c .before .child .given .1) in record { fits = omega (arith, inside .1) }
-
-sub-left-2 : tie.Need-sub-left-2 Inv-loop μ-loop
-sub-left-2 c = let inside = down-inside _ _ _ _ _ _ _ (c .before .before .before .before .before .before .before .before .before .loop .inv .2 .inside .1) _ _ _ (c .before .before .before .before .before .visit .ensures) _ _ _ (c .before .child .given .1) in omega (arith, inside .0)
+past-child-requires : tie.Need-past-child-requires Inv-loop μ-loop
+past-child-requires c κs =
+    let inside = down-inside _ _ _ _ _ _ _ (c .before .before .before .before .before .before .before .before .before .loop .inv .2 .inside .1) _ _ _ (c .before .before .before .before .before .visit .ensures) _ _ _ (c .before .x .given .1) in
+    inside .1
 
 mul-stack : tie.Need-mul-stack Inv-loop μ-loop
-mul-stack c = let h = c .before .before .before .before .before .before .before .before .before .loop .inv .2 in record { fits = omega (arith, h .level, h .levels) }
+mul-stack c = let safe = c .before .before .before .before .before .before .before .before .before .before .loop .inv .2 in record { fits = omega (arith, safe .level, safe .levels) }
 
 array-set-from-stack : tie.Need-array-set-from-stack Inv-loop μ-loop
-array-set-from-stack c = let h = c .before .before .before .before .before .before .before .before .before .loop .inv .2 in omega (arith, h .level, h .levels)
+array-set-from-stack c = let safe = c .before .before .before .before .before .before .before .before .before .before .loop .inv .2 in omega (arith, safe .level, safe .levels)
 
-add-depth : tie.Need-add-depth Inv-loop μ-loop
-add-depth c = let h = c .before .before .before .before .before .before .before .before .before .loop .inv .2 in record { fits = omega (arith, h .level, h .levels) }
-
-cast-enter : tie.Need-cast-enter Inv-loop μ-loop
-cast-enter c = let inside = down-inside _ _ _ _ _ _ _ (c .before .before .before .before .before .before .before .before .before .loop .inv .2 .inside .1) _ _ _ (c .before .before .before .before .before .visit .ensures) _ _ _ (c .before .child .given .1) in let fit = c .before .before .before .before .before .before .before .before .before .before .before .before .before .before .before .before .pre .0 in record { fits = omega (arith, inside .2, fit .nodes .small) }
-
-enter-requires-2 : tie.Need-enter-requires-2 Inv-loop μ-loop
-enter-requires-2 c κs = let inside = down-inside _ _ _ _ _ _ _ (c .before .before .before .before .before .before .before .before .before .loop .inv .2 .inside .1) _ _ _ (c .before .before .before .before .before .visit .ensures) _ _ _ (c .before .child .given .1) in (c .before .before .before .before .before .before .before .before .before .before .before .before .before .before .before .before .pre .0 .nodes, inside .2)
+enter-child-requires : tie.Need-enter-child-requires Inv-loop μ-loop
+enter-child-requires c κs =
+    let safe = c .before .before .before .before .before .before .before .before .before .before .loop .inv .2 in
+    let inside = down-inside _ _ _ _ _ _ _ (safe .inside .1) _ _ _ (c .before .before .before .before .before .before .visit .ensures) _ _ _ (c .before .before .x .given .1) in
+    (c .before .before .before .before .before .before .before .before .before .before .before .before .before .before .before .before .pre .0 .nodes, (inside .2, (omega (arith, safe .level, safe .levels), inside .0)))
 
 loop-less-3 : tie.Need-loop-less-3 Inv-loop μ-loop
 loop-less-3 c = omega arith
 
 loop-again-3 : tie.Need-loop-again-3 Inv-loop μ-loop
 loop-again-3 c =
-    let h = c .before .before .before .before .before .before .before .before .before .before .loop .inv .2 in (
-      sym (run-down _ _ _ _ _ _ _ _ (omega arith) _ (above-length _ _ _) _ _ _ (c .before .before .before .before .before .before .visit .ensures) _ _ _ _ _ (c .before .before .child .given .1) (c .enter2 .ensures) (above-put _ _ _ _ (omega (arith, h .level, h .levels, h .room)))) ∙ c .before .before .before .before .before .before .before .before .before .before .loop .inv .0,
-      c .before .before .before .before .before .before .visit .kept .1 .1 .1 .0 ∙ c .before .before .before .before .before .before .before .before .before .before .loop .inv .1,
-      let inside = down-inside _ _ _ _ _ _ _ (c .before .before .before .before .before .before .before .before .before .before .loop .inv .2 .inside .1) _ _ _ (c .before .before .before .before .before .before .visit .ensures) _ _ _ (c .before .before .child .given .1) in held-down _ _ _ _ _ _ h _ _ (h .inside) (inside-entered _ _ _ _ (c .enter2 .ensures) (inside .2)) (inside .3),
+    let safe = c .before .before .before .before .before .before .before .before .before .before .before .loop .inv .2 in
+    let inside = down-inside _ _ _ _ _ _ _ (safe .inside .1) _ _ _ (c .before .before .before .before .before .before .before .visit .ensures) _ _ _ (c .before .before .before .x .given .1) in (
+      sym (run-down _ _ _ _ (c .before .before .before .before .before .before .before .before .before .before .before .loop .place) _ (omega arith) _ _ _ (c .before .before .before .before .before .before .before .visit .ensures) _ _ _ _ _ (c .before .before .before .x .given .1) (c .before .past-child .ensures) (c .enter-child .ensures) (omega (arith, safe .level, safe .levels, safe .room))) ∙ c .before .before .before .before .before .before .before .before .before .before .before .loop .inv .0,
+      c .before .before .before .before .before .before .before .visit .kept .1 .1 .1 .0 ∙ c .before .before .before .before .before .before .before .before .before .before .before .loop .inv .1,
+      safe-down (c .before .before .before .before .before .before .before .before .before .before .before .before .before .before .before .before .before .args .nodes .now) _ _ (c .before .before .before .before .before .before .before .before .before .before .before .loop .place) _ safe _ _ _ _ _ _ _ (c .before .past-child .ensures) (c .enter-child .ensures) (inside .2) (inside .3),
     )
 
 enum-told : tie.Need-enum-told Inv-loop μ-loop
@@ -123,28 +117,28 @@ left-if-requires : tie.Need-left-if-requires Inv-loop μ-loop
 left-if-requires c κs = search needs
 
 same-length : tie.Need-same-length Inv-loop μ-loop
-same-length c = c .before .before .before .before .before .before .visit .kept .1 .1 .1 .0 ∙ c .before .before .before .before .before .before .before .before .before .before .loop .inv .1
+same-length c = c .before .before .before .before .before .before .before .before .visit .kept .1 .1 .1 .0 ∙ c .before .before .before .before .before .before .before .before .before .before .before .before .loop .inv .1
 
 returns : tie.Need-returns Inv-loop μ-loop
-returns c = sym (run-done _ _ _ _ _ _ _ _ (omega arith) _ (above-length _ _ _) _ _ _ (c .before .before .before .before .before .before .visit .ensures) _ (c .before .before .enum-told .given .1) (c .before .if1 .taken) (c .left-if .ensures)) ∙ c .before .before .before .before .before .before .before .before .before .before .loop .inv .0
+returns c = sym (run-done _ _ _ _ (c .before .before .before .before .before .before .before .before .before .before .before .before .loop .place) _ (omega arith) _ _ _ (c .before .before .before .before .before .before .before .before .visit .ensures) _ (c .before .before .before .before .enum-told .given .1) (c .before .before .if1 .taken) (c .left-if .ensures)) ∙ c .before .before .before .before .before .before .before .before .before .before .before .before .loop .inv .0
 
 sub-depth : tie.Need-sub-depth Inv-loop μ-loop
-sub-depth c = search needs
+sub-depth c = omega arith
 
-mul-frame-2 : tie.Need-mul-frame-2 Inv-loop μ-loop
-mul-frame-2 c = search needs
+mul-place : tie.Need-mul-place Inv-loop μ-loop
+mul-place c = let safe = c .before .before .before .before .before .before .before .before .before .before .before .loop .inv .2 in record { fits = omega (arith, safe .level, safe .levels) }
 
-array-copy-out-frame : tie.Need-array-copy-out-frame Inv-loop μ-loop
-array-copy-out-frame c = search needs
+array-copy-out-place : tie.Need-array-copy-out-place Inv-loop μ-loop
+array-copy-out-place c = let safe = c .before .before .before .before .before .before .before .before .before .before .before .loop .inv .2 in omega (arith, safe .level, safe .levels)
 
 loop-less-4 : tie.Need-loop-less-4 Inv-loop μ-loop
 loop-less-4 c = omega arith
 
 loop-again-4 : tie.Need-loop-again-4 Inv-loop μ-loop
 loop-again-4 c = (
-  sym (run-up _ _ _ _ _ _ _ _ (omega arith) _ (above-length _ _ _) _ _ _ (c .before .before .before .before .before .before .visit .ensures) _ _ (c .before .before .enum-told .given .1) (above-take _ _ _ (omega arith))) ∙ c .before .before .before .before .before .before .before .before .before .before .loop .inv .0,
-  c .before .before .before .before .before .before .visit .kept .1 .1 .1 .0 ∙ c .before .before .before .before .before .before .before .before .before .before .loop .inv .1,
-  held-up _ _ _ _ _ _ (c .before .before .before .before .before .before .before .before .before .before .loop .inv .2) (omega arith),
+  sym (run-up _ _ _ _ (c .before .before .before .before .before .before .before .before .before .before .before .before .loop .place) _ (omega arith) _ _ _ (c .before .before .before .before .before .before .before .before .visit .ensures) (c .before .before .before .before .enum-told .given .1) (omega arith)) ∙ c .before .before .before .before .before .before .before .before .before .before .before .before .loop .inv .0,
+  c .before .before .before .before .before .before .before .before .visit .kept .1 .1 .1 .0 ∙ c .before .before .before .before .before .before .before .before .before .before .before .before .loop .inv .1,
+  safe-up (c .before .before .before .before .before .before .before .before .before .before .before .before .before .before .before .before .before .before .args .nodes .now) _ _ (c .before .before .before .before .before .before .before .before .before .before .before .before .loop .place) _ (c .before .before .before .before .before .before .before .before .before .before .before .before .loop .inv .2) (omega arith),
 )
 
 enum-told-2 : tie.Need-enum-told-2 Inv-loop μ-loop
@@ -154,13 +148,13 @@ same-length-2 : tie.Need-same-length-2 Inv-loop μ-loop
 same-length-2 c = c .before .before .before .before .visit .kept .1 .1 .1 .0 ∙ c .before .before .before .before .before .before .before .before .loop .inv .1
 
 returns-2 : tie.Need-returns-2 Inv-loop μ-loop
-returns-2 c = sym (run-failed _ _ _ _ _ _ _ _ (omega arith) _ (above-length _ _ _) _ _ _ (c .before .before .before .before .visit .ensures) (c .enum-told2 .given .1)) ∙ c .before .before .before .before .before .before .before .before .loop .inv .0
+returns-2 c = sym (run-failed _ _ _ _ (c .before .before .before .before .before .before .before .before .loop .place) _ (omega arith) _ _ _ (c .before .before .before .before .visit .ensures) (c .enum-told2 .given .1)) ∙ c .before .before .before .before .before .before .before .before .loop .inv .0
 
 same-length-3 : tie.Need-same-length-3 Inv-loop μ-loop
 same-length-3 c = c .before .loop .inv .1
 
 returns-3 : tie.Need-returns-3 Inv-loop μ-loop
-returns-3 c = sym (run-spent _ _ _ _ _ _ _ _ (omega arith)) ∙ c .before .loop .inv .0
+returns-3 c = sym (run-spent _ _ _ _ (c .before .loop .place) _ (omega arith)) ∙ c .before .loop .inv .0
 
 pub test-below-spec : {M : Type 1} → statement M
 test-below-spec =
@@ -175,23 +169,18 @@ test-below-spec =
     sub-steps
     visit-requires
     enum-known-link
-    add-frame
-    mul-frame
+    next-chain-requires
     loop-less
     loop-again
     enum-known-byte
-    add-frame-2
-    sub-left
+    past-leaf-requires
     loop-less-2
     loop-again-2
-    enum-known-child
-    add-frame-3
-    sub-left-2
+    enum-known-x
+    past-child-requires
     mul-stack
     array-set-from-stack
-    add-depth
-    cast-enter
-    enter-requires-2
+    enter-child-requires
     loop-less-3
     loop-again-3
     enum-told
@@ -199,8 +188,8 @@ test-below-spec =
     same-length
     returns
     sub-depth
-    mul-frame-2
-    array-copy-out-frame
+    mul-place
+    array-copy-out-place
     loop-less-4
     loop-again-4
     enum-told-2

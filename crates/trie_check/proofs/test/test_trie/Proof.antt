@@ -19,6 +19,9 @@ same-length c = search needs
 returns-2 : tie.Need-returns-2
 returns-2 c = trie-marked _ _ _ _ _ (omega arith) _ _ (c .before .before .before .mark-once .ensures) (not-true _ (c .if2 .taken))
 
+sub-left : tie.Need-sub-left
+sub-left c = omega arith
+
 kind-of-requires : tie.Need-kind-of-requires
 kind-of-requires c κs = (c .before .before .before .before .before .before .before .before .before .before .pre .0 .nodes, c .before .before .before .before .before .before .before .before .before .before .pre .1)
 
@@ -27,9 +30,6 @@ enum-told c = search needs
 
 enum-told-2 : tie.Need-enum-told-2
 enum-told-2 c = search needs
-
-sub-test-below : tie.Need-sub-test-below
-sub-test-below c = omega arith
 
 test-below-requires : tie.Need-test-below-requires
 test-below-requires c κs = (fitting-kept _ _ _ (c .before .before .before .before .before .before .before .mark-once .kept .0) (c .before .before .before .before .before .before .before .before .before .before .before .before .before .before .pre .0), c .before .before .before .before .before .before .before .before .before .before .before .before .before .before .pre .1)
@@ -42,9 +42,6 @@ test-leaf-requires c κs = let fit = c .before .before .before .before .before .
 
 enum-known-n : tie.Need-enum-known-n
 enum-known-n c = search needs
-
-sub-left-if : tie.Need-sub-left-if
-sub-left-if c = omega arith
 
 left-if-requires : tie.Need-left-if-requires
 left-if-requires c κs = search needs
@@ -84,15 +81,14 @@ test-trie-spec =
     mark-once-requires
     same-length
     returns-2
+    sub-left
     kind-of-requires
     enum-told
     enum-told-2
-    sub-test-below
     test-below-requires
     enum-known-first
     test-leaf-requires
     enum-known-n
-    sub-left-if
     left-if-requires
     enum-told-3
     same-length-2

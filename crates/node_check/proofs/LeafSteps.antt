@@ -1,0 +1,62 @@
+-- The steps of the tests of a leaf, by what a turn's tests say.
+use Prim.Native.Nat.{ℕ, zero, suc, _+_, _-_, _<_, _≤_}
+use native.Mathlib.Omega.{arith}
+use mathlib.Core.Path.{_≡_, refl, ap, _∙_}
+use mathlib.Core.Bool.{Bool, true, false}
+use mathlib.Core.List.{List}
+use lib.Dec.{eqb}
+use lib.ListN.{getD}
+use borrow.Author.Tests.{le-ltb, lt-ltb, eq-eqb, ne-eqb}
+use Rattle.meaning.proofs.Stacks.{suc-pred}
+use Rattle.layout.specs.Nodes.{headAt}
+use Rattle.layout.specs.Pages.{isLive}
+use Rattle.trie.specs.declared.Level.{Level}
+use Rattle.trie.specs.declared.Rows.{Rows}
+use Rattle.trie.specs.Model.{pageByte, levelAt}
+use Rattle.node_check.specs.declared.leaf.Left.the-variants.{Some, Failed}
+use Rattle.node_check.specs.Leaf.{onPath, testLeaf}
+
+-- head g of node x is 0
+abbrev pub bareAt : List ℕ → ℕ → ℕ → ℕ → Bool
+bareAt N cap x g = eqb (getD N (headAt cap x g) 0) 0
+
+-- byte k of page p is that of the path
+abbrev pub matchAt : List ℕ → Rows → List ℕ → ℕ → ℕ → Bool
+matchAt S r path p k = eqb (pageByte S (levelAt r k) p) (getD path k 0)
+
+module _ (S : List ℕ) (r : Rows) (path : List ℕ) (p k : ℕ) (v : Level) (byte : ℕ) (e : v ≡ levelAt r k) (f : byte ≡ pageByte S v p) where
+  pub match-fails : (byte ≡ getD path k 0 → ⊥) → matchAt S r path p k ≡ false
+  match-fails h = rw (← e, ← f) (ne-eqb byte (getD path k 0) h)
+
+  pub match-passes : byte ≡ getD path k 0 → matchAt S r path p k ≡ true
+  match-passes h = rw (← e, ← f) (eq-eqb byte (getD path k 0) h)
+
+module _ (P S : List ℕ) (pcap base : ℕ) (r : Rows) (path : List ℕ) (d : ℕ) where
+  pub leaf-end : (link f : ℕ) → link ≡ 0 → testLeaf P S pcap base r path d link f ≡ Some f
+  unfolding testLeaf
+  leaf-end link zero e = rw (eq-eqb link 0 e)
+  leaf-end link (suc f) e = rw (eq-eqb link 0 e)
+
+  pub leaf-spent : (link f : ℕ) → 0 < link → f ≡ 0 → testLeaf P S pcap base r path d link f ≡ Failed
+  unfolding testLeaf
+  leaf-spent link zero n e = rw (ne-eqb link 0 (omega arith))
+  leaf-spent link (suc f) n e = absurd (omega arith)
+
+  pub leaf-outside : (link f : ℕ) → pcap < link → testLeaf P S pcap base r path d link f ≡ Failed
+  unfolding testLeaf
+  leaf-outside link zero o = rw (ne-eqb link 0 (omega arith))
+  leaf-outside link (suc f) o = rw (ne-eqb link 0 (omega arith), lt-ltb pcap link o)
+
+  module _ (link f : ℕ) (n : 0 < link) (m : 0 < f) (l : link ≤ pcap) where
+    pub leaf-dead : isLive P (link - 1) ≡ false → testLeaf P S pcap base r path d link f ≡ Failed
+    unfolding testLeaf
+    leaf-dead e = ap (testLeaf P S pcap base r path d link) (suc-pred f m) ∙ rw (ne-eqb link 0 (omega arith), le-ltb pcap link l, e) refl
+
+    pub leaf-astray : isLive P (link - 1) ≡ true → onPath S r path d (link - 1) ≡ false → testLeaf P S pcap base r path d link f ≡ Failed
+    unfolding testLeaf
+    leaf-astray e g = ap (testLeaf P S pcap base r path d link) (suc-pred f m) ∙ rw (ne-eqb link 0 (omega arith), le-ltb pcap link l, e, g) refl
+
+    pub leaf-next : isLive P (link - 1) ≡ true → onPath S r path d (link - 1) ≡ true
+        → testLeaf P S pcap base r path d link f ≡ testLeaf P S pcap base r path d (getD P (base + (link - 1)) 0) (f - 1)
+    unfolding testLeaf
+    leaf-next e g = ap (testLeaf P S pcap base r path d link) (suc-pred f m) ∙ rw (ne-eqb link 0 (omega arith), le-ltb pcap link l, e, g) refl

@@ -1,0 +1,122 @@
+// What a node is, and the test of a leaf's pages: each is live, and its bytes are those that led to the leaf.
+ghost use mathlib.Core.Path.{_≡_};
+ghost use Prim.Native.Nat.{_≤_, _<_};
+ghost use lib.ListN.{length};
+ghost use Rattle.trie.specs.Tables.{NodeTable, PageTable, RowTable};
+ghost use Rattle.node_check.specs.Leaf.{bare, kindOf, onPath, testLeaf};
+use trie::Block;
+use trie::Rows;
+
+pub enum Kind {
+    Inner,
+    // by the link to its first page
+    Leaf(u32),
+    // free, or a leaf with a head that is not 0
+    Damaged,
+}
+
+// Are all heads of node x 0?
+pub fn is_bare(nodes: &[u32], cap: usize, x: usize) -> bool
+    requires { ⌜ NodeTable cap (now nodes) ⌝ }
+    requires { ⌜ x < cap ⌝ }
+    ensures { λ r. ⌜ r ≡ bare (now (nodes .entry)) cap x ⌝ }
+{
+    let mut g = 0;
+    while g < 8 {
+        if nodes[layout::nodes::head_at(cap, x, g)] != 0 {
+            return false;
+        }
+        g += 1;
+    }
+    true
+}
+
+pub fn kind_of(nodes: &[u32], cap: usize, x: usize) -> Kind
+    requires { ⌜ NodeTable cap (now nodes) ⌝ }
+    requires { ⌜ x < cap ⌝ }
+    ensures { λ r. ⌜ r ≡ kindOf (now (nodes .entry)) cap x ⌝ }
+{
+    let state = nodes[layout::nodes::state_at(cap, x)];
+    if state == 0 {
+        return Kind::Damaged;
+    }
+    if state == 1 {
+        return Kind::Inner;
+    }
+    if !is_bare(nodes, cap, x) {
+        return Kind::Damaged;
+    }
+    Kind::Leaf(state - 2)
+}
+
+// Are the first `depth` bytes of page p those of the path?
+fn is_on_path(
+    sketches: &[u8],
+    block: Block,
+    rows: Rows,
+    path: &[u8; 64],
+    depth: usize,
+    p: usize,
+) -> bool
+    requires { ⌜ RowTable (block .pages) rows (now sketches) ⌝ }
+    requires { ⌜ p < block .pages ⌝ }
+    requires { ⌜ depth ≤ 64 ⌝ }
+    ensures { λ r. ⌜ r ≡ onPath (now (sketches .entry)) rows (now (path .entry)) depth p ⌝ }
+{
+    let mut k = 0;
+    while k < depth {
+        let level = trie::packed::level_at(rows, k);
+        if trie::packed::page_byte(sketches, level, block, p) as u8 != path[k] {
+            return false;
+        }
+        k += 1;
+    }
+    true
+}
+
+// What is left of a budget, or that the test failed.
+pub enum Left {
+    Some(u32),
+    Failed,
+}
+
+// Tests the pages of a leaf, from a link on, of which there are at most `budget`.
+pub fn test_leaf(
+    pages: &[u32],
+    sketches: &[u8],
+    block: Block,
+    rows: Rows,
+    path: &[u8; 64],
+    depth: usize,
+    first: u32,
+    budget: u32,
+) -> Left
+    requires { ⌜ PageTable (block .pages) (block .base) (now pages) ⌝ }
+    requires { ⌜ block .pages ≤ block .base ⌝ }
+    requires { ⌜ RowTable (block .pages) rows (now sketches) ⌝ }
+    requires { ⌜ depth ≤ 64 ⌝ }
+    ensures { λ r. ⌜ r ≡ testLeaf (now (pages .entry)) (now (sketches .entry)) (block .pages) (block .base) rows (now (path .entry)) depth first budget ⌝ }
+{
+    let mut link = first;
+    let mut left = budget;
+    loop {
+        if link == 0 {
+            return Left::Some(left);
+        }
+        if left == 0 {
+            return Left::Failed;
+        }
+        let p = (link as usize) - 1;
+        if p >= block.pages {
+            return Left::Failed;
+        }
+        if !layout::pages::is_live(pages, p) {
+            return Left::Failed;
+        }
+        if !is_on_path(sketches, block, rows, path, depth, p) {
+            return Left::Failed;
+        }
+        link = pages[block.base + p];
+        left -= 1;
+    }
+}
