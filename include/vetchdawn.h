@@ -13,8 +13,13 @@
  *   11  a symbol is not below 2^b, or a byte is none that packing gives
  *   12  the trees would have more nodes than the capacity
  *   13  the output is too short
- *   14  a link of a damaged table leads outside; add and drop may have changed
- *       tables. It never occurs on tables that only these calls have written
+ *   14  the tables are damaged: a link that was followed leads outside its table
+ *       or to a free node, an inner node stands where no byte is left, or more
+ *       nodes or pages were passed than the capacity. Drop: the page is in no
+ *       leaf on its path. Add: a leaf to be split has children, or the free
+ *       nodes ran out after all. Add and drop may have changed words of the
+ *       trees, and add the page's row. It never occurs on tables that only
+ *       these calls have written
  *
  * and 1 to 3 of a journal command's form. docs/OPERATING.md says what to do.
  *
