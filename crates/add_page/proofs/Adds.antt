@@ -18,7 +18,8 @@ use Rattle.layout.specs.Pages.{withPage}
 use Rattle.layout.proofs.Rows.{length-with-row}
 use Rattle.layout.proofs.Words.{live-inside, class-inside}
 use Rattle.trie.specs.declared.span.Span.{Span}
-use Rattle.trie.specs.declared.span.Span.the-variants.{Enough, Short, Wild}
+use Rattle.trie.specs.declared.span.Span.the-variants.{Enough, Short}
+use Rattle.trie.specs.declared.span.Span.the-variants as spans
 use Rattle.trie.specs.Tables.{RowTable}
 use Rattle.trie_room.specs.RowBytes.{rowsOf as blockRows}
 use Rattle.trie_room.proofs.RowBytes.{rows-table}
@@ -27,7 +28,8 @@ use Rattle.promises.specs.Answers.{number}
 use Rattle.store.specs.Sound.{Sound}
 use Rattle.store.specs.Calls.{SameRest, AddPromise}
 use Rattle.add_page.specs.declared.insert.Inserted.{Inserted}
-use Rattle.add_page.specs.declared.insert.Inserted.the-variants.{Free, Stopped}
+use Rattle.add_page.specs.declared.insert.Inserted.the-variants.{Free}
+use Rattle.add_page.specs.declared.insert.Inserted.the-variants as inserted
 use Rattle.add_page.specs.Admission.{admission}
 use Rattle.add_page.specs.Room.{roomOf}
 use Rattle.add_page.specs.Insert.{Filled, filled, insertAll}
@@ -63,9 +65,9 @@ is-enough : (t : Bool) → cond t Enough Short ≡ Enough → t ≡ true
 is-enough true e = refl
 is-enough false e = let w : _≡_ {A = ℕ} 0 1 = cc in absurd (omega arith)
 
-never-wild : (t : Bool) → cond t Enough Short ≡ Wild → ⊥
-never-wild true e = let w : _≡_ {A = ℕ} 0 1 = cc in omega arith
-never-wild false e = let w : _≡_ {A = ℕ} 0 1 = cc in omega arith
+never-broken : (t : Bool) → cond t Enough Short ≡ spans.Broken → ⊥
+never-broken true e = let w : _≡_ {A = ℕ} 0 1 = cc in omega arith
+never-broken false e = let w : _≡_ {A = ℕ} 0 1 = cc in omega arith
 
 -- ---- the page's live word and class
 page-words : (n p c : ℕ) → p < n → (A B : List ℕ) → take (2 * n) A ≡ take (2 * n) B → take (2 * n) (withPage n A p c) ≡ take (2 * n) (withPage n B p c)
@@ -129,10 +131,10 @@ module _ (T : Tables) (p c : ℕ) (x : List ℕ) where
       late = λ g. inr (inl refl);
     }
 
-    pub promise-wild : roomFound T x ≡ Wild → AddPromise T p c x 14 T
-    promise-wild e = record {
+    pub promise-broken : roomFound T x ≡ spans.Broken → AddPromise T p c x 14 T
+    promise-broken e = record {
       early = λ g. absurd (g z);
-      sound = λ F s. absurd (never-wild (room12 T p c x F) (sym (room-by F s) ∙ e));
+      sound = λ F s. absurd (never-broken (room12 T p c x F) (sym (room-by F s) ∙ e));
       refused = λ g k. absurd (k refl);
       rest = same-tables T;
       late = λ g. inr (inr refl);
@@ -170,7 +172,7 @@ module _ (T : Tables) (p c : ℕ) (x : List ℕ) where
         pages-rest = q .back;
       }
 
-      pub promise-stopped : i ≡ Stopped → AddPromise T p c x 14 (tables (T .settings) N P (rowAdded T p c x) (T .working))
+      pub promise-stopped : i ≡ inserted.Broken → AddPromise T p c x 14 (tables (T .settings) N P (rowAdded T p c x) (T .working))
       promise-stopped m = record {
         early = λ g. absurd (g z);
         sound = λ F s. absurd (never-stopped T F p c x s (none F s) N P (f ∙ ap (filled N P) m));
@@ -205,7 +207,7 @@ module _ (T : Tables) (p c : ℕ) (x : List ℕ) where
     where
       go : (r : Filled) → allInserted T p c x ≡ r → Keeps (onFilled T p c x r)
       go (filled N P (Free l)) f = promise-done z (passed T p c x [] z) e N P (Free l) f l refl
-      go (filled N P Stopped) f = promise-stopped z (passed T p c x [] z) e N P Stopped f refl
+      go (filled N P inserted.Broken) f = promise-stopped z (passed T p c x [] z) e N P inserted.Broken f refl
 
   place-keeps : (z : number T [] (add p c x) ≡ 0) → Keeps (placePage T p c x)
   unfolding placePage
@@ -214,7 +216,7 @@ module _ (T : Tables) (p c : ℕ) (x : List ℕ) where
       go : (q : Span) → roomFound T x ≡ q → Keeps (onRoom T p c x q)
       go Enough e = put-keeps z e
       go Short e = promise-short z (passed T p c x [] z) e
-      go Wild e = promise-wild z (passed T p c x [] z) e
+      go spans.Broken e = promise-broken z (passed T p c x [] z) e
 
   add-keeps : Keeps (addPage T p c x)
   unfolding addPage

@@ -14,7 +14,7 @@ use Rattle.layout.specs.Nodes.{headAt, chainAt}
 use Rattle.layout.specs.Pages.{nextAt}
 use Rattle.layout.proofs.Rows.{rows-apart}
 use Rattle.trie.specs.Heap.{hit, pageClaims}
-use Rattle.trie.specs.Phys.{Phys, Buckets, Chain, leafP, innerP, end, bucket, stop, link, root, tree, kids, kidsC, pageCells, noHeads, cells, cellsB, cellsC, Below, Sound, SoundB, SoundC}
+use Rattle.trie.specs.Phys.{Phys, Buckets, Chain, leafP, innerP, end, bucket, stop, link, root, tree, childrenB, childrenC, pageCells, noHeads, cells, cellsB, cellsC, Below, Sound, SoundB, SoundC}
 use Rattle.trie.proofs.Frame.{hit-other}
 use Rattle.trie_laws.specs.Sound.{Stands}
 use Rattle.trie_laws.specs.Block.{EachFrom}
@@ -47,16 +47,16 @@ module _ (cap base x : ℕ) where
     trie-claims (leafP n ps) = omega (arith, no-heads cap n (base + x), leaf-claims ps)
     trie-claims (innerP n bs) = omega (arith, bucket-claims bs n 0)
 
-    bucket-claims : (bs : Buckets) (n g : ℕ) → pageClaims (cellsB cap base bs n g) (base + x) ≡ count (eqb x) (pagesAmong (kids bs))
+    bucket-claims : (bs : Buckets) (n g : ℕ) → pageClaims (cellsB cap base bs n g) (base + x) ≡ count (eqb x) (pagesAmong (childrenB bs))
     bucket-claims end n g = refl
     bucket-claims (bucket ch bs) n g =
-        omega (arith, chain-claims ch (headAt cap n g) 0 (kids bs), bucket-claims bs n (suc g))
+        omega (arith, chain-claims ch (headAt cap n g) 0 (childrenB bs), bucket-claims bs n (suc g))
 
     chain-claims : (ch : Chain) (s y : ℕ) (cs : Children) →
-        pageClaims (cellsC cap base ch s y) (base + x) + count (eqb x) (pagesAmong cs) ≡ count (eqb x) (pagesAmong (kidsC ch cs))
+        pageClaims (cellsC cap base ch s y) (base + x) + count (eqb x) (pagesAmong cs) ≡ count (eqb x) (pagesAmong (childrenC ch cs))
     chain-claims stop s y cs = omega arith
     chain-claims (link b t ch) s y cs =
-        omega (arith, trie-claims t, chain-claims ch (chainAt (root t)) b cs, count-append (eqb x) (pagesIn (tree t)) (pagesAmong (kidsC ch cs)))
+        omega (arith, trie-claims t, chain-claims ch (chainAt (root t)) b cs, count-append (eqb x) (pagesIn (tree t)) (pagesAmong (childrenC ch cs)))
 
 -- and no word outside its block's links
 module _ (cap pcap base a : ℕ) (outside : (x : ℕ) → x < pcap → base + x ≢ a) where

@@ -28,7 +28,8 @@ use Rattle.trie_laws.proofs.Forest.{each-length}
 use Rattle.promises.specs.Tables.{Tables, tables, given, pageClass, pageRow, rowsOf}
 use Rattle.promises.specs.Answers.{number}
 use Rattle.store.specs.Sound.{Holding, Sound, SoundPage, livePage, pageBytes}
-use Rattle.add_page.specs.declared.insert.Inserted.the-variants.{Free, Stopped}
+use Rattle.add_page.specs.declared.insert.Inserted.the-variants.{Free}
+use Rattle.add_page.specs.declared.insert.Inserted.the-variants as inserted
 use Rattle.add_page.specs.Insert.{filled, insertAll}
 use Rattle.add_page.proofs.Grows.{Inserts}
 use Rattle.add_page.proofs.KeepsAsked.{Accepted, accepted}
@@ -167,10 +168,10 @@ module _ (T : Tables) (F : List Tree) (p c : ℕ) (x : List ℕ) (sound : Sound 
       let l : I .link ≡ link = cc in
       rw (n, q, l) at (I .sound)
 
-  pub never-stopped : insertAll (given T) (sketchesAfter T p x) x p (T .nodes) (T .pages) (getD (T .settings) freeAt 0) ≡ filled N P Stopped → ⊥
+  pub never-stopped : insertAll (given T) (sketchesAfter T p x) x p (T .nodes) (T .pages) (getD (T .settings) freeAt 0) ≡ filled N P inserted.Broken → ⊥
   never-stopped f =
       let I = insert-sound T F p c x sound e in
-      let same : filled (I .nodes) (I .pages) (Free (I .link)) ≡ filled N P Stopped = sym (I .is) ∙ f in
-      let r : Free (I .link) ≡ Stopped = cc in
+      let same : filled (I .nodes) (I .pages) (Free (I .link)) ≡ filled N P inserted.Broken = sym (I .is) ∙ f in
+      let r : Free (I .link) ≡ inserted.Broken = cc in
       let z : _≡_ {A = ℕ} 0 1 = cc in
       omega arith

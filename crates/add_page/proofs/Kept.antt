@@ -17,20 +17,24 @@ use Rattle.layout.specs.Pages.{nextAt}
 use Rattle.layout.specs.Nodes.{stateAt}
 use Rattle.trie.specs.declared.Level.{Level}
 use Rattle.trie.specs.declared.Rows.{Rows}
-use Rattle.trie.specs.declared.leaf.Got.the-variants.{Node, Full, Bad}
+use Rattle.trie.specs.declared.leaf.Got.the-variants.{Node, Full}
+use Rattle.trie.specs.declared.leaf.Got.the-variants as got
 use Rattle.trie.specs.declared.place.Place.{Place}
 use Rattle.trie.specs.declared.place.Place.the-variants.{Found, Missing, Broken}
 use Rattle.trie.specs.declared.span.Span.{Span}
-use Rattle.trie.specs.declared.span.Span.the-variants.{Enough, Short, Wild}
+use Rattle.trie.specs.declared.span.Span.the-variants.{Enough, Short}
+use Rattle.trie.specs.declared.span.Span.the-variants as spans
 use Rattle.trie.specs.Tables.{RowTable}
 use Rattle.trie.specs.Model.{Inside, Made, made, findPlace, linkLeaf, nodeIn, freshLeaf, madeAt, childLeaf, pageByte, levelAt}
 use Rattle.trie.proofs.Places.{find-inside}
 use Rattle.trie.proofs.Bytes.{level-table, byte-small}
 use Rattle.trie_path.specs.declared.Reach.{Reach}
-use Rattle.trie_path.specs.declared.Reach.the-variants.{Leaf, Gap, Broken as Lost}
+use Rattle.trie_path.specs.declared.Reach.the-variants.{Leaf, Gap}
+use Rattle.trie_path.specs.declared.Reach.the-variants as reach
 use Rattle.trie_path.specs.Descend.{descendTo, Inside as ReachInside}
 use Rattle.trie_path.proofs.Inside.{descend-inside}
-use Rattle.trie_insert.specs.declared.insert.Target.the-variants.{Ready, NoRoom, Damaged}
+use Rattle.trie_insert.specs.declared.insert.Target.the-variants.{Ready, NoRoom}
+use Rattle.trie_insert.specs.declared.insert.Target.the-variants as target
 use Rattle.trie_insert.specs.Pages.{Pushed, pushed, pushNodes, pushPages, pushPage, After, after, putDone, putInto, putLeafM}
 use Rattle.trie_insert.specs.Split.{onPut, splitFrom, openLeaf, tooLong, splitLeaf, growSpan, growInto, growLeaf}
 use Rattle.trie_insert.specs.Insert.{Aimed, aimed, targetIn, aimMade, aimAt, leafFor, insertAt, insertPage}
@@ -75,7 +79,7 @@ module _ (cap : ℕ) where
   fresh-kept N s b free ls = go (eqb free 0) refl (ltb cap free) refl
     where
       go : (t : Bool) → eqb free 0 ≡ t → (u : Bool) → ltb cap free ≡ u →
-          KeptM N (cond t (made N Full) (cond u (made N Bad) (made (linkLeaf N cap s (free - 1) b) (Node (free - 1) (getD N (free - 1) 0)))))
+          KeptM N (cond t (made N Full) (cond u (made N got.Broken) (made (linkLeaf N cap s (free - 1) b) (Node (free - 1) (getD N (free - 1) 0)))))
       go true e u f = (within-none, omega arith)
       go false e true f = (within-none, omega arith)
       go false e false f =
@@ -99,12 +103,12 @@ module _ (cap : ℕ) where
         fresh : (k : ℕ) (m : Made) → KeptM N m → KeptA N (aimMade k m)
         fresh k (made N' (Node n free)) e = e
         fresh k (made N' Full) e = e
-        fresh k (made N' Bad) e = e
+        fresh k (made N' got.Broken) e = e
 
         go : (q : Reach) → ReachInside N cap (length Y) q → KeptA N (aimAt N cap Y free q)
         go (Leaf n s k) i = (within-none, omega arith)
         go (Gap n s k) i = fresh (k + 1) (freshLeaf N cap s (getD Y k 0) free) (fresh-kept N s (getD Y k 0) free (i .1))
-        go Lost i = (within-none, omega arith)
+        go reach.Broken i = (within-none, omega arith)
 
 -- ---- both tables, of cap nodes, and pages inside lo .. hi
 module _ (cap lo hi : ℕ) where
@@ -141,7 +145,7 @@ module _ (cap pcap base lo hi : ℕ) (low : lo ≤ base) (high : base + pcap ≤
       go : (m : Made) → KeptM cap N m → Kept cap lo hi N P (putInto P cap base p m)
       go (made N' (Node c next)) e = into N' c next (e .0) (pushPage N' P cap base c p) (push-kept N' P c p (omega (arith, e .1)) lp)
       go (made N' Full) e = (e .0, within-none)
-      go (made N' Bad) e = (e .0, within-none)
+      go (made N' got.Broken) e = (e .0, within-none)
 
   -- one change after another
   onto : (N P N' P' : List ℕ) → Within 0 (10 * cap) N N' → Within lo hi P P' → (a : After) → Kept cap lo hi N' P' a → Kept cap lo hi N P a
@@ -159,7 +163,7 @@ module _ (cap pcap base lo hi : ℕ) (low : lo ≤ base) (high : base + pcap ≤
       where
         go : (t : Bool) → eqb l 0 ≡ t → (u : Bool) → ltb pcap l ≡ u → (a : After) → (l - 1 < pcap → Kept cap lo hi N P a)
             → ((N' P' : List ℕ) (free' : ℕ) → Kept cap lo hi N' P' (splitFrom S v cap pcap base n N' P' (getD P (base + (l - 1)) 0) free' f))
-            → Kept cap lo hi N P (cond t (after N P (Node n free)) (cond u (after N P Bad)
+            → Kept cap lo hi N P (cond t (after N P (Node n free)) (cond u (after N P got.Broken)
             (onPut (λ N' P' free'. splitFrom S v cap pcap base n N' P' (getD P (base + (l - 1)) 0) free' f) a)))
         go true e u m a h ih = (within-none, within-none)
         go false e true m a h ih = (within-none, within-none)
@@ -167,7 +171,7 @@ module _ (cap pcap base lo hi : ℕ) (low : lo ≤ base) (high : base + pcap ≤
             let k = h (omega (arith, eqb-false l 0 e, ltb-false pcap l m)) in
             onto N P N' P' (k .0) (k .1) (splitFrom S v cap pcap base n N' P' (getD P (base + (l - 1)) 0) free' f) (ih N' P' free')
         go false e false m (after N' P' Full) h ih = h (omega (arith, eqb-false l 0 e, ltb-false pcap l m))
-        go false e false m (after N' P' Bad) h ih = h (omega (arith, eqb-false l 0 e, ltb-false pcap l m))
+        go false e false m (after N' P' got.Broken) h ih = h (omega (arith, eqb-false l 0 e, ltb-false pcap l m))
 
     module _ (τ : List ℕ) (r : Rows) (rows : RowTable pcap r S) where
       span-kept : (N P : List ℕ) (k n p free : ℕ) → n < cap → (q : Span) → Kept cap lo hi N P (growSpan S τ r cap pcap base N P k n p free q)
@@ -177,7 +181,7 @@ module _ (cap pcap base lo hi : ℕ) (low : lo ≤ base) (high : base + pcap ≤
           (splitFrom S (levelAt r k) cap pcap base n (openLeaf N cap n) P (p + 1) free (pcap + 1))
           (split-kept (levelAt r k) n ln (λ q. byte-small pcap (levelAt r k) S q (level-table pcap r S k rows)) (pcap + 1) (openLeaf N cap n) P (p + 1) free)
       span-kept N P k n p free ln Short = (within-none, within-none)
-      span-kept N P k n p free ln Wild = (within-none, within-none)
+      span-kept N P k n p free ln spans.Broken = (within-none, within-none)
 
       grow-kept : (N P : List ℕ) (k n p free : ℕ) → n < cap → p < pcap → Kept cap lo hi N P (growLeaf S τ r cap pcap base N P k n p free)
       unfolding growLeaf
@@ -198,7 +202,7 @@ module _ (cap pcap base lo hi : ℕ) (low : lo ≤ base) (high : base + pcap ≤
           go (aimed N' (Ready n k next)) e =
               onto N P N' P (e .0) within-none (growLeaf S τ r cap pcap base N' P k n p next) (grow-kept N' P k n p next (omega (arith, e .1)) lp)
           go (aimed N' NoRoom) e = (e .0, within-none)
-          go (aimed N' Damaged) e = (e .0, within-none)
+          go (aimed N' target.Broken) e = (e .0, within-none)
 
 -- ---- the blocks of an add
 module _ (s : Settings) (S x : List ℕ) (p : ℕ) (page : p < s .pages)
@@ -234,7 +238,7 @@ module _ (s : Settings) (S x : List ℕ) (p : ℕ) (page : p < s .pages)
           → KeptAll N P (onInsert (λ N' P' free'. insertFrom s S x p k (suc j) N' P' free') a)
       go (after N' P' (Node n free')) h ih = more N' P' h (insertFrom s S x p k (suc j) N' P' free') (ih N' P' free')
       go (after N' P' Full) h ih = h
-      go (after N' P' Bad) h ih = h
+      go (after N' P' got.Broken) h ih = h
 
   pub all-kept : s .blocks ≤ s .nodes → (N P : List ℕ) (free : ℕ) → KeptAll N P (insertAll s S x p N P free)
   unfolding insertAll

@@ -11,10 +11,12 @@ use Rattle.layout.specs.Settings.{freeAt}
 use Rattle.layout.specs.Header.{headerOf, withThresholds}
 use Rattle.layout.specs.Pages.{withRow, withPage}
 use Rattle.trie.specs.declared.span.Span.{Span}
-use Rattle.trie.specs.declared.span.Span.the-variants.{Enough, Short, Wild}
+use Rattle.trie.specs.declared.span.Span.the-variants.{Enough, Short}
+use Rattle.trie.specs.declared.span.Span.the-variants as spans
 use Rattle.promises.specs.Tables.{Tables, tables, given}
 use Rattle.add_page.specs.declared.insert.Inserted.{Inserted}
-use Rattle.add_page.specs.declared.insert.Inserted.the-variants.{Free, Stopped}
+use Rattle.add_page.specs.declared.insert.Inserted.the-variants.{Free}
+use Rattle.add_page.specs.declared.insert.Inserted.the-variants as inserted
 use Rattle.add_page.specs.Admission.{admission}
 use Rattle.add_page.specs.Room.{roomOf}
 use Rattle.add_page.specs.Insert.{filled, insertAll}
@@ -32,8 +34,8 @@ module _ (T : Tables) (h : Header) (header : headerOf (given T) ≡ h) (p c : �
     pub place-short : q ≡ Short → added 12 T ≡ placePage T p c x
     place-short m = rw m at answered
 
-    pub place-wild : q ≡ Wild → added 14 T ≡ placePage T p c x
-    place-wild m = rw m at answered
+    pub place-broken : q ≡ spans.Broken → added 14 T ≡ placePage T p c x
+    place-broken m = rw m at answered
 
     pub place-enough : q ≡ Enough → putPage T p c x ≡ placePage T p c x
     place-enough m = rw m at answered
@@ -48,7 +50,7 @@ module _ (T : Tables) (h : Header) (header : headerOf (given T) ≡ h) (p c : �
     unfolding putPage
     inserted = ap (onFilled T p c x) (rw (same-settings T h τ header levels, rowed, link) at e)
 
-    pub put-stopped : i ≡ Stopped → added 14 (tables (T .settings) N P S (T .working)) ≡ putPage T p c x
+    pub put-stopped : i ≡ inserted.Broken → added 14 (tables (T .settings) N P S (T .working)) ≡ putPage T p c x
     put-stopped m = rw rowed (rw m at inserted)
 
     pub put-free : (l : ℕ) → i ≡ Free l → (ws : List ℕ) → ws ≡ set (T .settings) freeAt l → (P' : List ℕ) → P' ≡ withPage (h .pages) P p c →

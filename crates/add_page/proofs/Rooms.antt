@@ -8,7 +8,7 @@ use Rattle.meaning.specs.Ledger.{Settings}
 use Rattle.meaning.specs.Forest.{bytesOfSketch}
 use Rattle.layout.specs.Pages.{nextAt}
 use Rattle.trie.specs.declared.span.Span.{Span}
-use Rattle.trie.specs.declared.span.Span.the-variants.{Wild}
+use Rattle.trie.specs.declared.span.Span.the-variants as spans
 use Rattle.trie.specs.Model.{spanFrom}
 use Rattle.trie_room.specs.declared.needed.Needed.{Needed}
 use Rattle.trie_room.specs.declared.needed.Needed.the-variants.{Nodes, Broken}
@@ -53,6 +53,6 @@ module _ (s : Settings) (N P S x : List ℕ) (free : ℕ) (r : Needed) (e : r �
   unfolding roomOf
   room-counted n m q f = rw (← e, m) f
 
-  pub room-broken : r ≡ Broken → Wild ≡ roomOf s N P S x free
+  pub room-broken : r ≡ Broken → spans.Broken ≡ roomOf s N P S x free
   unfolding roomOf
   room-broken m = rw (← e, m) refl

@@ -8,9 +8,11 @@ use Rattle.layout.specs.declared.Opening.the-variants.{Shown, Refused}
 use Rattle.layout.specs.Settings.{freeAt}
 use Rattle.layout.specs.Pages.{withRow, withPage}
 use Rattle.trie.specs.declared.span.Span.{Span}
-use Rattle.trie.specs.declared.span.Span.the-variants.{Enough, Short, Wild}
+use Rattle.trie.specs.declared.span.Span.the-variants.{Enough, Short}
+use Rattle.trie.specs.declared.span.Span.the-variants as spans
 use Rattle.promises.specs.Tables.{Tables, tables, given}
-use Rattle.add_page.specs.declared.insert.Inserted.the-variants.{Free, Stopped}
+use Rattle.add_page.specs.declared.insert.Inserted.the-variants.{Free}
+use Rattle.add_page.specs.declared.insert.Inserted.the-variants as inserted
 use Rattle.add_page.specs.Admission.{admission}
 use Rattle.add_page.specs.Room.{roomOf}
 use Rattle.add_page.specs.Insert.{Filled, filled, insertAll}
@@ -28,7 +30,7 @@ module _ (T : Tables) (p c : ℕ) (x : List ℕ) where
   abbrev pub onFilled : Filled → Added
   onFilled (filled N P (Free link)) =
       added 0 (tables (set (T .settings) freeAt link) N (withPage (given T .pages) P p c) rowAdded (T .working))
-  onFilled (filled N P Stopped) = added 14 (tables (T .settings) N P rowAdded (T .working))
+  onFilled (filled N P inserted.Broken) = added 14 (tables (T .settings) N P rowAdded (T .working))
 
   unfoldable pub putPage : Added
   putPage = onFilled (insertAll (given T) rowAdded x p (T .nodes) (T .pages) (getD (T .settings) freeAt 0))
@@ -37,7 +39,7 @@ module _ (T : Tables) (p c : ℕ) (x : List ℕ) where
   abbrev pub onRoom : Span → Added
   onRoom Enough = putPage
   onRoom Short = added 12 T
-  onRoom Wild = added 14 T
+  onRoom spans.Broken = added 14 T
 
   unfoldable pub placePage : Added
   placePage = onRoom (roomOf (given T) (T .nodes) (T .pages) (T .sketches) x (getD (T .settings) freeAt 0))

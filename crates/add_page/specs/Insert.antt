@@ -4,12 +4,14 @@ use mathlib.Core.List.{List}
 use Rattle.meaning.specs.Ledger.{Settings}
 use Rattle.meaning.specs.Forest.{bytesOfSketch}
 use Rattle.layout.specs.Pages.{nextAt}
-use Rattle.trie.specs.declared.leaf.Got.the-variants.{Node, Full, Bad}
+use Rattle.trie.specs.declared.leaf.Got.the-variants.{Node, Full}
+use Rattle.trie.specs.declared.leaf.Got.the-variants as got
 use Rattle.trie_insert.specs.Pages.{After, after}
 use Rattle.trie_insert.specs.Insert.{insertPage}
 use Rattle.trie_room.specs.RowBytes.{rowsOf}
 use Rattle.add_page.specs.declared.insert.Inserted.{Inserted}
-use Rattle.add_page.specs.declared.insert.Inserted.the-variants.{Free, Stopped}
+use Rattle.add_page.specs.declared.insert.Inserted.the-variants.{Free}
+use Rattle.add_page.specs.declared.insert.Inserted.the-variants as inserted
 
 -- both tables and the answer
 pub data Filled : Type 0 where
@@ -17,8 +19,8 @@ pub data Filled : Type 0 where
 
 abbrev pub onInsert : (List ℕ → List ℕ → ℕ → Filled) → After → Filled
 onInsert go (after N P (Node n free)) = go N P free
-onInsert go (after N P Full) = filled N P Stopped
-onInsert go (after N P Bad) = filled N P Stopped
+onInsert go (after N P Full) = filled N P inserted.Broken
+onInsert go (after N P got.Broken) = filled N P inserted.Broken
 
 module _ (s : Settings) (S x : List ℕ) (p : ℕ) where
   -- block j

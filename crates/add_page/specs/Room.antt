@@ -5,7 +5,7 @@ use Rattle.meaning.specs.Ledger.{Settings}
 use Rattle.meaning.specs.Forest.{bytesOfSketch}
 use Rattle.layout.specs.Pages.{nextAt}
 use Rattle.trie.specs.declared.span.Span.{Span}
-use Rattle.trie.specs.declared.span.Span.the-variants.{Wild}
+use Rattle.trie.specs.declared.span.Span.the-variants as spans
 use Rattle.trie.specs.Model.{spanFrom}
 use Rattle.trie_room.specs.declared.needed.Needed.{Needed}
 use Rattle.trie_room.specs.declared.needed.Needed.the-variants.{Nodes, Broken}
@@ -23,7 +23,7 @@ neededFrom f a j (suc k) = onNodes (λ n. neededFrom f (a + n) (suc j) k) (f j)
 
 abbrev pub whereFree : (ℕ → Span) → Needed → Span
 whereFree go (Nodes n) = go n
-whereFree go Broken = Wild
+whereFree go Broken = spans.Broken
 
 module _ (s : Settings) (N P S x : List ℕ) where
   -- the trie of block j

@@ -39,7 +39,7 @@ fn put_page(
             layout::pages::write_page(pages, h.pages, p, class);
             0
         }
-        Inserted::Stopped => 14,
+        Inserted::Broken => 14,
     }
 }
 
@@ -63,7 +63,7 @@ fn place_page(
     match span {
         Span::Enough => put_page(settings, nodes, pages, sketches, h, p, class, sketch),
         Span::Short => 12,
-        Span::Wild => 14,
+        Span::Broken => 14,
     }
 }
 

@@ -14,7 +14,7 @@ use trie_room::rows::rows_of;
 // The free link then, or that a link led outside.
 pub enum Inserted {
     Free(u32),
-    Stopped,
+    Broken,
 }
 
 fn insert_block(
@@ -78,10 +78,10 @@ pub fn insert_all(
                 j += 1;
             }
             Got::Full => {
-                return Inserted::Stopped;
+                return Inserted::Broken;
             }
-            Got::Bad => {
-                return Inserted::Stopped;
+            Got::Broken => {
+                return Inserted::Broken;
             }
         }
     }

@@ -91,6 +91,6 @@ pub fn room(
     let needed = all_needed(thresholds, nodes, pages, sketches, h, sketch);
     match needed {
         Needed::Nodes(n) => enough_free(nodes, h.nodes, free, n),
-        Needed::Broken => Span::Wild,
+        Needed::Broken => Span::Broken,
     }
 }

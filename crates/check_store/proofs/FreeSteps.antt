@@ -46,8 +46,8 @@ module _ (N : List ℕ) (cap link f : ℕ) (R : Left) (inv : freeFrom N cap link
           let q : f ≡ suc (f - 1) = omega arith in
           sym (ap (λ n. freeFrom N cap link n) q ∙ rw (ne-eqb link 0 some) refl) ∙ inv
 
-      pub chain-wild : cap ≤ link - 1 → Failed ≡ R
-      chain-wild h = rw (lt-ltb cap link (omega arith)) at step
+      pub chain-broken : cap ≤ link - 1 → Failed ≡ R
+      chain-broken h = rw (lt-ltb cap link (omega arith)) at step
 
       module _ (inside : link - 1 < cap) (r : Bool) (free : r ≡ isFree N cap (link - 1)) where
         tested : cond r (freeFrom N cap (getD N (link - 1) 0) (f - 1)) Failed ≡ R

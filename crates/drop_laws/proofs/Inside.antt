@@ -16,11 +16,13 @@ use Rattle.layout.proofs.Rows.{rows-apart}
 use Rattle.layout.proofs.Words.{link-behind}
 use Rattle.trie.specs.Model.{linkAt}
 use Rattle.trie_path.specs.declared.Reach.{Reach}
-use Rattle.trie_path.specs.declared.Reach.the-variants.{Leaf, Gap, Broken as Lost}
+use Rattle.trie_path.specs.declared.Reach.the-variants.{Leaf, Gap}
+use Rattle.trie_path.specs.declared.Reach.the-variants as reach
 use Rattle.trie_path.specs.Descend.{descendTo, Inside as ReachInside}
 use Rattle.trie_path.proofs.Inside.{descend-inside}
 use Rattle.trie_room.specs.RowBytes.{rowBytes}
-use Rattle.trie_remove.specs.declared.Taken.the-variants.{First, Inside as Amid, Missing as Absent, Broken as Torn}
+use Rattle.trie_remove.specs.declared.Taken.the-variants.{First}
+use Rattle.trie_remove.specs.declared.Taken.the-variants as taken
 use Rattle.trie_remove.specs.declared.Removed.the-variants.{Done, Broken}
 use Rattle.trie_remove.specs.Take.{Took, took, takeFrom, takePage}
 use Rattle.trie_remove.specs.Remove.{Freed, freed, Gone, gone, goneTo, freeChild, setFirst, removeTaken, removeAt, removeReached, removePage}
@@ -53,7 +55,7 @@ module _ (lo hi pcap base p : ℕ) (low : lo ≤ base) (high : base + pcap ≤ h
   behind-within (suc f) P l = go (eqb l 0) refl (ltb pcap l) refl (eqb (getD P (base + (l - 1)) 0) (p + 1)) (behind-within f P (getD P (base + (l - 1)) 0))
     where
       go : (z : Bool) → eqb l 0 ≡ z → (w : Bool) → ltb pcap l ≡ w → (h : Bool) → TookIn P (takeFrom P pcap base p (getD P (base + (l - 1)) 0) f) →
-          TookIn P (cond z (took P Absent) (cond w (took P Torn) (cond h (took (set P (base + (l - 1)) (getD P (base + p) 0)) Amid)
+          TookIn P (cond z (took P taken.Missing) (cond w (took P taken.Broken) (cond h (took (set P (base + (l - 1)) (getD P (base + p) 0)) taken.Inside)
           (takeFrom P pcap base p (getD P (base + (l - 1)) 0) f))))
       go true e w m h ih = within-same P
       go false e true m h ih = within-same P
@@ -67,7 +69,7 @@ module _ (lo hi pcap base p : ℕ) (low : lo ≤ base) (high : base + pcap ≤ h
   unfolding takePage
   take-within P l = go (eqb l (p + 1)) (ltb pcap (getD P (base + p) 0))
     where
-      go : (z w : Bool) → TookIn P (cond z (cond w (took P Torn) (took P (First (getD P (base + p) 0)))) (takeFrom P pcap base p l pcap))
+      go : (z w : Bool) → TookIn P (cond z (cond w (took P taken.Broken) (took P (First (getD P (base + p) 0)))) (takeFrom P pcap base p l pcap))
       go true true = within-same P
       go true false = within-same P
       go false w = behind-within pcap P l
@@ -115,9 +117,9 @@ module _ (cap lo hi pcap base p : ℕ) (low : lo ≤ base) (high : base + pcap �
 
       go : (t : Took) → TookIn lo hi pcap base p low high P t → GoneIn cap lo hi N P (removeTaken N cap n s k free t)
       go (took P' (First l)) h = left P' (setFirst N cap n s k l free) (first-within cap N n s k l free ln ls) h
-      go (took P' Amid) h = (within-same N, h)
-      go (took P' Absent) h = (within-same N, h)
-      go (took P' Torn) h = (within-same N, h)
+      go (took P' taken.Inside) h = (within-same N, h)
+      go (took P' taken.Missing) h = (within-same N, h)
+      go (took P' taken.Broken) h = (within-same N, h)
 
   page-within : (N P Y : List ℕ) (root free : ℕ) → root < cap → ((k : ℕ) → getD Y k 0 < 256) → GoneIn cap lo hi N P (removePage N P cap pcap base root Y p free)
   unfolding removePage
@@ -126,7 +128,7 @@ module _ (cap lo hi pcap base p : ℕ) (low : lo ≤ base) (high : base + pcap �
       go : (r : Reach) → ReachInside N cap (length Y) r → GoneIn cap lo hi N P (removeReached N P cap pcap base p free r)
       go (Leaf n s k) h = at-within N P n s k free (h .0) (h .1)
       go (Gap n s k) h = (within-same N, within-same P)
-      go Lost h = (within-same N, within-same P)
+      go reach.Broken h = (within-same N, within-same P)
 
 -- ---- all blocks
 module _ (s : Settings) (S : List ℕ) (p : ℕ) (enough : s .blocks ≤ s .nodes) (octets : (j k : ℕ) → getD (rowBytes s j S p) k 0 < 256) where

@@ -12,7 +12,7 @@ module _ (bytesOf : ℕ → List ℕ) (b n len : ℕ) where
   mutual
     pub sound-path : (t : Tree) (k : ℕ) → soundTrie bytesOf b n len k t ≡ true → OnPath bytesOf k t
     sound-path (leaf ps) k h = tt
-    sound-path (inner cs) k h = path-under cs k 0 (inner-parts bytesOf b n len k cs h .kids)
+    sound-path (inner cs) k h = path-under cs k 0 (inner-parts bytesOf b n len k cs h .childrenB)
 
     path-under : (cs : Children) (k lo : ℕ) → soundFrom bytesOf b n len k lo cs ≡ true → OnPathUnder bytesOf k cs
     path-under none k lo h = tt
@@ -25,7 +25,7 @@ module _ (bytesOf : ℕ → List ℕ) (b n len : ℕ) where
     sound-shallow (leaf ps) k h = tt
     sound-shallow (inner cs) k h =
         let parts = inner-parts bytesOf b n len k cs h in
-        (parts .level, shallow-under cs k 0 (parts .kids))
+        (parts .level, shallow-under cs k 0 (parts .childrenB))
 
     shallow-under : (cs : Children) (k lo : ℕ) → soundFrom bytesOf b n len k lo cs ≡ true → ShallowUnder len k cs
     shallow-under none k lo h = tt

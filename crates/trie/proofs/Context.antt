@@ -6,7 +6,7 @@ use native.Mathlib.Omega.{arith}
 use Rattle.meaning.specs.Trie.{Tree, inner, Children, child, nodes}
 use Rattle.layout.specs.Nodes.{chainWord, stateAt, innerState}
 use Rattle.trie.specs.Heap.{Cells, nil, node, _⊕_}
-use Rattle.trie.specs.Phys.{Phys, Buckets, Chain, root, tree, kids, kidsC, freeCells, cells, cellsC, Sound, SoundC, State, innerP, link}
+use Rattle.trie.specs.Phys.{Phys, Buckets, Chain, root, tree, childrenB, childrenC, freeCells, cells, cellsC, Sound, SoundC, State, innerP, link}
 use Rattle.trie.proofs.Frame.{Less, less, less-right, Same}
 use Rattle.trie.proofs.Abstract.{Kept, Walks}
 use Rattle.trie.proofs.Spot.{SpotB}
@@ -71,21 +71,21 @@ module _ (cap pcap base : ℕ) (small : cap ≤ 262144) (byte : ℕ → ℕ) whe
         }
 
     abbrev pub belowT : Tree → Tree
-    belowT x = inner (s .before (child (byte j) x (kidsC after (s .later))))
+    belowT x = inner (s .before (child (byte j) x (childrenC after (s .later))))
 
     pub below-count : (x y : Tree) → nodes (C .around (belowT x)) + nodes y ≡ nodes (C .around (belowT y)) + nodes x
     unfolding nodes
     below-count x y =
-        let K : Children = kidsC after (s .later) in
+        let K : Children = childrenC after (s .later) in
         omega (arith, C .count (belowT x) (belowT y), s .count (child (byte j) x K) (child (byte j) y K))
 
     pub below-lift : (F : ℕ → Tree → Tree) (w : Walks byte F) (x : Tree) → Kept (F (suc j) x) → belowT (F (suc j) x) ≡ F j (belowT x)
     below-lift F w x z =
-        let K : Children = kidsC after (s .later) in
+        let K : Children = childrenC after (s .later) in
         ap inner (ap (s .before) (sym (w .here j x K z)) ∙ sym (s .skip (w .below j) (w .skips j) (child (byte j) x K))) ∙ sym (w .inside j (s .before (child (byte j) x K)))
 
     pub kept-below : (F : ℕ → Tree → Tree) (w : Walks byte F) (x : Tree) → Kept (F j (belowT x))
-    kept-below F w x = rw (w .inside j (s .before (child (byte j) x (kidsC after (s .later))))) tt
+    kept-below F w x = rw (w .inside j (s .before (child (byte j) x (childrenC after (s .later))))) tt
 
     unfoldable pub inside : n < cap → byte j < 256 → SoundC cap pcap after (suc (byte j)) (32 * (byte j / 32) + 32) → Context k top (suc j) m
     inside l b g =
@@ -96,7 +96,7 @@ module _ (cap pcap base : ℕ) (small : cap ≤ 262144) (byte : ℕ → ℕ) whe
           same = below-same;
           sound = λ u h. C .sound (below u) (l, s .sound (link (byte j) u after) (omega arith, omega arith, h, g));
           around = λ x. C .around (belowT x);
-          trees = λ u. C .trees (below u) ∙ ap (λ (cs : Children). C .around (inner cs)) (s .kids (link (byte j) u after));
+          trees = λ u. C .trees (below u) ∙ ap (λ (cs : Children). C .around (inner cs)) (s .childrenB (link (byte j) u after));
           count = below-count;
           lift = λ F w x z. ap (C .around) (below-lift F w x z) ∙ C .lift F w (belowT x) (kept-below F w x);
         }

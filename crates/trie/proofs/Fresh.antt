@@ -11,7 +11,7 @@ use Rattle.layout.specs.Nodes.{chainWord, withLink, stateAt, freeState, innerSt
 use Rattle.trie.specs.declared.leaf.Got.the-variants.{Node}
 use Rattle.trie.specs.Heap.{Cells, Holds, Heap, nil, node, _⊕_}
 use Rattle.trie.specs.Model.{linkAt, linkLeaf, freshLeaf, made}
-use Rattle.trie.specs.Phys.{Phys, Buckets, Chain, root, kidsC, first, noHeads, freeCells, cells, cellsC, SoundC, State, leafP, innerP, stop, link}
+use Rattle.trie.specs.Phys.{Phys, Buckets, Chain, root, childrenC, first, noHeads, freeCells, cells, cellsC, SoundC, State, leafP, innerP, stop, link}
 use Rattle.trie.proofs.Frame.{Less, less, Same, node-write3, nodes-kept}
 use Rattle.trie.proofs.Abstract.{Above}
 use Rattle.trie.proofs.Steps.{fresh-made}
@@ -51,7 +51,7 @@ module _ (cap pcap base : ℕ) (small : cap ≤ 262144) where
       more : (c ≡ b → ⊥) → b ≤ c → suc b ≤ c
       more z l = omega arith
 
-  pub tail-above : (ch : Chain) (b hi : ℕ) (later : Children) → starts ch b ≡ false → SoundC cap pcap ch b hi → Above b later → Above b (kidsC ch later)
+  pub tail-above : (ch : Chain) (b hi : ℕ) (later : Children) → starts ch b ≡ false → SoundC cap pcap ch b hi → Above b later → Above b (childrenC ch later)
   tail-above stop b hi later e g l = l
   tail-above (link c t ch) b hi later e g l = past (link c t ch) b hi e g .0
 

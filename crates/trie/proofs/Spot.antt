@@ -13,7 +13,7 @@ use Rattle.trie.specs.declared.place.Place.{Place}
 use Rattle.trie.specs.declared.place.Place.the-variants.{Found, Missing}
 use Rattle.trie.specs.Heap.{Cells, Holds, nil, node, _⊕_}
 use Rattle.trie.specs.Model.{linkAt, placeFrom, findPlace}
-use Rattle.trie.specs.Phys.{Phys, Buckets, Chain, root, tree, kids, kidsC, cells, cellsB, cellsC, Sound, SoundB, SoundC, leafP, innerP, end, bucket, stop, link}
+use Rattle.trie.specs.Phys.{Phys, Buckets, Chain, root, tree, childrenB, childrenC, cells, cellsB, cellsC, Sound, SoundB, SoundC, leafP, innerP, end, bucket, stop, link}
 use Rattle.trie.proofs.Frame.{Same, same-trans, same-right, same-left, same-assoc, same-swap}
 use Rattle.trie.proofs.Abstract.{Skips, Above, Leaves, leaves-next}
 use Rattle.trie.proofs.Steps.{place-none, place-go, place-found, place-past}
@@ -42,13 +42,13 @@ unfolding nodes
 child-count c t xs ys cs ds e = omega arith
 
 chain-count : (ch : Chain) (xs ys cs ds : Children) → nodesIn xs + nodesIn ds ≡ nodesIn ys + nodesIn cs →
-    nodesIn (kidsC ch xs) + nodesIn ds ≡ nodesIn (kidsC ch ys) + nodesIn cs
+    nodesIn (childrenC ch xs) + nodesIn ds ≡ nodesIn (childrenC ch ys) + nodesIn cs
 chain-count stop xs ys cs ds e = e
-chain-count (link c t ch) xs ys cs ds e = child-count c (tree t) (kidsC ch xs) (kidsC ch ys) cs ds (chain-count ch xs ys cs ds e)
+chain-count (link c t ch) xs ys cs ds e = child-count c (tree t) (childrenC ch xs) (childrenC ch ys) cs ds (chain-count ch xs ys cs ds e)
 
-leaves-chain : (ch : Chain) (cs : Children) → Leaves (kidsC ch cs) → Leaves cs
+leaves-chain : (ch : Chain) (cs : Children) → Leaves (childrenC ch cs) → Leaves cs
 leaves-chain stop cs z = z
-leaves-chain (link c t ch) cs z = leaves-chain ch cs (leaves-next c (tree t) (kidsC ch cs) z)
+leaves-chain (link c t ch) cs z = leaves-chain ch cs (leaves-next c (tree t) (childrenC ch cs) z)
 
 module _ (cap pcap base : ℕ) (small : cap ≤ 262144) where
   pub root-below : (t : Phys) → Sound cap pcap t → root t < cap
@@ -72,7 +72,7 @@ module _ (cap pcap base : ℕ) (small : cap ≤ 262144) where
     pub same : (x : Chain) → Same (cellsC cap base (put x) s y) (cellsC cap base x slot byte ⊕ rest)
     pub from : SoundC cap pcap tail b hi
     pub sound : (x : Chain) → SoundC cap pcap x b hi → SoundC cap pcap (put x) lo hi
-    pub kids : (x : Chain) (cs : Children) → kidsC (put x) cs ≡ before (kidsC x cs)
+    pub childrenB : (x : Chain) (cs : Children) → childrenC (put x) cs ≡ before (childrenC x cs)
     pub count : (cs ds : Children) → nodesIn (before cs) + nodesIn ds ≡ nodesIn (before ds) + nodesIn cs
     pub leaves : (cs : Children) → Leaves (before cs) → Leaves cs
     pub skip : (F : Children → Children) → Skips b F → (cs : Children) → F (before cs) ≡ before (F cs)
@@ -96,7 +96,7 @@ module _ (cap pcap base : ℕ) (small : cap ≤ 262144) where
         };
         from = g;
         sound = λ x. weaken x lo b hi l;
-        kids = λ x cs. refl;
+        childrenB = λ x cs. refl;
         count = λ cs ds. omega arith;
         leaves = λ cs z. z;
         skip = λ F z cs. refl;
@@ -139,7 +139,7 @@ module _ (cap pcap base : ℕ) (small : cap ≤ 262144) where
         };
         from = r .from;
         sound = λ x z. (g .0, g .1, g .2, r .sound x z);
-        kids = λ x cs. ap (child c (tree t)) (r .kids x cs);
+        childrenB = λ x cs. ap (child c (tree t)) (r .childrenB x cs);
         count = λ cs ds. child-count c (tree t) (r .before cs) (r .before ds) cs ds (r .count cs ds);
         leaves = λ cs z. r .leaves cs (leaves-next c (tree t) (r .before cs) z);
         skip = λ F z cs. z c (tree t) (r .before cs) k ∙ ap (child c (tree t)) (r .skip F z cs);
@@ -189,22 +189,22 @@ module _ (cap pcap base : ℕ) (small : cap ≤ 262144) where
     pub same : (x : Chain) → Same (cellsB cap base (put x) n g) (cellsC cap base x slot byte ⊕ rest)
     pub from : SoundC cap pcap tail b (32 * (b / 32) + 32)
     pub sound : (x : Chain) → SoundC cap pcap x b (32 * (b / 32) + 32) → SoundB cap pcap (put x) g
-    pub kids : (x : Chain) → kids (put x) ≡ before (kidsC x later)
+    pub childrenB : (x : Chain) → childrenB (put x) ≡ before (childrenC x later)
     pub above : Above b later
     pub count : (cs ds : Children) → nodesIn (before cs) + nodesIn ds ≡ nodesIn (before ds) + nodesIn cs
     pub leaves : (cs : Children) → Leaves (before cs) → Leaves cs
     pub skip : (F : Children → Children) → Skips b F → (cs : Children) → F (before cs) ≡ before (F cs)
     pub find : (N P : List ℕ) → Holds (cellsB cap base bs n g) N P → findPlace N cap n b ≡ answer (starts tail b) slot (headC tail)
 
-  kids-above : (bs : Buckets) (g b : ℕ) → SoundB cap pcap bs g → b < 32 * g → Above b (kids bs)
-  kids-above end g b h l = tt
-  kids-above (bucket stop bs) g b h l = kids-above bs (suc g) b (h .1) (omega arith)
-  kids-above (bucket (link c t ch) bs) g b h l = omega (arith, h .0 .0)
+  children-above : (bs : Buckets) (g b : ℕ) → SoundB cap pcap bs g → b < 32 * g → Above b (childrenB bs)
+  children-above end g b h l = tt
+  children-above (bucket stop bs) g b h l = children-above bs (suc g) b (h .1) (omega arith)
+  children-above (bucket (link c t ch) bs) g b h l = omega (arith, h .0 .0)
 
-  skip-chain : (ch : Chain) (b lo hi : ℕ) (F : Children → Children) → Skips b F → SoundC cap pcap ch lo hi → hi ≤ b → (cs : Children) → F (kidsC ch cs) ≡ kidsC ch (F cs)
+  skip-chain : (ch : Chain) (b lo hi : ℕ) (F : Children → Children) → Skips b F → SoundC cap pcap ch lo hi → hi ≤ b → (cs : Children) → F (childrenC ch cs) ≡ childrenC ch (F cs)
   skip-chain stop b lo hi F z h l cs = refl
   skip-chain (link c t ch) b lo hi F z h l cs =
-      z c (tree t) (kidsC ch cs) (omega (arith, h .1)) ∙ ap (child c (tree t)) (skip-chain ch b (suc c) hi F z (h .3) l cs)
+      z c (tree t) (childrenC ch cs) (omega (arith, h .1)) ∙ ap (child c (tree t)) (skip-chain ch b (suc c) hi F z (h .3) l cs)
 
   spot-here : (ch : Chain) (bs : Buckets) (n g b : ℕ) → b / 32 ≡ g → b < 256 → SoundB cap pcap (bucket ch bs) g → SpotC ch b (headAt cap n g) 0 (32 * g) (32 * g + 32) → SpotB (bucket ch bs) n g b
   unfolding findPlace
@@ -216,16 +216,16 @@ module _ (cap pcap base : ℕ) (small : cap ≤ 262144) where
         rest = r .rest ⊕ cellsB cap base bs n (suc g);
         put = λ x. bucket (r .put x) bs;
         before = r .before;
-        later = kids bs;
+        later = childrenB bs;
         within = λ i. r .within (omega (arith, k));
         whole = ap (λ (x : Chain). bucket x bs) (r .whole);
         same = λ x. same-trans (same-left (cellsB cap base bs n (suc g)) (r .same x)) (same-assoc (cellsC cap base x (r .slot) (r .byte)) (r .rest) (cellsB cap base bs n (suc g)));
         from = rw q (r .from);
         sound = λ x z. (r .sound x (rw q at z), h .1);
-        kids = λ x. r .kids x (kids bs);
+        childrenB = λ x. r .childrenB x (childrenB bs);
         count = r .count;
         leaves = r .leaves;
-        above = kids-above bs (suc g) b (h .1) (omega arith);
+        above = children-above bs (suc g) b (h .1) (omega arith);
         skip = r .skip;
         find = λ N P z. rw q (r .find N P 33 (omega arith) (omega arith) (z .0));
       }
@@ -238,18 +238,18 @@ module _ (cap pcap base : ℕ) (small : cap ≤ 262144) where
         byte = r .byte;
         rest = cellsC cap base ch (headAt cap n g) 0 ⊕ r .rest;
         put = λ x. bucket ch (r .put x);
-        before = λ cs. kidsC ch (r .before cs);
+        before = λ cs. childrenC ch (r .before cs);
         later = r .later;
         within = r .within;
         whole = ap (bucket ch) (r .whole);
         same = λ x. same-trans (same-right (cellsC cap base ch (headAt cap n g) 0) (r .same x)) (same-swap (cellsC cap base ch (headAt cap n g) 0) (cellsC cap base x (r .slot) (r .byte)) (r .rest));
         from = r .from;
         sound = λ x z. (h .0, r .sound x z);
-        kids = λ x. ap (kidsC ch) (r .kids x);
+        childrenB = λ x. ap (childrenC ch) (r .childrenB x);
         count = λ cs ds. chain-count ch (r .before cs) (r .before ds) cs ds (r .count cs ds);
         leaves = λ cs z. r .leaves cs (leaves-chain ch (r .before cs) z);
         above = r .above;
-        skip = λ F z cs. skip-chain ch b (32 * g) (32 * g + 32) F z (h .0) (omega arith) (r .before cs) ∙ ap (kidsC ch) (r .skip F z cs);
+        skip = λ F z cs. skip-chain ch b (32 * g) (32 * g + 32) F z (h .0) (omega arith) (r .before cs) ∙ ap (childrenC ch) (r .skip F z cs);
         find = λ N P z. r .find N P (z .1);
       }
 

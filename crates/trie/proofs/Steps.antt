@@ -8,11 +8,13 @@ use borrow.Author.Tests.{le-ltb, lt-ltb, eq-eqb, ne-eqb}
 use lib.Dec.{ltb, eqb}
 use lib.ListN.{getD}
 use Rattle.trie.specs.declared.leaf.Got.{Got}
-use Rattle.trie.specs.declared.leaf.Got.the-variants.{Node, Full, Bad}
+use Rattle.trie.specs.declared.leaf.Got.the-variants.{Node, Full}
+use Rattle.trie.specs.declared.leaf.Got.the-variants as got
 use Rattle.trie.specs.declared.place.Place.{Place}
 use Rattle.trie.specs.declared.place.Place.the-variants.{Found, Missing, Broken}
 use Rattle.trie.specs.declared.span.Span.{Span}
-use Rattle.trie.specs.declared.span.Span.the-variants.{Enough, Short, Wild}
+use Rattle.trie.specs.declared.span.Span.the-variants.{Enough, Short}
+use Rattle.trie.specs.declared.span.Span.the-variants as spans
 use Rattle.trie.specs.Model.{Inside, linkAt, childAt, byteIn, placeFrom, findPlace, linkLeaf, made, nodeIn, freshLeaf, childLeaf, spanFrom}
 
 pub suc-pred : (f : ℕ) → (f ≡ 0 → ⊥) → f ≡ suc (f - 1)
@@ -37,8 +39,8 @@ module _ (N : List ℕ) (cap b s f : ℕ) (R : Place) (inv : placeFrom N cap b s
     place-none e = rw (eq-eqb _ _ e) at place-step
 
     module _ (e : linkAt N s ≡ 0 → ⊥) where
-      pub place-wild : cap < linkAt N s → Broken ≡ R
-      place-wild l = rw (ne-eqb _ _ e, lt-ltb _ _ l) at place-step
+      pub place-broken : cap < linkAt N s → Broken ≡ R
+      place-broken l = rw (ne-eqb _ _ e, lt-ltb _ _ l) at place-step
 
       module _ (l : linkAt N s ≤ cap) where
         pub place-go : byteIn N (childAt N s) < b → placeFrom N cap b (childAt N s) (f - 1) ≡ R
@@ -58,9 +60,9 @@ module _ (N : List ℕ) (cap s b free : ℕ) where
   fresh-full e = rw (eq-eqb free 0 e) refl
 
   module _ (h : free ≡ 0 → ⊥) where
-    pub fresh-wild : cap ≤ free - 1 → made N Bad ≡ freshLeaf N cap s b free
+    pub fresh-broken : cap ≤ free - 1 → made N got.Broken ≡ freshLeaf N cap s b free
     unfolding freshLeaf
-    fresh-wild l = rw (ne-eqb free 0 h, lt-ltb cap free (omega arith)) refl
+    fresh-broken l = rw (ne-eqb free 0 h, lt-ltb cap free (omega arith)) refl
 
     pub fresh-made : (ns : List ℕ) → free - 1 < cap → ns ≡ linkLeaf N cap s (free - 1) b → made ns (Node (free - 1) (getD N (free - 1) 0)) ≡ freshLeaf N cap s b free
     unfolding freshLeaf
@@ -89,9 +91,9 @@ module _ (N : List ℕ) (cap n b free : ℕ) (r : Place) (e : r ≡ findPlace N 
   unfolding childLeaf
   child-made ns g s q m = rw (sym e ∙ q) m
 
-  pub child-lost : r ≡ Broken → made N Bad ≡ childLeaf N cap n b free
+  pub child-nowhere : r ≡ Broken → made N got.Broken ≡ childLeaf N cap n b free
   unfolding childLeaf
-  child-lost q = rw (sym e ∙ q) refl
+  child-nowhere q = rw (sym e ∙ q) refl
 
 -- `spanFrom` at each way out of a turn. R is what the walk comes to in the end
 module _ (T : List ℕ) (base cap l f : ℕ) (R : Span) (inv : spanFrom T base cap l f ≡ R) where
@@ -100,7 +102,7 @@ module _ (T : List ℕ) (base cap l f : ℕ) (R : Span) (inv : spanFrom T base c
   span-out e = rw e at inv
 
   module _ (h : f ≡ 0 → ⊥) where
-    span-step : cond (eqb l 0) Short (cond (ltb cap l) Wild (spanFrom T base cap (getD T (base + (l - 1)) 0) (f - 1))) ≡ R
+    span-step : cond (eqb l 0) Short (cond (ltb cap l) spans.Broken (spanFrom T base cap (getD T (base + (l - 1)) 0) (f - 1))) ≡ R
     unfolding spanFrom
     span-step = ap (spanFrom T base cap l) (sym (suc-pred f h)) ∙ inv
 
@@ -108,8 +110,8 @@ module _ (T : List ℕ) (base cap l f : ℕ) (R : Span) (inv : spanFrom T base c
     span-end e = rw (eq-eqb l 0 e) at span-step
 
     module _ (e : l ≡ 0 → ⊥) where
-      pub span-wild : cap < l → Wild ≡ R
-      span-wild m = rw (ne-eqb l 0 e, lt-ltb cap l m) at span-step
+      pub span-broken : cap < l → spans.Broken ≡ R
+      span-broken m = rw (ne-eqb l 0 e, lt-ltb cap l m) at span-step
 
       pub span-next : l ≤ cap → spanFrom T base cap (getD T (base + (l - 1)) 0) (f - 1) ≡ R
       span-next m = rw (ne-eqb l 0 e, le-ltb cap l m) at span-step

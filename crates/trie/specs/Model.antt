@@ -8,11 +8,13 @@ use Rattle.layout.specs.Nodes.{linkOf, byteOf, chainWord, withLink, stateAt, he
 use Rattle.trie.specs.declared.Level.{Level}
 use Rattle.trie.specs.declared.Rows.{Rows}
 use Rattle.trie.specs.declared.leaf.Got.{Got}
-use Rattle.trie.specs.declared.leaf.Got.the-variants.{Node, Full, Bad}
+use Rattle.trie.specs.declared.leaf.Got.the-variants.{Node, Full}
+use Rattle.trie.specs.declared.leaf.Got.the-variants as got
 use Rattle.trie.specs.declared.place.Place.{Place}
 use Rattle.trie.specs.declared.place.Place.the-variants.{Found, Missing, Broken}
 use Rattle.trie.specs.declared.span.Span.{Span}
-use Rattle.trie.specs.declared.span.Span.the-variants.{Enough, Short, Wild}
+use Rattle.trie.specs.declared.span.Span.the-variants.{Enough, Short}
+use Rattle.trie.specs.declared.span.Span.the-variants as spans
 
 -- a place inside the table: its slot, and the child there
 abbrev pub slotOf : Place → ℕ
@@ -64,18 +66,18 @@ pub data Made : Type 0 where
 abbrev pub nodeIn : Got → ℕ
 nodeIn (Node n free) = suc n
 nodeIn Full = 0
-nodeIn Bad = 0
+nodeIn got.Broken = 0
 
 unfoldable pub freshLeaf : List ℕ → ℕ → ℕ → ℕ → ℕ → Made
 freshLeaf N cap s b free =
     cond (eqb free 0) (made N Full)
-    (cond (ltb cap free) (made N Bad)
+    (cond (ltb cap free) (made N got.Broken)
     (made (linkLeaf N cap s (free - 1) b) (Node (free - 1) (getD N (free - 1) 0))))
 
 abbrev pub madeAt : List ℕ → ℕ → ℕ → ℕ → Place → Made
 madeAt N cap b free (Found s c) = made N (Node c free)
 madeAt N cap b free (Missing s) = freshLeaf N cap s b free
-madeAt N cap b free Broken = made N Bad
+madeAt N cap b free Broken = made N got.Broken
 
 -- the child of byte b of node n, which is made where it is missing
 unfoldable pub childLeaf : List ℕ → ℕ → ℕ → ℕ → ℕ → Made
@@ -102,4 +104,4 @@ levelAt r k = record {
 -- whether a chain from link l on has f members, whose links stand from base on
 unfoldable pub spanFrom : List ℕ → ℕ → ℕ → ℕ → ℕ → Span
 spanFrom T base cap l zero = Enough
-spanFrom T base cap l (suc f) = cond (eqb l 0) Short (cond (ltb cap l) Wild (spanFrom T base cap (getD T (base + (l - 1)) 0) f))
+spanFrom T base cap l (suc f) = cond (eqb l 0) Short (cond (ltb cap l) spans.Broken (spanFrom T base cap (getD T (base + (l - 1)) 0) f))

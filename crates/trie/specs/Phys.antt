@@ -28,15 +28,15 @@ root (innerP n bs) = n
 abbrev mutual
   pub tree : Phys → Tree
   tree (leafP n ps) = leaf ps
-  tree (innerP n bs) = inner (kids bs)
+  tree (innerP n bs) = inner (childrenB bs)
 
-  pub kids : Buckets → Children
-  kids end = none
-  kids (bucket ch bs) = kidsC ch (kids bs)
+  pub childrenB : Buckets → Children
+  childrenB end = none
+  childrenB (bucket ch bs) = childrenC ch (childrenB bs)
 
-  pub kidsC : Chain → Children → Children
-  kidsC stop cs = cs
-  kidsC (link b t ch) cs = child b (tree t) (kidsC ch cs)
+  pub childrenC : Chain → Children → Children
+  childrenC stop cs = cs
+  childrenC (link b t ch) cs = child b (tree t) (childrenC ch cs)
 
 -- eight empty chains
 abbrev pub empty : Buckets

@@ -26,7 +26,7 @@ fn link_leaf(nodes: &mut [u32], cap: usize, slot: usize, f: usize, byte: u32)
 pub enum Got {
     Node(usize, u32),
     Full,
-    Bad,
+    Broken,
 }
 
 // The first free node as an empty leaf with a byte, linked into a slot.
@@ -42,7 +42,7 @@ pub fn fresh_leaf(nodes: &mut [u32], cap: usize, slot: usize, byte: u32, free: u
     }
     let f = (free as usize) - 1;
     if f >= cap {
-        return Got::Bad;
+        return Got::Broken;
     }
     let next = nodes[f];
     link_leaf(nodes, cap, slot, f, byte);
@@ -61,6 +61,6 @@ pub fn child_leaf(nodes: &mut [u32], cap: usize, n: usize, byte: u32, free: u32)
     match place {
         Place::Found(_, child) => Got::Node(child, free),
         Place::Missing(slot) => fresh_leaf(nodes, cap, slot, byte, free),
-        Place::Broken => Got::Bad,
+        Place::Broken => Got::Broken,
     }
 }

@@ -8,7 +8,7 @@ ghost use Rattle.trie.specs.Model.{spanFrom};
 pub enum Span {
     Enough,
     Short,
-    Wild,
+    Broken,
 }
 
 // The chain begins at link `first`; member i, below `cap`, has its link at base + i.
@@ -26,7 +26,7 @@ pub fn at_least(table: &[u32], base: usize, cap: usize, first: u32, need: usize)
             return Span::Short;
         }
         if cap < link {
-            return Span::Wild;
+            return Span::Broken;
         }
         link = table[base + (link - 1)] as usize;
         left -= 1;

@@ -171,11 +171,11 @@ module _ (cap pcap x : ℕ) (outside : cap ≤ x) where
   mutual
     pub uses-beyond : (t : Phys) → Sound cap pcap t → uses t x ≡ 0
     uses-beyond (leafP n ps) s = hit-other {a = x} {b = n} (λ e. omega (arith, s .0))
-    uses-beyond (innerP n bs) s = omega (arith, hit-other {a = x} {b = n} (λ e. omega (arith, s .0)), uses-beyond-kids bs 0 (s .1))
+    uses-beyond (innerP n bs) s = omega (arith, hit-other {a = x} {b = n} (λ e. omega (arith, s .0)), uses-beyond-children bs 0 (s .1))
 
-    uses-beyond-kids : (bs : Buckets) (g : ℕ) → SoundB cap pcap bs g → usesB bs x ≡ 0
-    uses-beyond-kids end g s = refl
-    uses-beyond-kids (bucket ch bs) g s = omega (arith, uses-beyond-chain ch (32 * g) (32 * g + 32) (s .0), uses-beyond-kids bs (suc g) (s .1))
+    uses-beyond-children : (bs : Buckets) (g : ℕ) → SoundB cap pcap bs g → usesB bs x ≡ 0
+    uses-beyond-children end g s = refl
+    uses-beyond-children (bucket ch bs) g s = omega (arith, uses-beyond-chain ch (32 * g) (32 * g + 32) (s .0), uses-beyond-children bs (suc g) (s .1))
 
     uses-beyond-chain : (ch : Chain) (lo hi : ℕ) → SoundC cap pcap ch lo hi → usesC ch x ≡ 0
     uses-beyond-chain stop lo hi s = refl
@@ -244,12 +244,12 @@ module _ (cap base : ℕ) (N P : List ℕ) (x : ℕ) where
     pub used-state : (t : Phys) → Holds (cells cap base t) N P → 0 < uses t x → Used
     used-state (leafP n ps) h l = let e : n ≡ x = hit-is n x l in rw (← e) (omega (arith, h .0))
     used-state (innerP n bs) h l =
-        either (hit n x) (usesB bs x) (λ k. let e : n ≡ x = hit-is n x k in rw (← e) (omega (arith, h .0))) (λ k. used-kids bs n 0 (h .1) k) l
+        either (hit n x) (usesB bs x) (λ k. let e : n ≡ x = hit-is n x k in rw (← e) (omega (arith, h .0))) (λ k. used-children bs n 0 (h .1) k) l
 
-    used-kids : (bs : Buckets) (n g : ℕ) → Holds (cellsB cap base bs n g) N P → 0 < usesB bs x → Used
-    used-kids end n g h l = absurd (omega arith)
-    used-kids (bucket ch bs) n g h l =
-        either (usesC ch x) (usesB bs x) (λ k. used-chain ch (headAt cap n g) 0 (h .0) k) (λ k. used-kids bs n (suc g) (h .1) k) l
+    used-children : (bs : Buckets) (n g : ℕ) → Holds (cellsB cap base bs n g) N P → 0 < usesB bs x → Used
+    used-children end n g h l = absurd (omega arith)
+    used-children (bucket ch bs) n g h l =
+        either (usesC ch x) (usesB bs x) (λ k. used-chain ch (headAt cap n g) 0 (h .0) k) (λ k. used-children bs n (suc g) (h .1) k) l
 
     used-chain : (ch : Chain) (s y : ℕ) → Holds (cellsC cap base ch s y) N P → 0 < usesC ch x → Used
     used-chain stop s y h l = absurd (omega arith)
@@ -279,12 +279,12 @@ module _ (cap pcap : ℕ) where
     sum-size : (t : Phys) → Sound cap pcap t → sumTo cap (λ x. uses t x) ≡ size t
     sum-size (leafP n ps) s = one-node cap n (s .0)
     sum-size (innerP n bs) s =
-        sum-add cap (λ x. hit n x) (λ x. usesB bs x) ∙ omega (arith, one-node cap n (s .0), sum-kids bs 0 (s .1))
+        sum-add cap (λ x. hit n x) (λ x. usesB bs x) ∙ omega (arith, one-node cap n (s .0), sum-children bs 0 (s .1))
 
-    sum-kids : (bs : Buckets) (g : ℕ) → SoundB cap pcap bs g → sumTo cap (λ x. usesB bs x) ≡ sizeB bs
-    sum-kids end g s = sum-none cap (λ x. 0) (λ x l. refl)
-    sum-kids (bucket ch bs) g s =
-        sum-add cap (λ x. usesC ch x) (λ x. usesB bs x) ∙ omega (arith, sum-chain ch (32 * g) (32 * g + 32) (s .0), sum-kids bs (suc g) (s .1))
+    sum-children : (bs : Buckets) (g : ℕ) → SoundB cap pcap bs g → sumTo cap (λ x. usesB bs x) ≡ sizeB bs
+    sum-children end g s = sum-none cap (λ x. 0) (λ x l. refl)
+    sum-children (bucket ch bs) g s =
+        sum-add cap (λ x. usesC ch x) (λ x. usesB bs x) ∙ omega (arith, sum-chain ch (32 * g) (32 * g + 32) (s .0), sum-children bs (suc g) (s .1))
 
     sum-chain : (ch : Chain) (lo hi : ℕ) → SoundC cap pcap ch lo hi → sumTo cap (λ x. usesC ch x) ≡ sizeC ch
     sum-chain stop lo hi s = sum-none cap (λ x. 0) (λ x l. refl)

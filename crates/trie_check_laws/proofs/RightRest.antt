@@ -14,7 +14,7 @@ use Rattle.meaning.specs.Trie.{Tree, inner, Children, none, child, nodes, nodes
 use Rattle.layout.specs.Nodes.{chainWord, stateAt, headAt, innerState}
 use Rattle.layout.specs.Pages.{isLive}
 use Rattle.trie.specs.Heap.{Holds}
-use Rattle.trie.specs.Phys.{Phys, innerP, Buckets, end, bucket, Chain, stop, link, root, tree, kids, kidsC, cells, cellsB, Sound, SoundB, SoundC}
+use Rattle.trie.specs.Phys.{Phys, innerP, Buckets, end, bucket, Chain, stop, link, root, tree, childrenB, childrenC, cells, cellsB, Sound, SoundB, SoundC}
 use Rattle.trie.proofs.Fresh.{linkC, afterC, chain-head}
 use Rattle.trie_laws.specs.Sound.{filled}
 use Rattle.trie_laws.specs.Walk.{soundWalk, walkFrom}
@@ -49,8 +49,8 @@ pub record Rest : Type 0 where
 abbrev pub rest : Chain → Buckets → Rest
 rest ch bs = record { chain = ch; later = bs }
 
-abbrev pub kidsOf : Rest → Children
-kidsOf r = kidsC (r .chain) (kids (r .later))
+abbrev pub childrenOf : Rest → Children
+childrenOf r = childrenC (r .chain) (childrenB (r .later))
 
 abbrev pub usesOf : Rest → ℕ → ℕ
 usesOf r x = usesC (r .chain) x + usesB (r .later) x
@@ -58,11 +58,11 @@ usesOf r x = usesC (r .chain) x + usesB (r .later) x
 -- together
 abbrev pub nodesAll : List Rest → ℕ
 nodesAll [] = 0
-nodesAll (r ∷ rs) = nodesIn (kidsOf r) + nodesAll rs
+nodesAll (r ∷ rs) = nodesIn (childrenOf r) + nodesAll rs
 
 abbrev pub pagesAll : List Rest → ℕ
 pagesAll [] = 0
-pagesAll (r ∷ rs) = length (pagesAmong (kidsOf r)) + pagesAll rs
+pagesAll (r ∷ rs) = length (pagesAmong (childrenOf r)) + pagesAll rs
 
 abbrev pub usesAll : List Rest → ℕ → ℕ
 usesAll [] x = 0
@@ -82,8 +82,8 @@ module _ (w : Given) (bytesOf : ℕ → List ℕ) where
     pub heldLater : Holds (cellsB cap (w .block .base) (r .later) (f .node) (suc (f .group))) (w .nodes) (w .pages)
     pub sound : SoundC cap (w .block .pages) (r .chain) (f .least) (32 * f .group + 32)
     pub soundLater : f .group ≤ 7 → SoundB cap (w .block .pages) (r .later) (suc (f .group))
-    pub walked : f .least ≤ 32 * f .group + 32 → walks k ys (f .least) (kidsOf r) ≡ true
-    pub live : all (isLive (w .pages)) (pagesAmong (kidsOf r)) ≡ true
+    pub walked : f .least ≤ 32 * f .group + 32 → walks k ys (f .least) (childrenOf r) ≡ true
+    pub live : all (isLive (w .pages)) (pagesAmong (childrenOf r)) ≡ true
 
   module _ (k : ℕ) (ys : List ℕ) (f : Frame) where
     -- nothing is left
@@ -114,7 +114,7 @@ module _ (w : Given) (bytesOf : ℕ → List ℕ) where
           );
           sound = tt;
           soundLater = λ l. subst (λ m. SoundB cap (w .block .pages) (bucket (r .chain) (r .later)) m) g (c .sound, c .soundLater (omega (arith, a .more)));
-          walked = λ l. walk-lower bytesOf (w .rows .bits) (w .rows .length) (w .rows .bytes) k ys (f .least) (32 * (f .group + 1)) (kidsOf r)
+          walked = λ l. walk-lower bytesOf (w .rows .bits) (w .rows .length) (w .rows .bytes) k ys (f .least) (32 * (f .group + 1)) (childrenOf r)
               (omega arith) (c .walked (omega arith));
           live = c .live;
         }
@@ -142,10 +142,10 @@ module _ (w : Given) (bytesOf : ℕ → List ℕ) where
           heldLater = c .heldLater;
           sound = (a .least, a .most, h .sound, subst (λ m. SoundC cap (w .block .pages) (r .chain) m (32 * f .group + 32)) g (c .sound));
           soundLater = c .soundLater;
-          walked = λ l. walk-child bytesOf (w .rows .bits) (w .rows .length) (w .rows .bytes) k ys (f .least) byte (tree t) (kidsOf r)
-              (a .least) (a .packs) (h .full) (h .walked) (subst (λ m. walks k ys m (kidsOf r) ≡ true) g (c .walked (omega (arith, a .most))));
-          live = all-append (isLive (w .pages)) (pagesIn (tree t)) (pagesAmong (kidsOf r))
-              ∙ and-intro (all (isLive (w .pages)) (pagesIn (tree t))) (all (isLive (w .pages)) (pagesAmong (kidsOf r))) (h .live) (c .live);
+          walked = λ l. walk-child bytesOf (w .rows .bits) (w .rows .length) (w .rows .bytes) k ys (f .least) byte (tree t) (childrenOf r)
+              (a .least) (a .packs) (h .full) (h .walked) (subst (λ m. walks k ys m (childrenOf r) ≡ true) g (c .walked (omega (arith, a .most))));
+          live = all-append (isLive (w .pages)) (pagesIn (tree t)) (pagesAmong (childrenOf r))
+              ∙ and-intro (all (isLive (w .pages)) (pagesIn (tree t))) (all (isLive (w .pages)) (pagesAmong (childrenOf r))) (h .live) (c .live);
         }
 
   -- an inner node whose children are the rest of its first frame
@@ -167,6 +167,6 @@ module _ (w : Given) (bytesOf : ℕ → List ℕ) where
   inner-sound k ys x r l c = (l, (c .sound, c .soundLater (omega arith)))
 
   pub inner-walked : (k : ℕ) (ys : List ℕ) (x : ℕ) (r : Rest) → k < w .rows .bytes → Covers k ys (entered (w .nodes) cap x) r
-      → soundWalk bytesOf (w .rows .bits) (w .rows .length) (w .rows .bytes) k ys (inner (kidsOf r)) ≡ true
+      → soundWalk bytesOf (w .rows .bits) (w .rows .length) (w .rows .bytes) k ys (inner (childrenOf r)) ≡ true
   unfolding entered soundWalk
   inner-walked k ys x r l c = rw (lt-ltb k (w .rows .bytes) l) (c .walked (omega arith))

@@ -14,7 +14,7 @@ use Rattle.trie_check.specs.Trie.{Given}
 use Rattle.trie_check_laws.specs.Uses.{uses}
 use Rattle.trie_check_laws.specs.Found.{one}
 use Rattle.trie_check_laws.proofs.RightStep.{AtChild, AtChain, AtEnd}
-use Rattle.trie_check_laws.proofs.RightRest.{Rest, rest, kidsOf, usesOf, nodesAll, pagesAll, usesAll, Covers, Hangs, covers-end, covers-chain, covers-child}
+use Rattle.trie_check_laws.proofs.RightRest.{Rest, rest, childrenOf, usesOf, nodesAll, pagesAll, usesAll, Covers, Hangs, covers-end, covers-chain, covers-child}
 
 module _ (w : Given) (bytesOf : ℕ → List ℕ) where
   -- the frames of a stack, the nearest first, with their rests
@@ -41,8 +41,8 @@ module _ (w : Given) (bytesOf : ℕ → List ℕ) where
     pub above : List Rest
     pub covers : Covers w bytesOf (length fs) (take (length fs) path) f here
     pub covered : Above fs path above
-    pub nodesLeft : left′ + (nodesIn (kidsOf here) + nodesAll above) ≡ left
-    pub pagesLeft : length (pagesAmong (kidsOf here)) + pagesAll above ≡ pages
+    pub nodesLeft : left′ + (nodesIn (childrenOf here) + nodesAll above) ≡ left
+    pub pagesLeft : length (pagesAmong (childrenOf here)) + pagesAll above ≡ pages
     pub long : length map′ ≡ size
     pub marks : (n : ℕ) → n < w .window .size → one (flag map′ 0 n) ≡ bits n + (usesOf here (w .window .from + n) + usesAll above (w .window .from + n))
 
@@ -113,7 +113,7 @@ module _ (w : Given) (bytesOf : ℕ → List ℕ) where
               (subst (λ ys. Covers w bytesOf (length fs) ys (pastChild f byte next) (c .here)) same (c .covers));
           covered = above-set fs (c .above) path (length fs) byte (omega arith) (c .covered);
           nodesLeft = omega (arith, c .nodesLeft);
-          pagesLeft = omega (arith, c .pagesLeft, length-append (pagesIn (tree t)) (pagesAmong (kidsOf (c .here))));
+          pagesLeft = omega (arith, c .pagesLeft, length-append (pagesIn (tree t)) (pagesAmong (childrenOf (c .here))));
           long = c .long;
           marks = λ n b. omega (arith, c .marks n b, m n b);
         }
@@ -124,24 +124,24 @@ module _ (w : Given) (bytesOf : ℕ → List ℕ) where
     pub covers : Covers w bytesOf (suc (length fs)) (take (suc (length fs)) path) f below
     pub leftAfter : ℕ
     pub pagesAfter : ℕ
-    pub nodesBelow : leftAfter + nodesIn (kidsOf below) ≡ left
-    pub pagesBelow : pagesAfter + length (pagesAmong (kidsOf below)) ≡ pages
+    pub nodesBelow : leftAfter + nodesIn (childrenOf below) ≡ left
+    pub pagesBelow : pagesAfter + length (pagesAmong (childrenOf below)) ≡ pages
     pub onward : Completes (λ n. bits n + usesOf below (w .window .from + n)) size path leftAfter pagesAfter f′ fs map′ left′
 
   pub return : (bits : ℕ → ℕ) (size : ℕ) (path : List ℕ) (left pages : ℕ) (f f′ : Frame) (fs : List Frame) (map′ : List ℕ) (left′ : ℕ)
       → Completes bits size path left pages f (f′ ∷ fs) map′ left′ → Returned bits size path left pages f f′ fs map′ left′
   return bits size path left pages f f′ fs map′ left′ c = go (c .above) (c .covered) (c .nodesLeft) (c .pagesLeft) (c .marks)
     where
-      go : (rs : List Rest) → Above (f′ ∷ fs) path rs → left′ + (nodesIn (kidsOf (c .here)) + nodesAll rs) ≡ left
-          → length (pagesAmong (kidsOf (c .here))) + pagesAll rs ≡ pages
+      go : (rs : List Rest) → Above (f′ ∷ fs) path rs → left′ + (nodesIn (childrenOf (c .here)) + nodesAll rs) ≡ left
+          → length (pagesAmong (childrenOf (c .here))) + pagesAll rs ≡ pages
           → ((n : ℕ) → n < w .window .size → one (flag map′ 0 n) ≡ bits n + (usesOf (c .here) (w .window .from + n) + usesAll rs (w .window .from + n)))
           → Returned bits size path left pages f f′ fs map′ left′
       go [] a u v m = absurd a
       go (r ∷ rs) a u v m = record {
         below = c .here;
         covers = c .covers;
-        leftAfter = left′ + (nodesIn (kidsOf r) + nodesAll rs);
-        pagesAfter = length (pagesAmong (kidsOf r)) + pagesAll rs;
+        leftAfter = left′ + (nodesIn (childrenOf r) + nodesAll rs);
+        pagesAfter = length (pagesAmong (childrenOf r)) + pagesAll rs;
         nodesBelow = omega arith;
         pagesBelow = omega arith;
         onward = record {

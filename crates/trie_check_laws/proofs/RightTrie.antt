@@ -35,7 +35,7 @@ use Rattle.trie_check_laws.proofs.RightTests.{passed}
 use Rattle.trie_check_laws.proofs.RightStep.{AtChild, step-child, step-chain, step-up}
 use Rattle.trie_check_laws.proofs.RightMark.{Once, mark-fresh}
 use Rattle.trie_check_laws.proofs.RightLeaf.{kind-inner, kind-leaf, AtLeaf, LeafPages, leaf-right}
-use Rattle.trie_check_laws.proofs.RightRest.{Rest, kidsOf, usesOf, nodesAll, pagesAll, usesAll, Covers, Hangs, inner-held, inner-sound, inner-walked}
+use Rattle.trie_check_laws.proofs.RightRest.{Rest, childrenOf, usesOf, nodesAll, pagesAll, usesAll, Covers, Hangs, inner-held, inner-sound, inner-walked}
 use Rattle.trie_check_laws.proofs.RightRun.{Above, Completes, complete-done, complete-up, complete-chain, complete-child, Returned, return}
 
 -- a leaf with a first page is not empty
@@ -116,7 +116,7 @@ module _ (w : Given) (bytesOf : ℕ → List ℕ) (reads : Reads w bytesOf) (map
           held = inner-held w bytesOf (suc k) (take (suc k) path₁) x (r .below) e c;
           sound = inner-sound w bytesOf (suc k) (take (suc k) path₁) x (r .below) (at .inside) c;
           full = refl;
-          walked = subst (λ ys. soundWalk bytesOf (w .rows .bits) (w .rows .length) (w .rows .bytes) (suc k) ys (inner (kidsOf (r .below))) ≡ true) same-path
+          walked = subst (λ ys. soundWalk bytesOf (w .rows .bits) (w .rows .length) (w .rows .bytes) (suc k) ys (inner (childrenOf (r .below))) ≡ true) same-path
               (inner-walked w bytesOf (suc k) (take (suc k) path₁) x (r .below) l c);
           live = c .live;
         }
@@ -274,7 +274,7 @@ module _ (w : Given) (bytesOf : ℕ → List ℕ) (reads : Reads w bytesOf) (map
         go (c .above) (c .covered) (c .here) (c .covers) (c .nodesLeft) (c .pagesLeft) (c .long) (c .marks)
       where
         go : (rs : List Rest) → Above w bytesOf [] path rs → (r : Rest) → Covers w bytesOf 0 (take 0 path) (entered (w .nodes) (w .block .nodes) at) r
-            → left′ + (nodesIn (kidsOf r) + nodesAll rs) ≡ left - 1 → length (pagesAmong (kidsOf r)) + pagesAll rs ≡ total → length map′ ≡ length map₁
+            → left′ + (nodesIn (childrenOf r) + nodesAll rs) ≡ left - 1 → length (pagesAmong (childrenOf r)) + pagesAll rs ≡ total → length map′ ≡ length map₁
             → ((n : ℕ) → n < w .window .size → one (flag map′ 0 n) ≡ marksIn map₁ n + (usesOf r (w .window .from + n) + usesAll rs (w .window .from + n)))
             → Answer
         go (r′ ∷ rs) a r c u v l m = absurd a

@@ -10,7 +10,7 @@ use borrow.Author.Tests.{ltb-true}
 use Rattle.meaning.specs.Lists.{all}
 use Rattle.meaning.specs.Sketch.{packable}
 use Rattle.meaning.specs.Trie.{Children, child, nodes, nodesIn, pagesIn, pagesAmong}
-use Rattle.trie.specs.Phys.{Phys, leafP, innerP, Buckets, end, bucket, Chain, stop, link, tree, kids, kidsC, SoundB}
+use Rattle.trie.specs.Phys.{Phys, leafP, innerP, Buckets, end, bucket, Chain, stop, link, tree, childrenB, childrenC, SoundB}
 use Rattle.trie_laws.specs.Sound.{filled}
 use Rattle.trie_laws.specs.Path.{follows}
 use Rattle.trie_laws.specs.Walk.{soundWalk, walkFrom}
@@ -48,13 +48,13 @@ mutual
 
   pub size-nodes : (t : Phys) → size t ≡ nodes (tree t)
   size-nodes (leafP n ps) = refl
-  size-nodes (innerP n bs) = omega (arith, size-kids bs)
+  size-nodes (innerP n bs) = omega (arith, size-children bs)
 
-  size-kids : (bs : Buckets) → sizeB bs ≡ nodesIn (kids bs)
-  size-kids end = refl
-  size-kids (bucket ch bs) = omega (arith, size-chain ch (kids bs), size-kids bs)
+  size-children : (bs : Buckets) → sizeB bs ≡ nodesIn (childrenB bs)
+  size-children end = refl
+  size-children (bucket ch bs) = omega (arith, size-chain ch (childrenB bs), size-children bs)
 
-  size-chain : (ch : Chain) (cs : Children) → sizeC ch + nodesIn cs ≡ nodesIn (kidsC ch cs)
+  size-chain : (ch : Chain) (cs : Children) → sizeC ch + nodesIn cs ≡ nodesIn (childrenC ch cs)
   size-chain stop cs = omega arith
   size-chain (link c t ch) cs = omega (arith, size-nodes t, size-chain ch cs)
 
@@ -63,16 +63,16 @@ mutual
 
   pub load-pages : (t : Phys) → load t ≡ length (pagesIn (tree t))
   load-pages (leafP n ps) = refl
-  load-pages (innerP n bs) = load-kids bs
+  load-pages (innerP n bs) = load-children bs
 
-  load-kids : (bs : Buckets) → loadB bs ≡ length (pagesAmong (kids bs))
-  load-kids end = refl
-  load-kids (bucket ch bs) = omega (arith, load-chain ch (kids bs), load-kids bs)
+  load-children : (bs : Buckets) → loadB bs ≡ length (pagesAmong (childrenB bs))
+  load-children end = refl
+  load-children (bucket ch bs) = omega (arith, load-chain ch (childrenB bs), load-children bs)
 
-  load-chain : (ch : Chain) (cs : Children) → loadC ch + length (pagesAmong cs) ≡ length (pagesAmong (kidsC ch cs))
+  load-chain : (ch : Chain) (cs : Children) → loadC ch + length (pagesAmong cs) ≡ length (pagesAmong (childrenC ch cs))
   load-chain stop cs = omega arith
   load-chain (link c t ch) cs =
-      omega (arith, load-pages t, load-chain ch cs, length-append (pagesIn (tree t)) (pagesAmong (kidsC ch cs)))
+      omega (arith, load-pages t, load-chain ch cs, length-append (pagesIn (tree t)) (pagesAmong (childrenC ch cs)))
 
 -- eight chains
 pub chains-left : (cap pcap : ℕ) (bs : Buckets) (g : ℕ) → SoundB cap pcap bs g → g ≤ 8
@@ -133,18 +133,18 @@ module _ (bytesOf : ℕ → List ℕ) (live : ℕ → Bool) (b n len : ℕ) wher
     pub fit : (t : Phys) (ys : List ℕ) → soundWalk bytesOf b n len (length ys) ys (tree t) ≡ true → all live (pagesIn (tree t)) ≡ true → Fit t ys
     fit (leafP x ps) ys h a = (h, a)
     fit (innerP x bs) ys h a =
-        let on : Bool = walkFrom bytesOf b n len (length ys) ys 0 (kids bs) in (
+        let on : Bool = walkFrom bytesOf b n len (length ys) ys 0 (childrenB bs) in (
           ltb-true (length ys) len (and-first (ltb (length ys) len) on h),
-          fit-kids bs ys (record { lo = 0; walked = and-second (ltb (length ys) len) on h; alive = a }),
+          fit-children bs ys (record { lo = 0; walked = and-second (ltb (length ys) len) on h; alive = a }),
         )
 
-    fit-kids : (bs : Buckets) (ys : List ℕ) → Rest (kids bs) ys → FitB bs ys
-    fit-kids end ys r = tt
-    fit-kids (bucket ch bs) ys r = let q = fit-chain ch (kids bs) ys r in (q .0, fit-kids bs ys (q .1))
+    fit-children : (bs : Buckets) (ys : List ℕ) → Rest (childrenB bs) ys → FitB bs ys
+    fit-children end ys r = tt
+    fit-children (bucket ch bs) ys r = let q = fit-chain ch (childrenB bs) ys r in (q .0, fit-children bs ys (q .1))
 
-    fit-chain : (ch : Chain) (cs : Children) (ys : List ℕ) → Rest (kidsC ch cs) ys → FitC ch ys × Rest cs ys
+    fit-chain : (ch : Chain) (cs : Children) (ys : List ℕ) → Rest (childrenC ch cs) ys → FitC ch ys × Rest cs ys
     fit-chain stop cs ys r = (tt, r)
     fit-chain (link c t ch) cs ys r =
-        let d : Child c t (kidsC ch cs) ys = child-tests c t (kidsC ch cs) ys r in
+        let d : Child c t (childrenC ch cs) ys = child-tests c t (childrenC ch cs) ys r in
         let q = fit-chain ch cs ys (d .rest) in
         ((d .packs, d .full, fit t (ys ++ c ∷ []) (d .sound) (d .alive), q .0), q .1)

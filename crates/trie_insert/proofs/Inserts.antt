@@ -11,7 +11,7 @@ use Rattle.trie.specs.declared.leaf.Got.the-variants.{Node}
 use Rattle.trie.specs.Heap.{Cells, page, _⊕_}
 use Rattle.trie.specs.Tables.{RowTable}
 use Rattle.trie.specs.Model.{linkLeaf, made, freshLeaf, pageByte, levelAt}
-use Rattle.trie.specs.Phys.{Phys, root, tree, kids, kidsC, Sound, SoundC, State, leafP, innerP, link}
+use Rattle.trie.specs.Phys.{Phys, root, tree, childrenB, childrenC, Sound, SoundC, State, leafP, innerP, link}
 use Rattle.trie.proofs.Frame.{same-swap}
 use Rattle.trie.proofs.Abstract.{Above}
 use Rattle.trie.proofs.Context.{Context, inside, enter, leave, beside}
@@ -72,7 +72,7 @@ module _ (bytesOf : ℕ → List ℕ) (S τ Y : List ℕ) (r : Rows) (cap pcap b
     b = byteAt bytesOf j p
 
     abbrev K : Children
-    K = kidsC (a .spot .tail) (a .spot .later)
+    K = childrenC (a .spot .tail) (a .spot .later)
 
     abbrev In : Children → Children
     In = insertIn bytesOf (r .bytes) τ j p
@@ -80,21 +80,21 @@ module _ (bytesOf : ℕ → List ℕ) (S τ Y : List ℕ) (r : Rows) (cap pcap b
     above : Above b K
     above = tail-above cap pcap base small (a .spot .tail) b (32 * (b / 32) + 32) (a .spot .later) (a .gap) (a .spot .from) (a .spot .above)
 
-    here : tree t ≡ a .way .context .around (inner (kids (a .buckets)))
+    here : tree t ≡ a .way .context .around (inner (childrenB (a .buckets)))
     here = ap tree (sym (a .way .is)) ∙ a .way .context .trees (innerP n (a .buckets))
 
-    kids-now : kids (a .buckets) ≡ a .spot .before K
-    kids-now = ap kids (sym (a .spot .whole)) ∙ a .spot .kids (a .spot .tail)
+    children-now : childrenB (a .buckets) ≡ a .spot .before K
+    children-now = ap childrenB (sym (a .spot .whole)) ∙ a .spot .childrenB (a .spot .tail)
 
     -- the children after the insertion, and that an empty leaf made first changes nothing
-    kids-then : In (kids (a .buckets)) ≡ a .spot .before (child b (addLeaf bytesOf (r .bytes) τ (suc j) p []) K)
-    kids-then =
-        ap In kids-now ∙ a .spot .skip In (insert-skips bytesOf p (r .bytes) τ j) K ∙ ap (a .spot .before) (insert-new bytesOf p (r .bytes) τ j K above)
+    children-then : In (childrenB (a .buckets)) ≡ a .spot .before (child b (addLeaf bytesOf (r .bytes) τ (suc j) p []) K)
+    children-then =
+        ap In children-now ∙ a .spot .skip In (insert-skips bytesOf p (r .bytes) τ j) K ∙ ap (a .spot .before) (insert-new bytesOf p (r .bytes) τ j K above)
 
-    kids-made : In (a .spot .before (child b (leaf []) K)) ≡ In (kids (a .buckets))
-    kids-made =
+    children-made : In (a .spot .before (child b (leaf []) K)) ≡ In (childrenB (a .buckets))
+    children-made =
         a .spot .skip In (insert-skips bytesOf p (r .bytes) τ j) (child b (leaf []) K) ∙ ap (a .spot .before) (insert-empty bytesOf p (r .bytes) τ j K above)
-        ∙ sym (a .spot .skip In (insert-skips bytesOf p (r .bytes) τ j) K) ∙ ap In (sym kids-now)
+        ∙ sym (a .spot .skip In (insert-skips bytesOf p (r .bytes) τ j) K) ∙ ap In (sym children-now)
 
     inner-lift : (cs : Children) → insert bytesOf (r .bytes) τ 0 p (a .way .context .around (inner cs)) ≡ a .way .context .around (inner (In cs))
     unfolding Insert insert
@@ -105,23 +105,23 @@ module _ (bytesOf : ℕ → List ℕ) (S τ Y : List ℕ) (r : Rows) (cap pcap b
 
     same-want : insert bytesOf (r .bytes) τ 0 p With ≡ insert bytesOf (r .bytes) τ 0 p (tree t)
     same-want =
-        inner-lift (a .spot .before (child b (leaf []) K)) ∙ ap (λ (cs : Children). a .way .context .around (inner cs)) kids-made ∙ sym (inner-lift (kids (a .buckets)))
+        inner-lift (a .spot .before (child b (leaf []) K)) ∙ ap (λ (cs : Children). a .way .context .around (inner cs)) children-made ∙ sym (inner-lift (childrenB (a .buckets)))
         ∙ ap (insert bytesOf (r .bytes) τ 0 p) (sym here)
 
     with-count : nodes With ≡ 1 + nodes (tree t)
     unfolding nodes
     with-count =
         rw here
-        (omega (arith, a .way .context .count (inner (a .spot .before (child b (leaf []) K))) (inner (kids (a .buckets))), a .spot .count (child b (leaf []) K) K, ap nodesIn kids-now))
+        (omega (arith, a .way .context .count (inner (a .spot .before (child b (leaf []) K))) (inner (childrenB (a .buckets))), a .spot .count (child b (leaf []) K) K, ap nodesIn children-now))
 
     want-count : 1 + nodes (tree t) ≤ nodes (insert bytesOf (r .bytes) τ 0 p (tree t))
     unfolding nodes
     want-count =
         let A : Tree = addLeaf bytesOf (r .bytes) τ (suc j) p [] in
         let w : insert bytesOf (r .bytes) τ 0 p (tree t) ≡ a .way .context .around (inner (a .spot .before (child b A K))) =
-        ap (insert bytesOf (r .bytes) τ 0 p) here ∙ inner-lift (kids (a .buckets)) ∙ ap (λ (cs : Children). a .way .context .around (inner cs)) kids-then in
+        ap (insert bytesOf (r .bytes) τ 0 p) here ∙ inner-lift (childrenB (a .buckets)) ∙ ap (λ (cs : Children). a .way .context .around (inner cs)) children-then in
         rw (w, here)
-        (omega (arith, a .way .context .count (inner (a .spot .before (child b A K))) (inner (kids (a .buckets))), a .spot .count (child b A K) K, some-node A, ap nodesIn kids-now))
+        (omega (arith, a .way .context .count (inner (a .spot .before (child b A K))) (inner (childrenB (a .buckets))), a .spot .count (child b A K) K, some-node A, ap nodesIn children-now))
 
     -- the first free node is made the leaf, and the page put in
     module _ {N P : List ℕ} {free v f : ℕ} {fs : List ℕ} {G : Cells} (st : State cap pcap base N P free t (f ∷ fs) (page (base + p) v ⊕ G)) where
@@ -188,7 +188,7 @@ module _ (bytesOf : ℕ → List ℕ) (S τ Y : List ℕ) (r : Rows) (cap pcap b
     at-gap n s k a e m = go fs st m
       where
         same-byte : byteAt bytesOf k p ≡ getD Y k 0
-        same-byte = y .bytes k (y .shallow k (kids (a .buckets)) (a .way .path) (a .way .sub))
+        same-byte = y .bytes k (y .shallow k (childrenB (a .buckets)) (a .way .path) (a .way .sub))
 
         same-leaf : freshLeaf N cap s (getD Y k 0) free ≡ freshLeaf N cap (a .spot .slot) (byteAt bytesOf k p) free
         same-leaf = rw (a .slot, same-byte) refl

@@ -10,7 +10,7 @@ use Rattle.trie.specs.declared.leaf.Got.the-variants.{Node}
 use Rattle.trie.specs.declared.place.Place.the-variants.{Found, Missing}
 use Rattle.trie.specs.Heap.{Cells, page, _⊕_}
 use Rattle.trie.specs.Model.{findPlace, linkLeaf, made, childLeaf}
-use Rattle.trie.specs.Phys.{Phys, Buckets, Chain, kids, kidsC, Sound, SoundC, State, leafP, innerP, link}
+use Rattle.trie.specs.Phys.{Phys, Buckets, Chain, childrenB, childrenC, Sound, SoundC, State, leafP, innerP, link}
 use Rattle.trie.proofs.Frame.{same-swap}
 use Rattle.trie.proofs.Abstract.{Leaves}
 use Rattle.trie.proofs.Steps.{child-found, child-made}
@@ -32,8 +32,8 @@ pub record PutDone (cap pcap base n b p : ℕ) (bs : Buckets) (fs : List ℕ) (G
   pub freesTo : List ℕ
   pub is : a ≡ after nodesTo pagesTo (Node child freeTo)
   pub state : State cap pcap base nodesTo pagesTo freeTo (innerP n bucketsTo) freesTo G
-  pub grown : kids bucketsTo ≡ putLeaf b p (kids bs)
-  pub count : nodesIn (kids bucketsTo) + length freesTo ≡ nodesIn (kids bs) + length fs
+  pub grown : childrenB bucketsTo ≡ putLeaf b p (childrenB bs)
+  pub count : nodesIn (childrenB bucketsTo) + length freesTo ≡ nodesIn (childrenB bs) + length fs
 
 module _ (cap pcap base : ℕ) (small : cap ≤ 262144) (n b p : ℕ) (bs : Buckets) (lb : b < 256) (s : SpotB cap pcap base small bs n 0 b) where
   -- into a child that is there
@@ -53,13 +53,13 @@ module _ (cap pcap base : ℕ) (small : cap ≤ 262144) (n b p : ℕ) (bs : Buck
     pub child-ok : pushPage N P cap base c p ≡ pushed (pushNodes N cap c p) (pushPages N P cap base c p) true
     child-ok = push-ok at-leaf lp
 
-  kids-here : (x : Chain) → s .tail ≡ x → kids bs ≡ s .before (kidsC x (s .later))
-  kids-here x e = ap kids (sym (s .whole)) ∙ s .kids (s .tail) ∙ ap (λ (y : Chain). s .before (kidsC y (s .later))) e
+  children-here : (x : Chain) → s .tail ≡ x → childrenB bs ≡ s .before (childrenC x (s .later))
+  children-here x e = ap childrenB (sym (s .whole)) ∙ s .childrenB (s .tail) ∙ ap (λ (y : Chain). s .before (childrenC y (s .later))) e
 
-  gap-kids : starts (s .tail) b ≡ false → putLeaf b p (kids bs) ≡ s .before (child b (leaf (p ∷ [])) (kidsC (s .tail) (s .later)))
-  gap-kids h =
-      let K : Children = kidsC (s .tail) (s .later) in
-      ap (putLeaf b p) (kids-here (s .tail) refl) ∙ s .skip (putLeaf b p) (put-skips b p) K ∙
+  gap-children : starts (s .tail) b ≡ false → putLeaf b p (childrenB bs) ≡ s .before (child b (leaf (p ∷ [])) (childrenC (s .tail) (s .later)))
+  gap-children h =
+      let K : Children = childrenC (s .tail) (s .later) in
+      ap (putLeaf b p) (children-here (s .tail) refl) ∙ s .skip (putLeaf b p) (put-skips b p) K ∙
       ap (s .before) (put-new b p K (tail-above cap pcap base small (s .tail) b (32 * (b / 32) + 32) (s .later) h (s .from) (s .above)))
 
   place : {N P : List ℕ} {free : ℕ} {fs : List ℕ} {G : Cells} → State cap pcap base N P free (innerP n bs) fs G → (q : Bool) → starts (s .tail) b ≡ q → findPlace N cap n b ≡ answer q (s .slot) (headC (s .tail))
@@ -67,20 +67,20 @@ module _ (cap pcap base : ℕ) (small : cap ≤ 262144) (n b p : ℕ) (bs : Buck
 
   module _ {N P : List ℕ} {free v : ℕ} {fs : List ℕ} {G : Cells} (lp : p < pcap) (st : State cap pcap base N P free (innerP n bs) fs (page (base + p) v ⊕ G)) where
     -- the byte's child is there
-    put-found : (u : Phys) (rest : Chain) → s .tail ≡ link b u rest → starts (s .tail) b ≡ true → Leaves (kids bs) → PutDone cap pcap base n b p bs fs G (putLeafM N P cap base n b p free)
+    put-found : (u : Phys) (rest : Chain) → s .tail ≡ link b u rest → starts (s .tail) b ≡ true → Leaves (childrenB bs) → PutDone cap pcap base n b p bs fs G (putLeafM N P cap base n b p free)
     unfolding push nodes
-    put-found (innerP m ds) rest e h l = absurd (s .leaves _ (rw (kids-here (link b (innerP m ds) rest) e) at l))
+    put-found (innerP m ds) rest e h l = absurd (s .leaves _ (rw (children-here (link b (innerP m ds) rest) e) at l))
     put-found (leafP c qs) rest e h l =
         let x : Chain = link b (leafP c qs) rest in
         let y : Chain = link b (leafP c (p ∷ qs)) rest in
-        let K : Children = kidsC rest (s .later) in
+        let K : Children = childrenC rest (s .later) in
         let g : SoundC cap pcap x b (32 * (b / 32) + 32) = rw e at (s .from) in
         let i : s .put x ≡ bs = ap (s .put) (sym e) ∙ s .whole in
         let t : State cap pcap base N P free (innerP n (s .put x)) fs (page (base + p) v ⊕ G) =
         subst (λ (z : Buckets). State cap pcap base N P free (innerP n z) fs (page (base + p) v ⊕ G)) (sym i) st in
         let o : findPlace N cap n b ≡ Found (s .slot) c = place st true h ∙ ap (λ (z : Chain). Found (s .slot) (headC z)) e in
         let d : made N (Node c free) ≡ childLeaf N cap n b free = child-found N cap n b free (Found (s .slot) c) (sym o) (s .slot) c refl in
-        let k : kids bs ≡ s .before (child b (leaf qs) K) = kids-here x e in
+        let k : childrenB bs ≡ s .before (child b (leaf qs) K) = children-here x e in
         record {
           nodesTo = pushNodes N cap c p;
           pagesTo = pushPages N P cap base c p;
@@ -90,20 +90,20 @@ module _ (cap pcap base : ℕ) (small : cap ≤ 262144) (n b p : ℕ) (bs : Buck
           freesTo = fs;
           is = sym (put-done N P cap base n b p free N (Node c free) d c free refl (pushNodes N cap c p) (pushPages N P cap base c p) true (sym (child-ok lp (g .3) t (g .2))) refl);
           state = child-push lp (g .3) t (g .2);
-          grown = s .kids y ∙ ap (s .before) (sym (put-here b p (leaf qs) K)) ∙ sym (s .skip (putLeaf b p) (put-skips b p) (child b (leaf qs) K)) ∙ ap (putLeaf b p) (sym k);
-          count = rw (k, s .kids y) (omega (arith, s .count (child b (leaf (p ∷ qs)) K) (child b (leaf qs) K)));
+          grown = s .childrenB y ∙ ap (s .before) (sym (put-here b p (leaf qs) K)) ∙ sym (s .skip (putLeaf b p) (put-skips b p) (child b (leaf qs) K)) ∙ ap (putLeaf b p) (sym k);
+          count = rw (k, s .childrenB y) (omega (arith, s .count (child b (leaf (p ∷ qs)) K) (child b (leaf qs) K)));
         }
 
     -- it is missing, and made of the first free node
-    put-made : (fs : List ℕ) → State cap pcap base N P free (innerP n bs) fs (page (base + p) v ⊕ G) → starts (s .tail) b ≡ false → nodesIn (putLeaf b p (kids bs)) ≤ nodesIn (kids bs) + length fs →
+    put-made : (fs : List ℕ) → State cap pcap base N P free (innerP n bs) fs (page (base + p) v ⊕ G) → starts (s .tail) b ≡ false → nodesIn (putLeaf b p (childrenB bs)) ≤ nodesIn (childrenB bs) + length fs →
         PutDone cap pcap base n b p bs fs G (putLeafM N P cap base n b p free)
     unfolding nodes
     put-made [] st h l =
-        let K : Children = kidsC (s .tail) (s .later) in
-        absurd (omega (arith, s .count (child b (leaf (p ∷ [])) K) K, rw (gap-kids h, kids-here (s .tail) refl) at l))
+        let K : Children = childrenC (s .tail) (s .later) in
+        absurd (omega (arith, s .count (child b (leaf (p ∷ [])) K) K, rw (gap-children h, children-here (s .tail) refl) at l))
     put-made (f ∷ fs) st h l =
         let y : Chain = link b (leafP f (p ∷ [])) (s .tail) in
-        let K : Children = kidsC (s .tail) (s .later) in
+        let K : Children = childrenC (s .tail) (s .later) in
         let N1 : List ℕ = linkLeaf N cap (s .slot) f b in
         let t = fresh-state cap pcap base small st s lb h in
         let g : SoundC cap pcap (s .tail) (suc b) (32 * (b / 32) + 32) = past cap pcap base small (s .tail) b (32 * (b / 32) + 32) h (s .from) in
@@ -118,12 +118,12 @@ module _ (cap pcap base : ℕ) (small : cap ≤ 262144) (n b p : ℕ) (bs : Buck
           freesTo = fs;
           is = sym (put-done N P cap base n b p free N1 (Node f (getD N f 0)) d f (getD N f 0) refl (pushNodes N1 cap f p) (pushPages N1 P cap base f p) true (sym (child-ok lp g t (lf, tt))) refl);
           state = child-push lp g t (lf, tt);
-          grown = s .kids y ∙ sym (gap-kids h);
-          count = rw (kids-here (s .tail) refl, s .kids y) (omega (arith, s .count (child b (leaf (p ∷ [])) K) K));
+          grown = s .childrenB y ∙ sym (gap-children h);
+          count = rw (children-here (s .tail) refl, s .childrenB y) (omega (arith, s .count (child b (leaf (p ∷ [])) K) K));
         }
 
     -- with free nodes enough
-    pub put-right : Leaves (kids bs) → nodesIn (putLeaf b p (kids bs)) ≤ nodesIn (kids bs) + length fs → PutDone cap pcap base n b p bs fs G (putLeafM N P cap base n b p free)
+    pub put-right : Leaves (childrenB bs) → nodesIn (putLeaf b p (childrenB bs)) ≤ nodesIn (childrenB bs) + length fs → PutDone cap pcap base n b p bs fs G (putLeafM N P cap base n b p free)
     put-right l m = go (starts (s .tail) b) refl
       where
         go : (q : Bool) → starts (s .tail) b ≡ q → PutDone cap pcap base n b p bs fs G (putLeafM N P cap base n b p free)

@@ -9,7 +9,7 @@ use Rattle.trie.specs.declared.leaf.Got.the-variants.{Node}
 use Rattle.trie.specs.declared.Level.{Level}
 use Rattle.trie.specs.Heap.{Cells, page, _⊕_}
 use Rattle.trie.specs.Model.{pageByte}
-use Rattle.trie.specs.Phys.{Buckets, kids, first, pageCells, Below, State, innerP}
+use Rattle.trie.specs.Phys.{Buckets, childrenB, first, pageCells, Below, State, innerP}
 use Rattle.trie.proofs.Frame.{same-assoc}
 use Rattle.trie.proofs.Abstract.{Leaves}
 use Rattle.trie.proofs.Spot.{spot}
@@ -29,8 +29,8 @@ pub record SplitDone (bytesOf : ℕ → List ℕ) (cap pcap base n k : ℕ) (ps 
   pub freesTo : List ℕ
   pub is : a ≡ after nodesTo pagesTo (Node n freeTo)
   pub state : State cap pcap base nodesTo pagesTo freeTo (innerP n bucketsTo) freesTo G
-  pub grown : kids bucketsTo ≡ split bytesOf k ps (kids bs)
-  pub count : nodesIn (kids bucketsTo) + length freesTo ≡ nodesIn (kids bs) + length fs
+  pub grown : childrenB bucketsTo ≡ split bytesOf k ps (childrenB bs)
+  pub count : nodesIn (childrenB bucketsTo) + length freesTo ≡ nodesIn (childrenB bs) + length fs
 
 module _ (bytesOf : ℕ → List ℕ) (S : List ℕ) (v : Level) (cap pcap base n k : ℕ) (small : cap ≤ 262144)
     (bytes : (p : ℕ) → pageByte S v p < 256) (are : (p : ℕ) → p < pcap → byteAt bytesOf k p ≡ pageByte S v p) where
@@ -52,13 +52,13 @@ module _ (bytesOf : ℕ → List ℕ) (S : List ℕ) (v : Level) (cap pcap base 
         freesTo = E .freesTo;
         is = sym x ∙ rw q (E .is);
         state = E .state;
-        grown = E .grown ∙ ap (split bytesOf k ps) (D .grown ∙ ap (λ (b : ℕ). putLeaf b p (kids bs)) (sym (are p lp)));
+        grown = E .grown ∙ ap (split bytesOf k ps) (D .grown ∙ ap (λ (b : ℕ). putLeaf b p (childrenB bs)) (sym (are p lp)));
         count = E .count ∙ D .count;
       }
 
   pub split-right : {N P : List ℕ} {free : ℕ} {bs : Buckets} {fs : List ℕ} {G : Cells} (ps : List ℕ) (l f : ℕ) →
-      State cap pcap base N P free (innerP n bs) fs (pageCells base ps ⊕ G) → Leaves (kids bs) → Below pcap ps → l ≡ first ps → length ps < f →
-      nodesIn (split bytesOf k ps (kids bs)) ≤ nodesIn (kids bs) + length fs →
+      State cap pcap base N P free (innerP n bs) fs (pageCells base ps ⊕ G) → Leaves (childrenB bs) → Below pcap ps → l ≡ first ps → length ps < f →
+      nodesIn (split bytesOf k ps (childrenB bs)) ≤ nodesIn (childrenB bs) + length fs →
       SplitDone bytesOf cap pcap base n k ps bs fs G (splitFrom S v cap pcap base n N P l free f)
   unfolding split
   split-right {N} {P} {free} {bs} {fs} {G} [] l f st lv be e lf m =
@@ -75,9 +75,9 @@ module _ (bytesOf : ℕ → List ℕ) (S : List ℕ) (v : Level) (cap pcap base 
       }
   split-right {N} {P} {free} {bs} {fs} {G} (p ∷ ps) l f st lv be e lf m =
       let a : byteAt bytesOf k p ≡ pageByte S v p = are p (be .0) in
-      let m' : nodesIn (split bytesOf k ps (putLeaf (pageByte S v p) p (kids bs))) ≤ nodesIn (kids bs) + length fs = rw a at m in
+      let m' : nodesIn (split bytesOf k ps (putLeaf (pageByte S v p) p (childrenB bs))) ≤ nodesIn (childrenB bs) + length fs = rw a at m in
       let D = put-right cap pcap base small n (pageByte S v p) p bs (bytes p) (spot cap pcap base small n bs (pageByte S v p) (bytes p) (st .sound)) (be .0)
-      (beside (same-assoc (page (base + p) (first ps)) (pageCells base ps) G .to) st) lv (omega (arith, m', split-grows bytesOf k ps (putLeaf (pageByte S v p) p (kids bs)))) in
-      let z : nodesIn (split bytesOf k ps (kids (D .bucketsTo))) ≤ nodesIn (kids bs) + length fs = rw (D .grown) m' in
+      (beside (same-assoc (page (base + p) (first ps)) (pageCells base ps) G .to) st) lv (omega (arith, m', split-grows bytesOf k ps (putLeaf (pageByte S v p) p (childrenB bs)))) in
+      let z : nodesIn (split bytesOf k ps (childrenB (D .bucketsTo))) ≤ nodesIn (childrenB bs) + length fs = rw (D .grown) m' in
       split-cons N P free p ps l f e (be .0) (omega arith) D
-      (split-right ps (getD P (base + p) 0) (f - 1) (D .state) (rw (D .grown) (leaves-put (pageByte S v p) p (kids bs) lv)) (be .1) (st .heap .holds .1 .1 .0 .0) (omega arith) (omega (arith, D .count, z)))
+      (split-right ps (getD P (base + p) 0) (f - 1) (D .state) (rw (D .grown) (leaves-put (pageByte S v p) p (childrenB bs) lv)) (be .1) (st .heap .holds .1 .1 .0 .0) (omega arith) (omega (arith, D .count, z)))

@@ -11,9 +11,11 @@ use Rattle.layout.specs.Nodes.{stateAt}
 use Rattle.trie.specs.declared.Level.{Level}
 use Rattle.trie.specs.declared.Rows.{Rows}
 use Rattle.trie.specs.declared.leaf.Got.{Got}
-use Rattle.trie.specs.declared.leaf.Got.the-variants.{Node, Full, Bad}
+use Rattle.trie.specs.declared.leaf.Got.the-variants.{Node, Full}
+use Rattle.trie.specs.declared.leaf.Got.the-variants as got
 use Rattle.trie.specs.declared.span.Span.{Span}
-use Rattle.trie.specs.declared.span.Span.the-variants.{Enough, Short, Wild}
+use Rattle.trie.specs.declared.span.Span.the-variants.{Enough, Short}
+use Rattle.trie.specs.declared.span.Span.the-variants as spans
 use Rattle.trie.specs.Tables.{RowTable}
 use Rattle.trie.specs.Model.{made, freshLeaf, childLeaf, pageByte, spanFrom, levelAt}
 use Rattle.trie.proofs.Steps.{suc-pred}
@@ -21,7 +23,8 @@ use Rattle.trie_path.specs.declared.Reach.{Reach}
 use Rattle.trie_path.specs.declared.Reach.the-variants.{Leaf, Gap, Broken}
 use Rattle.trie_path.specs.Descend.{descendTo, Inside}
 use Rattle.trie_insert.specs.declared.insert.Target.{Target}
-use Rattle.trie_insert.specs.declared.insert.Target.the-variants.{Ready, NoRoom, Damaged}
+use Rattle.trie_insert.specs.declared.insert.Target.the-variants.{Ready, NoRoom}
+use Rattle.trie_insert.specs.declared.insert.Target.the-variants as target
 use Rattle.trie_insert.specs.Pages.{pushNodes, pushPages, pushed, pushPage, After, after, putLeafM}
 use Rattle.trie_insert.specs.Split.{onPut, splitFrom, openLeaf, tooLong, splitLeaf, growSpan, growInto, growLeaf}
 use Rattle.trie_insert.specs.Insert.{aimed, targetIn, aimMade, aimAt, leafFor, insertAt, insertPage}
@@ -46,28 +49,28 @@ module _ (N P : List ℕ) (cap base n b p free : ℕ) (ns : List ℕ) (g : Got) 
     unfolding putLeafM
     put-done z = rw (← e, q, ← u, z) refl
 
-    pub put-lost : done ≡ false → after ns' ps' Bad ≡ putLeafM N P cap base n b p free
+    pub put-nowhere : done ≡ false → after ns' ps' got.Broken ≡ putLeafM N P cap base n b p free
     unfolding putLeafM
-    put-lost z = rw (← e, q, ← u, z) refl
+    put-nowhere z = rw (← e, q, ← u, z) refl
 
   pub put-full : g ≡ Full → after ns P Full ≡ putLeafM N P cap base n b p free
   unfolding putLeafM
   put-full q = rw (← e, q) refl
 
-  pub put-bad : g ≡ Bad → after ns P Bad ≡ putLeafM N P cap base n b p free
+  pub put-failed : g ≡ got.Broken → after ns P got.Broken ≡ putLeafM N P cap base n b p free
   unfolding putLeafM
-  put-bad q = rw (← e, q) refl
+  put-failed q = rw (← e, q) refl
 
 -- `splitFrom` at each way out of a turn. R is what the walk comes to in the end
 module _ (S : List ℕ) (v : Level) (cap pcap base n : ℕ) (N P : List ℕ) (l free f : ℕ) (R : After) (inv : splitFrom S v cap pcap base n N P l free f ≡ R) where
-  pub split-out : f ≡ 0 → after N P Bad ≡ R
+  pub split-out : f ≡ 0 → after N P got.Broken ≡ R
   unfolding splitFrom
   split-out e = rw e at inv
 
   module _ (h : f ≡ 0 → ⊥) where
     split-step :
         cond (eqb l 0) (after N P (Node n free))
-        (cond (ltb pcap l) (after N P Bad)
+        (cond (ltb pcap l) (after N P got.Broken)
         (onPut (λ N' P' free'. splitFrom S v cap pcap base n N' P' (getD P (base + (l - 1)) 0) free' (f - 1))
         (putLeafM N P cap base n (pageByte S v (l - 1)) (l - 1) free))) ≡ R
     unfolding splitFrom
@@ -77,8 +80,8 @@ module _ (S : List ℕ) (v : Level) (cap pcap base n : ℕ) (N P : List ℕ) (l 
     split-end e = rw (eq-eqb l 0 e) at split-step
 
     module _ (e : l ≡ 0 → ⊥) where
-      pub split-wild : pcap ≤ l - 1 → after N P Bad ≡ R
-      split-wild m = rw (ne-eqb l 0 e, lt-ltb pcap l (omega arith)) at split-step
+      pub split-broken : pcap ≤ l - 1 → after N P got.Broken ≡ R
+      split-broken m = rw (ne-eqb l 0 e, lt-ltb pcap l (omega arith)) at split-step
 
       module _ (m : l - 1 < pcap) (ns ps : List ℕ) (y : ℕ) (g : Got) (b : y ≡ pageByte S v (l - 1)) (u : after ns ps g ≡ putLeafM N P cap base n y (l - 1) free) where
         split-go : onPut (λ N' P' free'. splitFrom S v cap pcap base n N' P' (getD P (base + (l - 1)) 0) free' (f - 1)) (after ns ps g) ≡ R
@@ -92,8 +95,8 @@ module _ (S : List ℕ) (v : Level) (cap pcap base n : ℕ) (N P : List ℕ) (l 
         pub split-full : g ≡ Full → after ns ps Full ≡ R
         split-full q = rw q at split-go
 
-        pub split-bad : g ≡ Bad → after ns ps Bad ≡ R
-        split-bad q = rw q at split-go
+        pub split-failed : g ≡ got.Broken → after ns ps got.Broken ≡ R
+        split-failed q = rw q at split-go
 
 -- `tooLong`, by each way
 module _ (τ : List ℕ) (r : Rows) (pcap base : ℕ) (P : List ℕ) (k l : ℕ) where
@@ -121,7 +124,7 @@ module _ (S τ : List ℕ) (r : Rows) (cap pcap base : ℕ) (N P : List ℕ) (k 
   unfolding growLeaf
   grow-step = ap (growInto S τ r cap pcap base k n p free) e
 
-  pub grow-none : done ≡ false → after ns ps Bad ≡ growLeaf S τ r cap pcap base N P k n p free
+  pub grow-none : done ≡ false → after ns ps got.Broken ≡ growLeaf S τ r cap pcap base N P k n p free
   grow-none d = rw d at grow-step
 
   module _ (d : done ≡ true) (g : Span) (q : g ≡ tooLong τ r pcap base ps k (p + 1)) where
@@ -131,8 +134,8 @@ module _ (S τ : List ℕ) (r : Rows) (cap pcap base : ℕ) (N P : List ℕ) (k 
     pub grow-short : g ≡ Short → after ns ps (Node n free) ≡ growLeaf S τ r cap pcap base N P k n p free
     grow-short z = rw z at grow-span
 
-    pub grow-wild : g ≡ Wild → after ns ps Bad ≡ growLeaf S τ r cap pcap base N P k n p free
-    grow-wild z = rw z at grow-span
+    pub grow-broken : g ≡ spans.Broken → after ns ps got.Broken ≡ growLeaf S τ r cap pcap base N P k n p free
+    grow-broken z = rw z at grow-span
 
     pub grow-split : g ≡ Enough → (ns' ps' : List ℕ) (a : Got) → after ns' ps' a ≡ splitLeaf S r cap pcap base ns ps k n (p + 1) free → after ns' ps' a ≡ growLeaf S τ r cap pcap base N P k n p free
     grow-split z ns' ps' a u = u ∙ rw z at grow-span
@@ -156,8 +159,8 @@ module _ (N : List ℕ) (cap : ℕ) (Y : List ℕ) (root free : ℕ) (x : Reach)
   pub aim-leaf : (n s k : ℕ) → x ≡ Leaf n s k → aimed N (Ready n k free) ≡ leafFor N cap Y root free
   aim-leaf n s k q = rw q at aim-step
 
-  pub aim-lost : x ≡ Broken → aimed N Damaged ≡ leafFor N cap Y root free
-  aim-lost q = rw q at aim-step
+  pub aim-nowhere : x ≡ Broken → aimed N target.Broken ≡ leafFor N cap Y root free
+  aim-nowhere q = rw q at aim-step
 
   module _ (n s k : ℕ) (q : x ≡ Gap n s k) (ns : List ℕ) (g : Got) (u : made ns g ≡ freshLeaf N cap s (getD Y k 0) free) where
     aim-gap : aimMade (k + 1) (made ns g) ≡ leafFor N cap Y root free
@@ -169,8 +172,8 @@ module _ (N : List ℕ) (cap : ℕ) (Y : List ℕ) (root free : ℕ) (x : Reach)
     pub aim-full : g ≡ Full → aimed ns NoRoom ≡ leafFor N cap Y root free
     aim-full z = rw z at aim-gap
 
-    pub aim-bad : g ≡ Bad → aimed ns Damaged ≡ leafFor N cap Y root free
-    aim-bad z = rw z at aim-gap
+    pub aim-failed : g ≡ got.Broken → aimed ns target.Broken ≡ leafFor N cap Y root free
+    aim-failed z = rw z at aim-gap
 
 -- the bounds that a match tells
 pub leaf-node : (N : List ℕ) (cap len : ℕ) (x : Reach) (n s k : ℕ) → x ≡ Leaf n s k → Inside N cap len x → n < cap
@@ -198,5 +201,5 @@ module _ (S τ : List ℕ) (r : Rows) (cap pcap base : ℕ) (N P Y : List ℕ) (
   pub insert-full : x ≡ NoRoom → after ns P Full ≡ insertPage S τ r cap pcap base N P Y root p free
   insert-full q = rw q at insert-step
 
-  pub insert-bad : x ≡ Damaged → after ns P Bad ≡ insertPage S τ r cap pcap base N P Y root p free
-  insert-bad q = rw q at insert-step
+  pub insert-failed : x ≡ target.Broken → after ns P got.Broken ≡ insertPage S τ r cap pcap base N P Y root p free
+  insert-failed q = rw q at insert-step

@@ -6,7 +6,8 @@ use lib.Dec.{ltb}
 use lib.ListN.{getD, set}
 use Rattle.layout.specs.Nodes.{stateAt, leafState}
 use Rattle.trie.specs.declared.leaf.Got.{Got}
-use Rattle.trie.specs.declared.leaf.Got.the-variants.{Node, Full, Bad}
+use Rattle.trie.specs.declared.leaf.Got.the-variants.{Node, Full}
+use Rattle.trie.specs.declared.leaf.Got.the-variants as got
 use Rattle.trie.specs.Model.{Made, made, childLeaf}
 
 -- both tables, and whether the page was put in
@@ -30,12 +31,12 @@ pub data After : Type 0 where
 
 abbrev pub putDone : ℕ → ℕ → Pushed → After
 putDone c next (pushed N P true) = after N P (Node c next)
-putDone c next (pushed N P false) = after N P Bad
+putDone c next (pushed N P false) = after N P got.Broken
 
 abbrev pub putInto : List ℕ → ℕ → ℕ → ℕ → Made → After
 putInto P cap base p (made N (Node c next)) = putDone c next (pushPage N P cap base c p)
 putInto P cap base p (made N Full) = after N P Full
-putInto P cap base p (made N Bad) = after N P Bad
+putInto P cap base p (made N got.Broken) = after N P got.Broken
 
 -- page p put into the child leaf of byte b of node n
 unfoldable pub putLeafM : List ℕ → List ℕ → ℕ → ℕ → ℕ → ℕ → ℕ → ℕ → After

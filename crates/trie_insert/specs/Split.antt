@@ -7,23 +7,25 @@ use lib.ListN.{getD, set}
 use Rattle.layout.specs.Nodes.{stateAt, innerState}
 use Rattle.trie.specs.declared.Level.{Level}
 use Rattle.trie.specs.declared.Rows.{Rows}
-use Rattle.trie.specs.declared.leaf.Got.the-variants.{Node, Full, Bad}
+use Rattle.trie.specs.declared.leaf.Got.the-variants.{Node, Full}
+use Rattle.trie.specs.declared.leaf.Got.the-variants as got
 use Rattle.trie.specs.declared.span.Span.{Span}
-use Rattle.trie.specs.declared.span.Span.the-variants.{Enough, Short, Wild}
+use Rattle.trie.specs.declared.span.Span.the-variants.{Enough, Short}
+use Rattle.trie.specs.declared.span.Span.the-variants as spans
 use Rattle.trie.specs.Model.{pageByte, spanFrom, levelAt}
 use Rattle.trie_insert.specs.Pages.{Pushed, pushed, pushPage, After, after, putLeafM}
 
 abbrev pub onPut : (List ℕ → List ℕ → ℕ → After) → After → After
 onPut go (after N P (Node c free)) = go N P free
 onPut go (after N P Full) = after N P Full
-onPut go (after N P Bad) = after N P Bad
+onPut go (after N P got.Broken) = after N P got.Broken
 
 -- the pages of a chain from link l on, each in turn put into the child leaf of its byte, fewer than f
 unfoldable pub splitFrom : List ℕ → Level → ℕ → ℕ → ℕ → ℕ → List ℕ → List ℕ → ℕ → ℕ → ℕ → After
-splitFrom S v cap pcap base n N P l free zero = after N P Bad
+splitFrom S v cap pcap base n N P l free zero = after N P got.Broken
 splitFrom S v cap pcap base n N P l free (suc f) =
     cond (eqb l 0) (after N P (Node n free))
-    (cond (ltb pcap l) (after N P Bad)
+    (cond (ltb pcap l) (after N P got.Broken)
     (onPut (λ N' P' free'. splitFrom S v cap pcap base n N' P' (getD P (base + (l - 1)) 0) free' f)
     (putLeafM N P cap base n (pageByte S v (l - 1)) (l - 1) free)))
 
@@ -44,10 +46,10 @@ module _ (S τ : List ℕ) (r : Rows) (cap pcap base : ℕ) where
   abbrev pub growSpan : List ℕ → List ℕ → ℕ → ℕ → ℕ → ℕ → Span → After
   growSpan N P k n p free Enough = splitLeaf S r cap pcap base N P k n (p + 1) free
   growSpan N P k n p free Short = after N P (Node n free)
-  growSpan N P k n p free Wild = after N P Bad
+  growSpan N P k n p free spans.Broken = after N P got.Broken
 
   abbrev pub growInto : ℕ → ℕ → ℕ → ℕ → Pushed → After
-  growInto k n p free (pushed N P false) = after N P Bad
+  growInto k n p free (pushed N P false) = after N P got.Broken
   growInto k n p free (pushed N P true) = growSpan N P k n p free (tooLong τ r pcap base P k (p + 1))
 
   unfoldable pub growLeaf : List ℕ → List ℕ → ℕ → ℕ → ℕ → ℕ → After

@@ -17,7 +17,7 @@ use trie_path::descend_to;
 pub enum Target {
     Ready(usize, usize, u32),
     NoRoom,
-    Damaged,
+    Broken,
 }
 
 // The leaf that bytes lead to, which is made, empty, where it is missing.
@@ -36,10 +36,10 @@ pub fn leaf_for(nodes: &mut [u32], cap: usize, bytes: &[u8], root: usize, free: 
             match got {
                 Got::Node(n, next) => Target::Ready(n, level, next),
                 Got::Full => Target::NoRoom,
-                Got::Bad => Target::Damaged,
+                Got::Broken => Target::Broken,
             }
         }
-        Reach::Broken => Target::Damaged,
+        Reach::Broken => Target::Broken,
     }
 }
 
@@ -79,6 +79,6 @@ pub fn insert_page(
             next,
         ),
         Target::NoRoom => Got::Full,
-        Target::Damaged => Got::Bad,
+        Target::Broken => Got::Broken,
     }
 }

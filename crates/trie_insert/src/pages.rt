@@ -48,9 +48,9 @@ pub fn put_leaf(
             if push_page(nodes, pages, block, child, p) {
                 return Got::Node(child, next);
             }
-            Got::Bad
+            Got::Broken
         }
         Got::Full => Got::Full,
-        Got::Bad => Got::Bad,
+        Got::Broken => Got::Broken,
     }
 }

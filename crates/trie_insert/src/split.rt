@@ -38,14 +38,14 @@ pub fn split_pages(
     let mut left = block.pages + 1;
     loop {
         if left == 0 {
-            return Got::Bad;
+            return Got::Broken;
         }
         if link == 0 {
             return Got::Node(n, next_free);
         }
         let p = link - 1;
         if p >= block.pages {
-            return Got::Bad;
+            return Got::Broken;
         }
         let next = pages[block.base + p] as usize;
         let byte = page_byte(sketches, level, block, p);
@@ -59,8 +59,8 @@ pub fn split_pages(
             Got::Full => {
                 return Got::Full;
             }
-            Got::Bad => {
-                return Got::Bad;
+            Got::Broken => {
+                return Got::Broken;
             }
         }
     }
@@ -141,13 +141,13 @@ pub fn grow_leaf(
     ensures { λ r. ⌜ after (now (nodes .exit)) (now (pages .exit)) r ≡ growLeaf (now (sketches .entry)) (now (thresholds .entry)) rows (block .nodes) (block .pages) (block .base) (now (nodes .entry)) (now (pages .entry)) k n p free ⌝ }
 {
     if !push_page(nodes, pages, block, n, p) {
-        return Got::Bad;
+        return Got::Broken;
     }
     let first = (p + 1) as u32;
     let span = too_long(pages, thresholds, block, rows, k, first);
     match span {
         Span::Enough => split_leaf(nodes, pages, sketches, block, rows, k, n, first, free),
         Span::Short => Got::Node(n, free),
-        Span::Wild => Got::Bad,
+        Span::Broken => Got::Broken,
     }
 }

@@ -62,7 +62,7 @@ module _ (bytesOf : ℕ → List ℕ) (b n len : ℕ) (thresholds : List ℕ) (p
     pub back-same : (k : ℕ) (t : Tree) → soundTrie bytesOf b n len k t ≡ true → any (eqb p) (pagesIn t) ≡ false → needed bytesOf len thresholds k p t ≡ 0 →
         remove bytesOf k p (insert bytesOf len thresholds k p t) ≡ t
     back-same k (leaf ps) h a z = back-leaf k ps a z
-    back-same k (inner cs) h a z = ap inner (backIn-same k 0 cs (inner-parts bytesOf b n len k cs h .kids) a z)
+    back-same k (inner cs) h a z = ap inner (backIn-same k 0 cs (inner-parts bytesOf b n len k cs h .childrenB) a z)
 
     backIn-same : (k lo : ℕ) (cs : Children) → soundFrom bytesOf b n len k lo cs ≡ true → any (eqb p) (pagesAmong cs) ≡ false →
         neededIn bytesOf len thresholds k p cs ≡ 0 → removeIn bytesOf k p (insertIn bytesOf len thresholds k p cs) ≡ cs

@@ -8,7 +8,7 @@ use Rattle.meaning.specs.Sketch.{perByte, symbolsAt, packable}
 use Rattle.meaning.specs.Trie.{Tree, leaf, inner, none, child, fresh, without, push, putLeaf, prune, byteAt, split, remove, addLeaf, insert, pagesIn}
 use Rattle.trie_laws.specs.Sound.{filled, packs, soundTrie}
 use Rattle.trie_laws.specs.Needed.{distinctFrom, distinct, splits, splitNodes, needed, frees}
-use Rattle.trie_laws.specs.Path.{kid, below, subtree, pathOf, depth}
+use Rattle.trie_laws.specs.Path.{childBy, below, subtree, pathOf, depth}
 
 abbrev bytes : ℕ → List ℕ
 bytes p = p % 10 ∷ p / 10 ∷ []
@@ -41,7 +41,7 @@ made = refl
 
 -- the path of a page, and its leaf's end
 reached : subtree (pathOf bytes 0 13 (depth bytes 0 13 three)) three ≡ leaf (13 ∷ [])
-unfolding subtree below kid pathOf depth byteAt
+unfolding subtree below childBy pathOf depth byteAt
 reached = refl
 
 gone : remove bytes 0 13 three ≡ inner (child 2 (leaf (12 ∷ 22 ∷ [])) none)

@@ -94,7 +94,7 @@ module _ (bytesOf : ℕ → List ℕ) (b n len : ℕ) where
           let l : k < len = splits-level len thresholds k (length (p ∷ ps)) s in
           rw (add-splits bytesOf len thresholds k p ps s)
           (inner-whole bytesOf b n len k (split bytesOf k (p ∷ ps) none)
-          (record { level = l; kids = split-sound k (p ∷ ps) none l (and-intro (packs bytesOf b n len p) (all (packs bytesOf b n len) ps) e f) refl }))
+          (record { level = l; childrenB = split-sound k (p ∷ ps) none l (and-intro (packs bytesOf b n len p) (all (packs bytesOf b n len) ps) e f) refl }))
       | fails s ↦ rw (add-stays bytesOf len thresholds k p ps s) refl
     ]
 
@@ -132,7 +132,7 @@ module _ (bytesOf : ℕ → List ℕ) (b n len : ℕ) where
       insert-sound k p (inner cs) e f h =
           let s = inner-parts bytesOf b n len k cs h in
           inner-whole bytesOf b n len k (insertIn bytesOf len thresholds k p cs)
-          (record { level = s .level; kids = insertIn-sound k p 0 cs (s .level) (omega arith) e f (s .kids) })
+          (record { level = s .level; childrenB = insertIn-sound k p 0 cs (s .level) (omega arith) e f (s .childrenB) })
 
       pub insertIn-sound : (k p lo : ℕ) (cs : Children) → k < len → lo ≤ byteAt bytesOf k p → packs bytesOf b n len p ≡ true →
           all (packs bytesOf b n len) (pagesAmong cs) ≡ true →
@@ -178,7 +178,7 @@ module _ (bytesOf : ℕ → List ℕ) (b n len : ℕ) where
     remove-sound k p (leaf ps) h = refl
     remove-sound k p (inner cs) h =
         let s = inner-parts bytesOf b n len k cs h in
-        inner-whole bytesOf b n len k (removeIn bytesOf k p cs) (record { level = s .level; kids = removeIn-sound k p 0 cs (s .kids) })
+        inner-whole bytesOf b n len k (removeIn bytesOf k p cs) (record { level = s .level; childrenB = removeIn-sound k p 0 cs (s .childrenB) })
 
     pub removeIn-sound : (k p lo : ℕ) (cs : Children) → soundFrom bytesOf b n len k lo cs ≡ true → soundFrom bytesOf b n len k lo (removeIn bytesOf k p cs) ≡ true
     removeIn-sound k p lo none h = refl

@@ -7,7 +7,7 @@ pub mod Pages
 pub mod Keeps
 pub mod Agree
 pub mod Back
-pub mod Kids
+pub mod Children
 pub mod Path
 pub mod Reach
 pub mod Walk

@@ -132,7 +132,7 @@ module _ (bytesOf : ℕ → List ℕ) (b n len : ℕ) where
 
       pub remove-count : (k p : ℕ) (t : Tree) → soundTrie bytesOf b n len k t ≡ true → count q (pagesIn (remove bytesOf k p t)) ≡ count (λ x. not (eqb x p) && q x) (pagesIn t)
       remove-count k p (leaf ps) h = without-count q p ps
-      remove-count k p (inner cs) h = removeIn-count k p 0 cs (inner-parts bytesOf b n len k cs h .kids)
+      remove-count k p (inner cs) h = removeIn-count k p 0 cs (inner-parts bytesOf b n len k cs h .childrenB)
 
       pub removeIn-count : (k p lo : ℕ) (cs : Children) → soundFrom bytesOf b n len k lo cs ≡ true →
           count q (pagesAmong (removeIn bytesOf k p cs)) ≡ count (λ x. not (eqb x p) && q x) (pagesAmong cs)

@@ -9,9 +9,9 @@ use Rattle.meaning.specs.Lists.{count}
 use Rattle.meaning.specs.Trie.{Tree, leaf, inner, Children, without, byteAt, remove, addLeaf, insert, nodes, pagesIn}
 use Rattle.trie_laws.specs.Sound.{filled}
 use Rattle.trie_laws.specs.Needed.{splitNodes, needed, frees}
-use Rattle.trie_laws.specs.Path.{has, kid, dropKid, putKid, pruneKid, hasBelow, below, setBelow, hasPath, subtree, replace, pathOf}
+use Rattle.trie_laws.specs.Path.{has, childBy, dropChild, putChild, pruneChild, hasBelow, below, setBelow, hasPath, subtree, replace, pathOf}
 use Rattle.meaning.proofs.Lists.{and-first, and-second}
-use Rattle.trie_laws.proofs.Kids.{has-set, kid-set, set-set, set-same, set-nodes, set-count, insert-there, insert-gap, needed-there, needed-gap, remove-there, frees-there}
+use Rattle.trie_laws.proofs.Children.{has-set, child-set, set-set, set-same, set-nodes, set-count, insert-there, insert-gap, needed-there, needed-gap, remove-there, frees-there}
 
 -- ---- one step
 module _ (y : ℕ) (u : Tree) where
@@ -23,7 +23,7 @@ module _ (y : ℕ) (u : Tree) where
   below-set : (t : Tree) → hasBelow y t ≡ true → below y (setBelow y u t) ≡ u
   unfolding hasBelow below setBelow
   below-set (leaf ps) h = absurd (false≢true h)
-  below-set (inner cs) h = kid-set y u cs h
+  below-set (inner cs) h = child-set y u cs h
 
   set-below : (v : Tree) (t : Tree) → setBelow y u (setBelow y v t) ≡ setBelow y u t
   unfolding setBelow
@@ -138,7 +138,7 @@ module _ (bytesOf : ℕ → List ℕ) (len : ℕ) (thresholds : List ℕ) (p : �
 
     pub insert-at-gap : (cs : Children) → subtree (pathOf bytesOf k p d) t ≡ inner cs → has (byteAt bytesOf (k + d) p) cs ≡ false →
         insert bytesOf len thresholds k p t ≡
-        replace (pathOf bytesOf k p d) t (inner (putKid (byteAt bytesOf (k + d) p) (addLeaf bytesOf len thresholds (suc (k + d)) p []) cs))
+        replace (pathOf bytesOf k p d) t (inner (putChild (byteAt bytesOf (k + d) p) (addLeaf bytesOf len thresholds (suc (k + d)) p []) cs))
     unfolding insert
     insert-at-gap cs e g = insert-path d k t h ∙ rw (e, insert-gap bytesOf len thresholds (k + d) p cs g) refl
 
@@ -170,7 +170,7 @@ module _ (bytesOf : ℕ → List ℕ) (len : ℕ) (thresholds : List ℕ) (p : �
 module _ (bytesOf : ℕ → List ℕ) (p : ℕ) where
   remove-step : (k : ℕ) (t : Tree) → hasBelow (byteAt bytesOf k p) t ≡ true → filled (remove bytesOf (suc k) p (below (byteAt bytesOf k p) t)) ≡ true →
       remove bytesOf k p t ≡ setBelow (byteAt bytesOf k p) (remove bytesOf (suc k) p (below (byteAt bytesOf k p) t)) t
-  unfolding remove hasBelow below setBelow pruneKid
+  unfolding remove hasBelow below setBelow pruneChild
   remove-step k (leaf ps) h f = absurd (false≢true h)
   remove-step k (inner cs) h f = ap inner (remove-there bytesOf k p cs h ∙ rw f refl)
 
@@ -226,13 +226,13 @@ module _ (bytesOf : ℕ → List ℕ) (p : ℕ) where
     frees-at-leaf ps e f = frees-path d k t h (kept ps e f) ∙ rw e refl
 
     module _ (cs : Children) (ps : List ℕ) (e : subtree (pathOf bytesOf k p d) t ≡ inner cs) (i : has (byteAt bytesOf (k + d) p) cs ≡ true)
-        (l : kid (byteAt bytesOf (k + d) p) cs ≡ leaf ps) (f : filled (leaf (without p ps)) ≡ false) where
+        (l : childBy (byteAt bytesOf (k + d) p) cs ≡ leaf ps) (f : filled (leaf (without p ps)) ≡ false) where
       stays : filled (remove bytesOf (k + d) p (subtree (pathOf bytesOf k p d) t)) ≡ true
       unfolding remove filled
       stays = rw e refl
 
-      pub remove-at-last : remove bytesOf k p t ≡ replace (pathOf bytesOf k p d) t (inner (dropKid (byteAt bytesOf (k + d) p) cs))
-      unfolding remove pruneKid
+      pub remove-at-last : remove bytesOf k p t ≡ replace (pathOf bytesOf k p d) t (inner (dropChild (byteAt bytesOf (k + d) p) cs))
+      unfolding remove pruneChild
       remove-at-last = remove-path d k t h stays ∙ rw (e, remove-there bytesOf (k + d) p cs i, l, f) refl
 
       pub frees-at-last : frees bytesOf k p t ≡ true

@@ -11,22 +11,22 @@ use borrow.Author.Tests.{eqb-true, eq-eqb, ltb-true, ltb-false, ne-eqb}
 use Rattle.meaning.specs.Lists.{all, any, count}
 use Rattle.meaning.specs.Trie.{Tree, leaf, inner, Children, none, child, fresh, byteAt, nodes, nodesIn, pagesIn, pagesAmong}
 use Rattle.trie_laws.specs.Sound.{soundTrie, soundFrom}
-use Rattle.trie_laws.specs.Path.{has, kid, hasBelow, below, hasPath, subtree, pathOf, follows, depth, depthIn}
+use Rattle.trie_laws.specs.Path.{has, childBy, hasBelow, below, hasPath, subtree, pathOf, follows, depth, depthIn}
 use Rattle.meaning.proofs.Lists.{and-intro, and-first, and-second, any-append, count-append, all-append}
 use Rattle.trie_laws.proofs.Lists.{holds, fails, truth, eqb-comm, any-count, any-none, all-both, all-true}
 use Rattle.trie_laws.proofs.Sound.{SoundBelow, inner-parts, child-parts}
 use Rattle.trie_laws.proofs.Pages.{off-byte, off-bytes}
-use Rattle.trie_laws.proofs.Kids.{drop-nodes, drop-count, kid-sound}
+use Rattle.trie_laws.proofs.Children.{drop-nodes, drop-count, child-sound}
 use Rattle.trie_laws.proofs.Path.{path-parts, shift}
 
 -- ---- the longest path of a page's bytes
 module _ (bytesOf : ℕ → List ℕ) (p : ℕ) where
-  depth-kid : (k : ℕ) (cs : Children) → depthIn bytesOf k p cs ≡
-      cond (has (byteAt bytesOf k p) cs) (suc (depth bytesOf (suc k) p (kid (byteAt bytesOf k p) cs))) 0
-  unfolding depth has kid
-  depth-kid k none = refl
-  depth-kid k (child c t cs) = elim (truth (ltb c (byteAt bytesOf k p))) [
-    | holds e ↦ rw e (depth-kid k cs)
+  depth-child : (k : ℕ) (cs : Children) → depthIn bytesOf k p cs ≡
+      cond (has (byteAt bytesOf k p) cs) (suc (depth bytesOf (suc k) p (childBy (byteAt bytesOf k p) cs))) 0
+  unfolding depth has childBy
+  depth-child k none = refl
+  depth-child k (child c t cs) = elim (truth (ltb c (byteAt bytesOf k p))) [
+    | holds e ↦ rw e (depth-child k cs)
     | fails e ↦ rw e refl
   ]
 
@@ -40,26 +40,26 @@ module _ (bytesOf : ℕ → List ℕ) (p : ℕ) where
   unfolding Ends hasPath subtree pathOf depth hasBelow
   ends-leaf k ps = (refl, refl)
 
-  ends-inner : (k : ℕ) (cs : Children) → Ends (suc k) (kid (byteAt bytesOf k p) cs) → Ends k (inner cs)
+  ends-inner : (k : ℕ) (cs : Children) → Ends (suc k) (childBy (byteAt bytesOf k p) cs) → Ends k (inner cs)
   unfolding Ends hasPath subtree pathOf depth hasBelow below
   ends-inner k cs i = elim (truth (has (byteAt bytesOf k p) cs)) [
     | holds e ↦
-        rw (depth-kid k cs, e, shift k (depth bytesOf (suc k) p (kid (byteAt bytesOf k p) cs)))
-        (and-intro (has (byteAt bytesOf k p) cs) (hasPath (pathOf bytesOf (suc k) p (depth bytesOf (suc k) p (kid (byteAt bytesOf k p) cs))) (kid (byteAt bytesOf k p) cs)) e (i .0), i .1)
-    | fails e ↦ rw (depth-kid k cs, e) (refl, rw (add-zero k) e)
+        rw (depth-child k cs, e, shift k (depth bytesOf (suc k) p (childBy (byteAt bytesOf k p) cs)))
+        (and-intro (has (byteAt bytesOf k p) cs) (hasPath (pathOf bytesOf (suc k) p (depth bytesOf (suc k) p (childBy (byteAt bytesOf k p) cs))) (childBy (byteAt bytesOf k p) cs)) e (i .0), i .1)
+    | fails e ↦ rw (depth-child k cs, e) (refl, rw (add-zero k) e)
   ]
 
   mutual
-    unfolding kid fresh
+    unfolding childBy fresh
 
     depth-ends : (k : ℕ) (t : Tree) → Ends k t
     depth-ends k (leaf ps) = ends-leaf k ps
-    depth-ends k (inner cs) = ends-inner k cs (kid-ends k cs)
+    depth-ends k (inner cs) = ends-inner k cs (child-ends k cs)
 
-    kid-ends : (k : ℕ) (cs : Children) → Ends (suc k) (kid (byteAt bytesOf k p) cs)
-    kid-ends k none = ends-leaf (suc k) []
-    kid-ends k (child c t cs) = elim (truth (ltb c (byteAt bytesOf k p))) [
-      | holds e ↦ rw e (kid-ends k cs)
+    child-ends : (k : ℕ) (cs : Children) → Ends (suc k) (childBy (byteAt bytesOf k p) cs)
+    child-ends k none = ends-leaf (suc k) []
+    child-ends k (child c t cs) = elim (truth (ltb c (byteAt bytesOf k p))) [
+      | holds e ↦ rw e (child-ends k cs)
       | fails e ↦ rw e (depth-ends (suc k) t)
     ]
 
@@ -95,20 +95,20 @@ module _ (bytesOf : ℕ → List ℕ) where
 
 -- ---- what holds of all pages holds of those below a path
 module _ (q : ℕ → Bool) where
-  kid-all : (y : ℕ) (cs : Children) → all q (pagesAmong cs) ≡ true → all q (pagesIn (kid y cs)) ≡ true
-  unfolding kid fresh pagesIn all
-  kid-all y none h = refl
-  kid-all y (child c t cs) h =
+  child-all : (y : ℕ) (cs : Children) → all q (pagesAmong cs) ≡ true → all q (pagesIn (childBy y cs)) ≡ true
+  unfolding childBy fresh pagesIn all
+  child-all y none h = refl
+  child-all y (child c t cs) h =
       let i : all q (pagesIn t) && all q (pagesAmong cs) ≡ true = sym (all-append q (pagesIn t) (pagesAmong cs)) ∙ h in
       elim (truth (ltb c y)) [
-        | holds e ↦ rw e (kid-all y cs (and-second (all q (pagesIn t)) (all q (pagesAmong cs)) i))
+        | holds e ↦ rw e (child-all y cs (and-second (all q (pagesIn t)) (all q (pagesAmong cs)) i))
         | fails e ↦ rw e (and-first (all q (pagesIn t)) (all q (pagesAmong cs)) i)
       ]
 
   below-all : (y : ℕ) (t : Tree) → all q (pagesIn t) ≡ true → all q (pagesIn (below y t)) ≡ true
   unfolding below pagesIn
   below-all y (leaf ps) h = h
-  below-all y (inner cs) h = kid-all y cs h
+  below-all y (inner cs) h = child-all y cs h
 
   pub subtree-all : (ys : List ℕ) (t : Tree) → all q (pagesIn t) ≡ true → all q (pagesIn (subtree ys t)) ≡ true
   unfolding subtree
@@ -116,13 +116,13 @@ module _ (q : ℕ → Bool) where
   subtree-all (y ∷ ys) t h = subtree-all ys (below y t) (below-all y t h)
 
 -- ---- a subtree has no more nodes, and no more pages
-kid-nodes : (y : ℕ) (cs : Children) → has y cs ≡ true → nodes (kid y cs) ≤ nodesIn cs
-kid-nodes y cs h = omega (arith, drop-nodes y cs h)
+child-nodes : (y : ℕ) (cs : Children) → has y cs ≡ true → nodes (childBy y cs) ≤ nodesIn cs
+child-nodes y cs h = omega (arith, drop-nodes y cs h)
 
 below-nodes : (y : ℕ) (t : Tree) → hasBelow y t ≡ true → suc (nodes (below y t)) ≤ nodes t
 unfolding hasBelow below nodes
 below-nodes y (leaf ps) h = absurd (false≢true h)
-below-nodes y (inner cs) h = omega (arith, kid-nodes y cs h)
+below-nodes y (inner cs) h = omega (arith, child-nodes y cs h)
 
 pub subtree-nodes : (ys : List ℕ) (t : Tree) → hasPath ys t ≡ true → length ys + nodes (subtree ys t) ≤ nodes t
 unfolding subtree
@@ -148,7 +148,7 @@ module _ (bytesOf : ℕ → List ℕ) (b n len : ℕ) where
   below-sound : (k y : ℕ) (t : Tree) → soundTrie bytesOf b n len k t ≡ true → hasBelow y t ≡ true → SoundBelow bytesOf b n len k y (below y t)
   unfolding hasBelow below
   below-sound k y (leaf ps) h e = absurd (false≢true e)
-  below-sound k y (inner cs) h e = kid-sound bytesOf b n len k 0 y cs (inner-parts bytesOf b n len k cs h .kids) e
+  below-sound k y (inner cs) h e = child-sound bytesOf b n len k 0 y cs (inner-parts bytesOf b n len k cs h .childrenB) e
 
   below-level : (k y : ℕ) (t : Tree) → soundTrie bytesOf b n len k t ≡ true → hasBelow y t ≡ true → k < len
   unfolding hasBelow
@@ -185,11 +185,11 @@ module _ (bytesOf : ℕ → List ℕ) (b n len : ℕ) where
 
   -- a page stands nowhere but on its path: where the path goes on it stands below, and where it ends at a gap it does not stand
   module _ (p : ℕ) where
-    kid-times : (k lo : ℕ) (cs : Children) → soundFrom bytesOf b n len k lo cs ≡ true → has (byteAt bytesOf k p) cs ≡ true →
-        count (eqb p) (pagesAmong cs) ≡ count (eqb p) (pagesIn (kid (byteAt bytesOf k p) cs))
-    unfolding has kid pagesIn
-    kid-times k lo none h e = absurd (false≢true e)
-    kid-times k lo (child c t cs) h e =
+    child-times : (k lo : ℕ) (cs : Children) → soundFrom bytesOf b n len k lo cs ≡ true → has (byteAt bytesOf k p) cs ≡ true →
+        count (eqb p) (pagesAmong cs) ≡ count (eqb p) (pagesIn (childBy (byteAt bytesOf k p) cs))
+    unfolding has childBy pagesIn
+    child-times k lo none h e = absurd (false≢true e)
+    child-times k lo (child c t cs) h e =
         let y : ℕ = byteAt bytesOf k p in
         let s = child-parts bytesOf b n len k lo c t cs h in
         elim (truth (ltb c y)) [
@@ -198,7 +198,7 @@ module _ (bytesOf : ℕ → List ℕ) (b n len : ℕ) where
               simp (l, count-append)
               (omega (
                 arith,
-                kid-times k (suc c) cs (s .rest) (rw l at e),
+                child-times k (suc c) cs (s .rest) (rw l at e),
                 any-none (eqb p) (pagesIn t) (off-byte bytesOf k p c (pagesIn t) (s .here .path) (ne-eqb y c (omega arith))),
               ))
           | fails l ↦
@@ -232,7 +232,7 @@ module _ (bytesOf : ℕ → List ℕ) (b n len : ℕ) where
         count (eqb p) (pagesIn t) ≡ count (eqb p) (pagesIn (below (byteAt bytesOf k p) t))
     unfolding hasBelow below pagesIn
     below-times k (leaf ps) h e = absurd (false≢true e)
-    below-times k (inner cs) h e = kid-times k 0 cs (inner-parts bytesOf b n len k cs h .kids) e
+    below-times k (inner cs) h e = child-times k 0 cs (inner-parts bytesOf b n len k cs h .childrenB) e
 
     pub path-times : (d k : ℕ) (t : Tree) → soundTrie bytesOf b n len k t ≡ true → hasPath (pathOf bytesOf k p d) t ≡ true →
         count (eqb p) (pagesIn t) ≡ count (eqb p) (pagesIn (subtree (pathOf bytesOf k p d) t))
@@ -255,7 +255,7 @@ module _ (bytesOf : ℕ → List ℕ) (b n len : ℕ) where
         (ps : List ℕ) × (u ≡ leaf ps) × (any (eqb p) ps ≡ true)
     unfolding hasBelow pagesIn
     end-leaf j (leaf ps) h g m = (ps, refl, m)
-    end-leaf j (inner cs) h g m = absurd (true≢false (sym m ∙ gap-any j 0 cs (inner-parts bytesOf b n len j cs h .kids) g))
+    end-leaf j (inner cs) h g m = absurd (true≢false (sym m ∙ gap-any j 0 cs (inner-parts bytesOf b n len j cs h .childrenB) g))
 
     pub reach-leaf : (k : ℕ) (t : Tree) → soundTrie bytesOf b n len k t ≡ true → any (eqb p) (pagesIn t) ≡ true →
         (ps : List ℕ) × (subtree (pathOf bytesOf k p (depth bytesOf k p t)) t ≡ leaf ps) × (any (eqb p) ps ≡ true)

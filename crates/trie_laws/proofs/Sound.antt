@@ -16,15 +16,15 @@ module _ (bytesOf : ℕ → List ℕ) (b n len k : ℕ) where
   -- an inner node
   pub record SoundInner (cs : Children) : Type 0 where
     pub level : k < len
-    pub kids : soundFrom bytesOf b n len k 0 cs ≡ true
+    pub childrenB : soundFrom bytesOf b n len k 0 cs ≡ true
 
   pub inner-parts : (cs : Children) → soundTrie bytesOf b n len k (inner cs) ≡ true → SoundInner cs
   unfolding soundTrie
-  inner-parts cs h = record { level = ltb-true k len (search and-first); kids = search (and-first, and-second) }
+  inner-parts cs h = record { level = ltb-true k len (search and-first); childrenB = search (and-first, and-second) }
 
   pub inner-whole : (cs : Children) → SoundInner cs → soundTrie bytesOf b n len k (inner cs) ≡ true
   unfolding soundTrie
-  inner-whole cs s = and-intro (ltb k len) (soundFrom bytesOf b n len k 0 cs) (lt-ltb k len (s .level)) (s .kids)
+  inner-whole cs s = and-intro (ltb k len) (soundFrom bytesOf b n len k 0 cs) (lt-ltb k len (s .level)) (s .childrenB)
 
   -- a tree that can stand below byte c
   pub record SoundBelow (c : ℕ) (t : Tree) : Type 0 where

@@ -12,28 +12,28 @@ has b none = false
 has b (child c t cs) = cond (ltb c b) (has b cs) (eqb c b)
 
 -- the child with byte b, where there is one
-unfoldable pub kid : ℕ → Children → Tree
-kid b none = fresh
-kid b (child c t cs) = cond (ltb c b) (kid b cs) t
+unfoldable pub childBy : ℕ → Children → Tree
+childBy b none = fresh
+childBy b (child c t cs) = cond (ltb c b) (childBy b cs) t
 
 -- another in its stead
-unfoldable pub setKid : ℕ → Tree → Children → Children
-setKid b u none = none
-setKid b u (child c t cs) = cond (ltb c b) (child c t (setKid b u cs)) (child c u cs)
+unfoldable pub setChild : ℕ → Tree → Children → Children
+setChild b u none = none
+setChild b u (child c t cs) = cond (ltb c b) (child c t (setChild b u cs)) (child c u cs)
 
 -- without it
-unfoldable pub dropKid : ℕ → Children → Children
-dropKid b none = none
-dropKid b (child c t cs) = cond (ltb c b) (child c t (dropKid b cs)) cs
+unfoldable pub dropChild : ℕ → Children → Children
+dropChild b none = none
+dropChild b (child c t cs) = cond (ltb c b) (child c t (dropChild b cs)) cs
 
 -- a new child at its place, where there is none with its byte
-unfoldable pub putKid : ℕ → Tree → Children → Children
-putKid b u none = child b u none
-putKid b u (child c t cs) = cond (ltb c b) (child c t (putKid b u cs)) (child b u (child c t cs))
+unfoldable pub putChild : ℕ → Tree → Children → Children
+putChild b u none = child b u none
+putChild b u (child c t cs) = cond (ltb c b) (child c t (putChild b u cs)) (child b u (child c t cs))
 
 -- a child changed: it goes where it is an empty leaf
-unfoldable pub pruneKid : ℕ → Tree → Children → Children
-pruneKid b u cs = cond (filled u) (setKid b u cs) (dropKid b cs)
+unfoldable pub pruneChild : ℕ → Tree → Children → Children
+pruneChild b u cs = cond (filled u) (setChild b u cs) (dropChild b cs)
 
 -- the same at a node; a leaf has no children
 unfoldable pub hasBelow : ℕ → Tree → Bool
@@ -42,11 +42,11 @@ hasBelow b (inner cs) = has b cs
 
 unfoldable pub below : ℕ → Tree → Tree
 below b (leaf ps) = leaf ps
-below b (inner cs) = kid b cs
+below b (inner cs) = childBy b cs
 
 unfoldable pub setBelow : ℕ → Tree → Tree → Tree
 setBelow b u (leaf ps) = leaf ps
-setBelow b u (inner cs) = inner (setKid b u cs)
+setBelow b u (inner cs) = inner (setChild b u cs)
 
 -- every child is a leaf
 unfoldable pub isLeaf : Tree → Bool

@@ -11,7 +11,7 @@ use Rattle.meaning.specs.Trie.{Tree, inner, Children, byteAt}
 use Rattle.trie.specs.declared.place.Place.the-variants.{Found, Missing}
 use Rattle.trie.specs.Heap.{Cells, Holds, node}
 use Rattle.trie.specs.Model.{findPlace}
-use Rattle.trie.specs.Phys.{Phys, Buckets, Chain, root, tree, kids, cells, State, leafP, innerP, link}
+use Rattle.trie.specs.Phys.{Phys, Buckets, Chain, root, tree, childrenB, cells, State, leafP, innerP, link}
 use Rattle.trie.proofs.Spot.{starts, begins, headC, answer, SpotB, spot}
 use Rattle.trie_laws.specs.Path.{hasBelow, hasPath, subtree, pathOf, depth}
 use Rattle.trie_laws.specs.Sound.{soundTrie}
@@ -130,7 +130,7 @@ module _ (cap pcap base : ℕ) (small : cap ≤ 262144) (bytesOf : ℕ → List 
     at-node k s (innerP n bs) w l more = go (starts (o .tail) (byteAt bytesOf k p)) refl
       where
         i : k < length Y
-        i = y .shallow k (kids bs) (w .path) (w .sub)
+        i = y .shallow k (childrenB bs) (w .path) (w .sub)
 
         m : byteAt bytesOf k p < 256
         m = omega (arith, y .bytes k i, y .octets k)

@@ -5,21 +5,21 @@ use mathlib.Core.Path.{_≡_, refl, ap, _∙_, sym}
 use mathlib.Core.Bool.{Bool, true, false, cond}
 use borrow.Author.Tests.{lt-ltb, le-ltb, ne-eqb}
 use Rattle.meaning.specs.Trie.{Tree, leaf, inner, Children, none, child, nodes}
-use Rattle.trie.specs.Phys.{Phys, Buckets, Chain, tree, kids, kidsC, SoundC, stop, link}
+use Rattle.trie.specs.Phys.{Phys, Buckets, Chain, tree, childrenB, childrenC, SoundC, stop, link}
 use Rattle.trie.proofs.Abstract.{Skips, Above}
 use Rattle.trie.proofs.Spot.{starts, SpotB}
 use Rattle.trie.proofs.Fresh.{tail-above}
-use Rattle.trie_laws.specs.Path.{has, kid, setKid, dropKid, putKid}
+use Rattle.trie_laws.specs.Path.{has, childBy, setChild, dropChild, putChild}
 use Rattle.trie_laws.proofs.Lists.{holds, fails, truth}
-use Rattle.trie_laws.proofs.Kids.{has-put, kid-put, set-put, drop-put, drop-nodes}
+use Rattle.trie_laws.proofs.Children.{has-put, child-put, set-put, drop-put, drop-nodes}
 
 -- ---- a child put among others, and a child taken out where it is there
-put-skips : (b : ℕ) (u : Tree) → Skips b (putKid b u)
-unfolding putKid
+put-skips : (b : ℕ) (u : Tree) → Skips b (putChild b u)
+unfolding putChild
 put-skips b u c t cs l = rw (lt-ltb c b l) refl
 
-put-above : (b : ℕ) (u : Tree) (cs : Children) → Above b cs → putKid b u cs ≡ child b u cs
-unfolding putKid
+put-above : (b : ℕ) (u : Tree) (cs : Children) → Above b cs → putChild b u cs ≡ child b u cs
+unfolding putChild
 put-above b u none l = refl
 put-above b u (child c t cs) l = rw (le-ltb c b (omega arith)) refl
 
@@ -29,13 +29,13 @@ has-above b none l = refl
 has-above b (child c t cs) l = rw (le-ltb c b (omega arith)) (ne-eqb c b (omega arith))
 
 out : ℕ → Children → Children
-out b cs = cond (has b cs) (dropKid b cs) cs
+out b cs = cond (has b cs) (dropChild b cs) cs
 
 out-skips : (b : ℕ) → Skips b (out b)
-unfolding out has dropKid
+unfolding out has dropChild
 out-skips b c t cs l = rw (lt-ltb c b l) (go (has b cs))
   where
-    go : (q : Bool) → cond q (child c t (dropKid b cs)) (child c t cs) ≡ child c t (cond q (dropKid b cs) cs)
+    go : (q : Bool) → cond q (child c t (dropChild b cs)) (child c t cs) ≡ child c t (cond q (dropChild b cs) cs)
     go true = refl
     go false = refl
 
@@ -49,60 +49,60 @@ out-none : (b : ℕ) (cs : Children) → out b cs ≡ cs → has b cs ≡ false
 unfolding out
 out-none b cs e = elim (truth (has b cs)) [
   | holds h ↦
-      let d : dropKid b cs ≡ cs = rw h at e in
-      absurd (omega (arith, rw d at (drop-nodes b cs h), some (kid b cs)))
+      let d : dropChild b cs ≡ cs = rw h at e in
+      absurd (omega (arith, rw d at (drop-nodes b cs h), some (childBy b cs)))
   | fails h ↦ h
 ]
 
 -- ---- at the place of byte b in a node
 module _ (cap pcap base : ℕ) (small : cap ≤ 262144) {bs : Buckets} {n g b : ℕ} (s : SpotB cap pcap base small bs n g b) where
-  before-put : (u : Tree) (cs : Children) → Above b cs → s .before (child b u cs) ≡ putKid b u (s .before cs)
-  before-put u cs l = ap (s .before) (sym (put-above b u cs l)) ∙ sym (s .skip (putKid b u) (put-skips b u) cs)
+  before-put : (u : Tree) (cs : Children) → Above b cs → s .before (child b u cs) ≡ putChild b u (s .before cs)
+  before-put u cs l = ap (s .before) (sym (put-above b u cs l)) ∙ sym (s .skip (putChild b u) (put-skips b u) cs)
 
   -- a child is there
   module _ (u : Phys) (after : Chain) (e : s .tail ≡ link b u after) where
     pub from-here : SoundC cap pcap (link b u after) b (32 * (b / 32) + 32)
     from-here = rw e at (s .from)
 
-    above : Above b (kidsC after (s .later))
+    above : Above b (childrenC after (s .later))
     above = go after (from-here .3)
       where
-        go : (ch : Chain) → SoundC cap pcap ch (suc b) (32 * (b / 32) + 32) → Above b (kidsC ch (s .later))
+        go : (ch : Chain) → SoundC cap pcap ch (suc b) (32 * (b / 32) + 32) → Above b (childrenC ch (s .later))
         go stop h = s .above
         go (link c t ch) h = omega (arith, h .0)
 
     -- the children with another in its stead, and without
-    pub with-kid : (v : Phys) → kids (s .put (link b v after)) ≡ putKid b (tree v) (kids (s .put after))
-    with-kid v = s .kids (link b v after) ∙ before-put (tree v) (kidsC after (s .later)) above ∙ ap (putKid b (tree v)) (sym (s .kids after))
+    pub with-child : (v : Phys) → childrenB (s .put (link b v after)) ≡ putChild b (tree v) (childrenB (s .put after))
+    with-child v = s .childrenB (link b v after) ∙ before-put (tree v) (childrenC after (s .later)) above ∙ ap (putChild b (tree v)) (sym (s .childrenB after))
 
-    with-this : kids bs ≡ putKid b (tree u) (kids (s .put after))
-    with-this = ap kids (sym (s .whole) ∙ ap (s .put) e) ∙ with-kid u
+    with-this : childrenB bs ≡ putChild b (tree u) (childrenB (s .put after))
+    with-this = ap childrenB (sym (s .whole) ∙ ap (s .put) e) ∙ with-child u
 
-    pub spot-has : has b (kids bs) ≡ true
-    spot-has = ap (has b) with-this ∙ has-put b (tree u) (kids (s .put after))
+    pub spot-has : has b (childrenB bs) ≡ true
+    spot-has = ap (has b) with-this ∙ has-put b (tree u) (childrenB (s .put after))
 
-    pub spot-kid : kid b (kids bs) ≡ tree u
-    spot-kid = ap (kid b) with-this ∙ kid-put b (tree u) (kids (s .put after))
+    pub spot-child : childBy b (childrenB bs) ≡ tree u
+    spot-child = ap (childBy b) with-this ∙ child-put b (tree u) (childrenB (s .put after))
 
-    pub spot-set : (v : Phys) → kids (s .put (link b v after)) ≡ setKid b (tree v) (kids bs)
-    spot-set v = with-kid v ∙ sym (ap (setKid b (tree v)) with-this ∙ set-put b (tree v) (tree u) (kids (s .put after)))
+    pub spot-set : (v : Phys) → childrenB (s .put (link b v after)) ≡ setChild b (tree v) (childrenB bs)
+    spot-set v = with-child v ∙ sym (ap (setChild b (tree v)) with-this ∙ set-put b (tree v) (tree u) (childrenB (s .put after)))
 
-    pub spot-drop : kids (s .put after) ≡ dropKid b (kids bs)
-    spot-drop = sym (ap (dropKid b) with-this ∙ drop-put b (tree u) (kids (s .put after)))
+    pub spot-drop : childrenB (s .put after) ≡ dropChild b (childrenB bs)
+    spot-drop = sym (ap (dropChild b) with-this ∙ drop-put b (tree u) (childrenB (s .put after)))
 
   -- none is there
   module _ (gap : starts (s .tail) b ≡ false) where
-    here : kids bs ≡ s .before (kidsC (s .tail) (s .later))
-    here = ap kids (sym (s .whole)) ∙ s .kids (s .tail)
+    here : childrenB bs ≡ s .before (childrenC (s .tail) (s .later))
+    here = ap childrenB (sym (s .whole)) ∙ s .childrenB (s .tail)
 
-    higher : Above b (kidsC (s .tail) (s .later))
+    higher : Above b (childrenC (s .tail) (s .later))
     higher = tail-above cap pcap base small (s .tail) b (32 * (b / 32) + 32) (s .later) gap (s .from) (s .above)
 
-    pub spot-none : has b (kids bs) ≡ false
+    pub spot-none : has b (childrenB bs) ≡ false
     unfolding out
     spot-none =
-        let K : Children = kidsC (s .tail) (s .later) in
+        let K : Children = childrenC (s .tail) (s .later) in
         ap (has b) here ∙ out-none b (s .before K) (s .skip (out b) (out-skips b) K ∙ ap (s .before) (rw (has-above b K higher) refl))
 
-    pub spot-put : (v : Phys) → kids (s .put (link b v (s .tail))) ≡ putKid b (tree v) (kids bs)
-    spot-put v = s .kids (link b v (s .tail)) ∙ before-put (tree v) (kidsC (s .tail) (s .later)) higher ∙ ap (putKid b (tree v)) (sym here)
+    pub spot-put : (v : Phys) → childrenB (s .put (link b v (s .tail))) ≡ putChild b (tree v) (childrenB bs)
+    spot-put v = s .childrenB (link b v (s .tail)) ∙ before-put (tree v) (childrenC (s .tail) (s .later)) higher ∙ ap (putChild b (tree v)) (sym here)

@@ -43,5 +43,5 @@ module _ (N : List ℕ) (cap : ℕ) (Y : List ℕ) (n s k : ℕ) (R : Reach) whe
           pub desc-gap : (s : ℕ) → r ≡ Missing s → Gap n s k ≡ R
           desc-gap s q = rw q at desc-step
 
-          pub desc-lost : r ≡ NoPlace → Broken ≡ R
-          desc-lost q = rw q at desc-step
+          pub desc-nowhere : r ≡ NoPlace → Broken ≡ R
+          desc-nowhere q = rw q at desc-step

@@ -11,7 +11,7 @@ use Rattle.trie.proofs.Spot.{SpotB}
 use Rattle.trie.proofs.Context.{Context, whole, inside, enter, leave}
 use Rattle.trie_laws.specs.Path.{hasBelow, below, setBelow, hasPath, subtree, replace, pathOf}
 use Rattle.trie_path.proofs.Paths.{path-next, sub-next, rep-next}
-use Rattle.trie_path.proofs.Spots.{from-here, spot-has, spot-kid, spot-set}
+use Rattle.trie_path.proofs.Spots.{from-here, spot-has, spot-child, spot-set}
 
 module _ (cap pcap base : ℕ) (small : cap ≤ 262144) (bytesOf : ℕ → List ℕ) (p : ℕ) where
   -- u stands in t at the end of k bytes of page p
@@ -44,7 +44,7 @@ module _ (cap pcap base : ℕ) (small : cap ≤ 262144) (bytesOf : ℕ → List 
           is = ap (λ (x : Chain). w .context .put (innerP n (s .put x))) (sym e) ∙ ap (λ (x : Buckets). w .context .put (innerP n x)) (s .whole) ∙ w .is;
           sound = from .2;
           path = path-next bytesOf p k 0 (tree t) (w .path) (rw (zero-add k, w .sub) (spot-has cap pcap base small s u after e));
-          sub = sub-next bytesOf p k 0 (tree t) ∙ rw (zero-add k, w .sub) (spot-kid cap pcap base small s u after e);
+          sub = sub-next bytesOf p k 0 (tree t) ∙ rw (zero-add k, w .sub) (spot-child cap pcap base small s u after e);
           rep = λ v. w .rep (innerP n (s .put (link y v after))) ∙ rw (spot-set cap pcap base small s u after e v) (sym (rep-next bytesOf p k 0 (tree t) (tree v) ∙ rw (zero-add k, w .sub) refl));
         }
 

@@ -10,18 +10,18 @@ use lib.ListN.{length, length-set}
 use Rattle.meaning.specs.Lists.{any}
 use Rattle.meaning.specs.Trie.{Children, leaf, inner, without, byteAt, remove, pagesIn}
 use Rattle.trie.specs.Heap.{Cells, page, _⊕_}
-use Rattle.trie.specs.Phys.{Phys, Chain, root, tree, kids, first, SoundC, State, leafP, innerP, link}
+use Rattle.trie.specs.Phys.{Phys, Chain, root, tree, childrenB, first, SoundC, State, leafP, innerP, link}
 use Rattle.trie.proofs.Frame.{same-swap}
 use Rattle.trie.proofs.Context.{enter, beside}
 use Rattle.trie_laws.specs.Sound.{filled, soundTrie}
 use Rattle.trie_laws.specs.Needed.{frees}
-use Rattle.trie_laws.specs.Path.{has, kid, subtree, replace, pathOf, depth}
+use Rattle.trie_laws.specs.Path.{has, childBy, subtree, replace, pathOf, depth}
 use Rattle.trie_laws.proofs.Path.{remove-at-leaf, frees-at-leaf, remove-at-last, frees-at-last}
 use Rattle.trie_laws.proofs.Reach.{reach-leaf}
 use Rattle.trie_path.specs.declared.Reach.{Reach}
 use Rattle.trie_path.specs.declared.Reach.the-variants.{Leaf, Gap, Broken}
 use Rattle.trie_path.specs.Descend.{descendTo}
-use Rattle.trie_path.proofs.Spots.{from-here, spot-has, spot-kid, spot-drop}
+use Rattle.trie_path.proofs.Spots.{from-here, spot-has, spot-child, spot-drop}
 use Rattle.trie_path.proofs.Way.{Way, onward, onward-put, go-in, go-out}
 use Rattle.trie_path.proofs.Arrival.{Leads, Parent, AtLeaf, Arrives, arrives}
 use Rattle.trie_remove.specs.declared.Removed.the-variants.{Done}
@@ -138,8 +138,8 @@ module _ {cap pcap base : ℕ} (small : cap ≤ 262144) (bytesOf : ℕ → List 
     unfolding freeChild filled
     at-last =
         let M : List ℕ = freeChild (d .nodesTo) cap (a .spot .slot) n free in
-        let i : has (byteAt bytesOf (0 + j) p) (kids (a .buckets)) ≡ true = rw (zero-add j) (spot-has cap pcap base small (a .spot) (leafP n ps) (a .after) (a .here)) in
-        let l : kid (byteAt bytesOf (0 + j) p) (kids (a .buckets)) ≡ leaf ps = rw (zero-add j) (spot-kid cap pcap base small (a .spot) (leafP n ps) (a .after) (a .here)) in
+        let i : has (byteAt bytesOf (0 + j) p) (childrenB (a .buckets)) ≡ true = rw (zero-add j) (spot-has cap pcap base small (a .spot) (leafP n ps) (a .after) (a .here)) in
+        let l : childBy (byteAt bytesOf (0 + j) p) (childrenB (a .buckets)) ≡ leaf ps = rw (zero-add j) (spot-child cap pcap base small (a .spot) (leafP n ps) (a .after) (a .here)) in
         let f : filled (leaf (without p ps)) ≡ false = rw (first-none (without p ps) z) refl in
         record {
           nodesTo = M;
@@ -153,8 +153,8 @@ module _ {cap pcap base : ℕ} (small : cap ≤ 262144) (bytesOf : ℕ → List 
           root = a .way .context .roots rest refl;
           removed =
               a .way .rep rest ∙ ap (λ (cs : Children). replace (pathOf bytesOf 0 p j) (tree t) (inner cs)) (spot-drop cap pcap base small (a .spot) (leafP n ps) (a .after) (a .here))
-              ∙ sym (rw (zero-add j) at (remove-at-last bytesOf p j 0 (tree t) (a .way .path) (kids (a .buckets)) ps (a .way .sub) i l f));
-          count = rw (frees-at-last bytesOf p j 0 (tree t) (a .way .path) (kids (a .buckets)) ps (a .way .sub) i l f) (omega arith);
+              ∙ sym (rw (zero-add j) at (remove-at-last bytesOf p j 0 (tree t) (a .way .path) (childrenB (a .buckets)) ps (a .way .sub) i l f));
+          count = rw (frees-at-last bytesOf p j 0 (tree t) (a .way .path) (childrenB (a .buckets)) ps (a .way .sub) i l f) (omega arith);
           nodesLength = simp length-set (d .nodesLength);
           pagesLength = d .pagesLength;
         }
@@ -188,7 +188,7 @@ module _ {cap pcap base : ℕ} (bytesOf : ℕ → List ℕ) (p : ℕ) {N P : Lis
           (at-leaf (st .nodeTable .small) bytesOf p st n s k a (rw q (x .2)))
       go (Gap n s k) e a =
           let x = reached k (a .deep) in
-          let o : inner (kids (a .buckets)) ≡ leaf (x .0) = sym (a .way .sub) ∙ x .1 in
+          let o : inner (childrenB (a .buckets)) ≡ leaf (x .0) = sym (a .way .sub) ∙ x .1 in
           let i : _≡_ {A = ℕ} 0 1 = cc in
           absurd (omega arith)
       go Broken e a = absurd a

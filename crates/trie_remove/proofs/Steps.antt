@@ -9,7 +9,8 @@ use lib.Dec.{ltb, eqb}
 use lib.ListN.{getD, set}
 use Rattle.layout.specs.Nodes.{stateAt, leafState}
 use Rattle.trie_path.specs.declared.Reach.{Reach}
-use Rattle.trie_path.specs.declared.Reach.the-variants.{Leaf, Gap, Broken as Lost}
+use Rattle.trie_path.specs.declared.Reach.the-variants.{Leaf, Gap}
+use Rattle.trie_path.specs.declared.Reach.the-variants as reach
 use Rattle.trie_path.specs.Descend.{descendTo, Inside as ReachInside}
 use Rattle.trie_remove.specs.declared.Taken.{Taken}
 use Rattle.trie_remove.specs.declared.Taken.the-variants.{First, Inside, Missing, Broken}
@@ -20,9 +21,9 @@ use Rattle.trie_remove.specs.Remove.{freeChild, setFirst, removeAt, remo
 -- `takePage`, where the page is the first, and where it is not
 module _ (P : List ℕ) (pcap base l p : ℕ) where
   module _ (e : l ≡ p + 1) where
-    pub first-wild : pcap < getD P (base + p) 0 → took P Broken ≡ takePage P pcap base l p
+    pub first-broken : pcap < getD P (base + p) 0 → took P Broken ≡ takePage P pcap base l p
     unfolding takePage
-    first-wild w = rw (eq-eqb _ _ e, lt-ltb _ _ w) refl
+    first-broken w = rw (eq-eqb _ _ e, lt-ltb _ _ w) refl
 
     pub first-out : getD P (base + p) 0 ≤ pcap → took P (First (getD P (base + p) 0)) ≡ takePage P pcap base l p
     unfolding takePage
@@ -54,8 +55,8 @@ module _ (P : List ℕ) (pcap base p l f : ℕ) (R : Took) (inv : takeFrom P pca
     take-none e = rw (eq-eqb _ _ e) at take-step
 
     module _ (e : l ≡ 0 → ⊥) where
-      pub take-wild : pcap < l → took P Broken ≡ R
-      take-wild w = rw (ne-eqb _ _ e, lt-ltb _ _ w) at take-step
+      pub take-broken : pcap < l → took P Broken ≡ R
+      take-broken w = rw (ne-eqb _ _ e, lt-ltb _ _ w) at take-step
 
       module _ (w : l ≤ pcap) where
         pub take-here : getD P at 0 ≡ p + 1 → took (set P at (getD P (base + p) 0)) Inside ≡ R
@@ -113,9 +114,9 @@ module _ (N P : List ℕ) (cap pcap base n s k p free : ℕ) (ps : List ℕ) (a 
   unfolding removeAt
   remove-missing q = rw (← e, q) refl
 
-  pub remove-torn : a ≡ Broken → gone N ps Undone ≡ removeAt N P cap pcap base n s k p free
+  pub remove-unlinked : a ≡ Broken → gone N ps Undone ≡ removeAt N P cap pcap base n s k p free
   unfolding removeAt
-  remove-torn q = rw (← e, q) refl
+  remove-unlinked q = rw (← e, q) refl
 
 -- `removePage`, by each way
 module _ (N P : List ℕ) (cap pcap base root : ℕ) (Y : List ℕ) (p free : ℕ) (r : Reach) (e : r ≡ descendTo N cap root Y) where
@@ -127,6 +128,6 @@ module _ (N P : List ℕ) (cap pcap base root : ℕ) (Y : List ℕ) (p free : �
   unfolding removePage
   remove-gap n s k q = rw (← e, q) refl
 
-  pub remove-lost : r ≡ Lost → gone N P Undone ≡ removePage N P cap pcap base root Y p free
+  pub remove-nowhere : r ≡ reach.Broken → gone N P Undone ≡ removePage N P cap pcap base root Y p free
   unfolding removePage
-  remove-lost q = rw (← e, q) refl
+  remove-nowhere q = rw (← e, q) refl

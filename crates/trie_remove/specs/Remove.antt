@@ -7,9 +7,11 @@ use lib.ListN.{getD, set}
 use Rattle.layout.specs.Nodes.{withLink, stateAt, freeState, leafState}
 use Rattle.trie.specs.Model.{linkAt}
 use Rattle.trie_path.specs.declared.Reach.{Reach}
-use Rattle.trie_path.specs.declared.Reach.the-variants.{Leaf, Gap, Broken as Lost}
+use Rattle.trie_path.specs.declared.Reach.the-variants.{Leaf, Gap}
+use Rattle.trie_path.specs.declared.Reach.the-variants as reach
 use Rattle.trie_path.specs.Descend.{descendTo}
-use Rattle.trie_remove.specs.declared.Taken.the-variants.{First, Inside, Missing, Broken as Torn}
+use Rattle.trie_remove.specs.declared.Taken.the-variants.{First, Inside, Missing}
+use Rattle.trie_remove.specs.declared.Taken.the-variants as taken
 use Rattle.trie_remove.specs.declared.Removed.{Removed}
 use Rattle.trie_remove.specs.declared.Removed.the-variants.{Done, Broken}
 use Rattle.trie_remove.specs.Take.{Took, took, takePage}
@@ -39,7 +41,7 @@ abbrev pub removeTaken : List ℕ → ℕ → ℕ → ℕ → ℕ → ℕ → To
 removeTaken N cap n s k free (took P (First l)) = goneTo P (setFirst N cap n s k l free)
 removeTaken N cap n s k free (took P Inside) = gone N P (Done free)
 removeTaken N cap n s k free (took P Missing) = gone N P Broken
-removeTaken N cap n s k free (took P Torn) = gone N P Broken
+removeTaken N cap n s k free (took P taken.Broken) = gone N P Broken
 
 -- page p out of leaf n
 unfoldable pub removeAt : List ℕ → List ℕ → ℕ → ℕ → ℕ → ℕ → ℕ → ℕ → ℕ → ℕ → Gone
@@ -48,7 +50,7 @@ removeAt N P cap pcap base n s k p free = removeTaken N cap n s k free (takePage
 abbrev pub removeReached : List ℕ → List ℕ → ℕ → ℕ → ℕ → ℕ → ℕ → Reach → Gone
 removeReached N P cap pcap base p free (Leaf n s k) = removeAt N P cap pcap base n s k p free
 removeReached N P cap pcap base p free (Gap n s k) = gone N P Broken
-removeReached N P cap pcap base p free Lost = gone N P Broken
+removeReached N P cap pcap base p free reach.Broken = gone N P Broken
 
 -- page p out of the leaf where its bytes Y lead
 unfoldable pub removePage : List ℕ → List ℕ → ℕ → ℕ → ℕ → ℕ → List ℕ → ℕ → ℕ → Gone

@@ -29,9 +29,9 @@ module _ (T : List ℕ) (base cap link : ℕ) where
     chain-long z = rw (z, ne-eqb link 0 e) refl
 
     module _ (h : f ≡ 0 → ⊥) where
-      pub chain-wild : cap < link → chainFrom T base cap link f ≡ broken
+      pub chain-broken : cap < link → chainFrom T base cap link f ≡ broken
       unfolding chainFrom
-      chain-wild l = ap (chainFrom T base cap link) (suc-pred f h) ∙ rw (ne-eqb link 0 e, lt-ltb cap link l) refl
+      chain-broken l = ap (chainFrom T base cap link) (suc-pred f h) ∙ rw (ne-eqb link 0 e, lt-ltb cap link l) refl
 
       pub chain-next : link ≤ cap → chainFrom T base cap link f ≡ ahead (link - 1) (chainFrom T base cap (nextLink T base link) (f - 1))
       unfolding chainFrom
@@ -98,8 +98,8 @@ module _ (T : List ℕ) (base cap : ℕ) (byteOf : ℕ → ℕ) (seen : List Boo
     bytes-long z = rw (chain-long T base cap link f e z) at inv
 
     module _ (h : f ≡ 0 → ⊥) where
-      pub bytes-wild : cap < link → Broken ≡ R
-      bytes-wild l = rw (chain-wild T base cap link f e h l) at inv
+      pub bytes-broken : cap < link → Broken ≡ R
+      bytes-broken l = rw (chain-broken T base cap link f e h l) at inv
 
       pub bytes-next : link ≤ cap → (v : ℕ) → v ≡ byteOf (link - 1) → v < length seen →
           counted byteOf (set seen v true) (n + boolByte (not (flagged seen v))) (chainFrom T base cap (nextLink T base link) (f - 1)) ≡ R

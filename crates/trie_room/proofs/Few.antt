@@ -9,11 +9,13 @@ use Rattle.layout.specs.Nodes.{stateAt}
 use Rattle.trie.specs.declared.Rows.{Rows}
 use Rattle.trie.specs.declared.Level.{Level}
 use Rattle.trie.specs.declared.span.Span.{Span}
-use Rattle.trie.specs.declared.span.Span.the-variants.{Enough, Short, Wild}
+use Rattle.trie.specs.declared.span.Span.the-variants.{Enough, Short}
+use Rattle.trie.specs.declared.span.Span.the-variants as spans
 use Rattle.trie.specs.Model.{pageByte, spanFrom, levelAt}
 use Rattle.trie_laws.proofs.Distinct.{distinct-length}
 use Rattle.trie_path.specs.declared.Reach.{Reach}
-use Rattle.trie_path.specs.declared.Reach.the-variants.{Leaf, Gap, Broken as Lost}
+use Rattle.trie_path.specs.declared.Reach.the-variants.{Leaf, Gap}
+use Rattle.trie_path.specs.declared.Reach.the-variants as reach
 use Rattle.trie_path.specs.Descend.{descendTo}
 use Rattle.trie_room.specs.declared.needed.Needed.{Needed}
 use Rattle.trie_room.specs.declared.needed.Needed.the-variants.{Nodes}
@@ -51,7 +53,7 @@ distinct-few P S pcap base v link byte = bytes-few (pageByte S v) byte pcap (cha
 long-few : (x : Needed) (q : Span) (n : ℕ) → countIn x ≤ n → countIn (whereLong x q) ≤ n
 long-few x Enough n h = h
 long-few x Short n h = omega arith
-long-few x Wild n h = omega arith
+long-few x spans.Broken n h = omega arith
 
 module _ (P S τ : List ℕ) (pcap base : ℕ) (r : Rows) where
   leaf-few : (k link byte : ℕ) → countIn (leafNeeds P S τ pcap base r k link byte) ≤ pcap + 1
@@ -75,7 +77,7 @@ module _ (P S τ : List ℕ) (pcap base : ℕ) (r : Rows) where
       go true = omega (arith, leaf-few k (getD N (stateAt cap n) 0 - 2) (getD Y k 0))
       go false = omega arith
   at-few Y N cap (Gap n s k) = omega (arith, gap-few (length Y) (suc k))
-  at-few Y N cap Lost = omega arith
+  at-few Y N cap reach.Broken = omega arith
 
   pub needed-few : (Y N : List ℕ) (cap root : ℕ) → countIn (nodesNeeded P S τ pcap base r Y N cap root) ≤ pcap + 2
   unfolding nodesNeeded

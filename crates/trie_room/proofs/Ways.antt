@@ -9,10 +9,12 @@ use Rattle.layout.specs.Nodes.{stateAt}
 use Rattle.trie.specs.declared.Level.{Level}
 use Rattle.trie.specs.declared.Rows.{Rows}
 use Rattle.trie.specs.declared.span.Span.{Span}
-use Rattle.trie.specs.declared.span.Span.the-variants.{Enough, Short, Wild}
+use Rattle.trie.specs.declared.span.Span.the-variants.{Enough, Short}
+use Rattle.trie.specs.declared.span.Span.the-variants as spans
 use Rattle.trie.specs.Model.{spanFrom, levelAt}
 use Rattle.trie_path.specs.declared.Reach.{Reach}
-use Rattle.trie_path.specs.declared.Reach.the-variants.{Leaf, Gap, Broken as Lost}
+use Rattle.trie_path.specs.declared.Reach.the-variants.{Leaf, Gap}
+use Rattle.trie_path.specs.declared.Reach.the-variants as reach
 use Rattle.trie_path.specs.Descend.{Inside}
 use Rattle.trie_room.specs.declared.needed.Needed.{Needed}
 use Rattle.trie_room.specs.declared.needed.Needed.the-variants.{Nodes, Broken}
@@ -43,9 +45,9 @@ module _ (P S τ : List ℕ) (pcap base : ℕ) (r : Rows) (k link byte : ℕ) (q
   unfolding leafNeeds
   leaf-stays z = rw (sym e ∙ z) refl
 
-  pub leaf-wild : q ≡ Wild → Broken ≡ leafNeeds P S τ pcap base r k link byte
+  pub leaf-broken : q ≡ spans.Broken → Broken ≡ leafNeeds P S τ pcap base r k link byte
   unfolding leafNeeds
-  leaf-wild z = rw (sym e ∙ z) refl
+  leaf-broken z = rw (sym e ∙ z) refl
 
 -- what a match tells
 pub leaf-in : (N : List ℕ) (cap len : ℕ) (g : Reach) (n s k : ℕ) → g ≡ Leaf n s k → Inside N cap len g → (n < cap) × (1 < getD N (stateAt cap n) 0)
@@ -66,5 +68,5 @@ module _ (P S τ : List ℕ) (pcap base : ℕ) (r : Rows) (Y N : List ℕ) (cap 
   pub at-gap : (n s k : ℕ) → g ≡ Gap n s k → (x : ℕ) → x ≡ gapNeeds τ (length Y) (k + 1) → Nodes x ≡ neededAt P S τ pcap base r Y N cap g
   at-gap n s k q x e = rw q (ap Nodes (e ∙ ap (gapNeeds τ (length Y)) (add-one k)))
 
-  pub at-none : g ≡ Lost → Broken ≡ neededAt P S τ pcap base r Y N cap g
+  pub at-none : g ≡ reach.Broken → Broken ≡ neededAt P S τ pcap base r Y N cap g
   at-none q = rw q refl

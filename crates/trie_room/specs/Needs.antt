@@ -8,11 +8,13 @@ use Rattle.layout.specs.Nodes.{stateAt}
 use Rattle.trie.specs.declared.Level.{Level}
 use Rattle.trie.specs.declared.Rows.{Rows}
 use Rattle.trie.specs.declared.span.Span.{Span}
-use Rattle.trie.specs.declared.span.Span.the-variants.{Enough, Short, Wild}
+use Rattle.trie.specs.declared.span.Span.the-variants.{Enough, Short}
+use Rattle.trie.specs.declared.span.Span.the-variants as spans
 use Rattle.trie.specs.Model.{pageByte, spanFrom, levelAt}
 use Rattle.trie_laws.specs.Needed.{distinctFrom}
 use Rattle.trie_path.specs.declared.Reach.{Reach}
-use Rattle.trie_path.specs.declared.Reach.the-variants.{Leaf, Gap, Broken as Lost}
+use Rattle.trie_path.specs.declared.Reach.the-variants.{Leaf, Gap}
+use Rattle.trie_path.specs.declared.Reach.the-variants as reach
 use Rattle.trie_path.specs.Descend.{descendTo}
 use Rattle.trie_room.specs.declared.needed.Needed.{Needed}
 use Rattle.trie_room.specs.declared.needed.Needed.the-variants.{Nodes, Broken}
@@ -35,7 +37,7 @@ distinctBytes P S pcap base v first byte = bytesWith (pageByte S v) byte (chainF
 abbrev pub whereLong : Needed → Span → Needed
 whereLong r Enough = r
 whereLong r Short = Nodes 0
-whereLong r Wild = Broken
+whereLong r spans.Broken = Broken
 
 -- a new leaf at level k of len levels with a byte: one node, and one more where it splits at once
 unfoldable pub gapNeeds : List ℕ → ℕ → ℕ → ℕ
@@ -51,7 +53,7 @@ module _ (P S τ : List ℕ) (pcap base : ℕ) (r : Rows) where
   abbrev pub neededAt : List ℕ → List ℕ → ℕ → Reach → Needed
   neededAt Y N cap (Leaf n s k) = cond (ltb k (length Y)) (leafNeeds k (getD N (stateAt cap n) 0 - 2) (getD Y k 0)) (Nodes 0)
   neededAt Y N cap (Gap n s k) = Nodes (gapNeeds τ (length Y) (suc k))
-  neededAt Y N cap Lost = Broken
+  neededAt Y N cap reach.Broken = Broken
 
   unfoldable pub nodesNeeded : List ℕ → List ℕ → ℕ → ℕ → Needed
   nodesNeeded Y N cap root = neededAt Y N cap (descendTo N cap root Y)

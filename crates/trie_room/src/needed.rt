@@ -85,7 +85,7 @@ fn leaf_needs(
             distinct_bytes(pages, sketches, block, level, first, byte)
         }
         Span::Short => Needed::Nodes(0),
-        Span::Wild => Needed::Broken,
+        Span::Broken => Needed::Broken,
     }
 }
 

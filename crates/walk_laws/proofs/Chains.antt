@@ -12,7 +12,7 @@ use Rattle.meaning.specs.Sketch.{byteDistance}
 use Rattle.meaning.specs.Trie.{Children, none, met, metIn}
 use Rattle.layout.specs.Nodes.{linkOf, byteOf, chainWord, stateAt, innerState, leafState}
 use Rattle.trie.specs.Heap.{Holds}
-use Rattle.trie.specs.Phys.{Phys, leafP, innerP, Chain, stop, link, root, tree, kidsC, cellsC, Sound, SoundC}
+use Rattle.trie.specs.Phys.{Phys, leafP, innerP, Chain, stop, link, root, tree, childrenC, cellsC, Sound, SoundC}
 use Rattle.walk.specs.declared.frame.Frame.{Frame}
 use Rattle.walk.specs.declared.frame.Step.the-variants.{Stay, Leaf, Exact, Down, Up}
 use Rattle.walk.specs.Frame.{byteIn, stepTo, stepAlong, stepIn}
@@ -88,10 +88,10 @@ module _ (nodes : List ℕ) (cap x d radius at l : ℕ) where
 -- ---- what is met
 module _ (b r y : ℕ) (ys : List ℕ) where
   -- in a chain, and in the chains after it
-  pub met-chain : (ch : Chain) (cs : Children) → metIn b r (kidsC ch cs) (y ∷ ys) ≡ metIn b r (kidsC ch none) (y ∷ ys) ++ metIn b r cs (y ∷ ys)
+  pub met-chain : (ch : Chain) (cs : Children) → metIn b r (childrenC ch cs) (y ∷ ys) ≡ metIn b r (childrenC ch none) (y ∷ ys) ++ metIn b r cs (y ∷ ys)
   unfolding metIn
   met-chain stop cs = refl
   met-chain (link c t ch) cs =
       let here : List ℕ = cond (leb (byteDistance b (bitXor c y)) r) (met b (r - byteDistance b (bitXor c y)) (tree t) ys) [] in
       ap (λ ps. here ++ ps) (met-chain ch cs)
-      ∙ sym (append-assoc here (metIn b r (kidsC ch none) (y ∷ ys)) (metIn b r cs (y ∷ ys)))
+      ∙ sym (append-assoc here (metIn b r (childrenC ch none) (y ∷ ys)) (metIn b r cs (y ∷ ys)))

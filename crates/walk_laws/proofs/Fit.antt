@@ -11,7 +11,7 @@ use lib.Bits.{bitXor}
 use borrow.Author.Tests.{ltb-true, lt-leb}
 use Rattle.meaning.specs.Sketch.{perByte, symbolsAt, packable, byteDistance}
 use Rattle.meaning.specs.Trie.{Children, none, metIn}
-use Rattle.trie.specs.Phys.{Phys, leafP, innerP, Buckets, end, bucket, Chain, stop, link, tree, kids, kidsC, SoundB, SoundC}
+use Rattle.trie.specs.Phys.{Phys, leafP, innerP, Buckets, end, bucket, Chain, stop, link, tree, childrenB, childrenC, SoundB, SoundC}
 use Rattle.trie_laws.specs.Sound.{soundTrie, soundFrom}
 use Rattle.trie_laws.proofs.Sound.{inner-parts, child-parts}
 use Rattle.sketch_laws.proofs.Packing.{per-byte-le}
@@ -54,19 +54,19 @@ module _ (bytesOf : ℕ → List ℕ) (b n len : ℕ) where
     pub fit : (t : Phys) (k : ℕ) → soundTrie bytesOf b n len k (tree t) ≡ true → Fit b len t k
     fit (leafP x ps) k h = tt
     fit (innerP x bs) k h =
-        let parts = inner-parts bytesOf b n len k (kids bs) h in
-        (parts .level, fit-buckets bs k (record { lo = 0; sound = parts .kids }))
+        let parts = inner-parts bytesOf b n len k (childrenB bs) h in
+        (parts .level, fit-buckets bs k (record { lo = 0; sound = parts .childrenB }))
 
-    fit-buckets : (bs : Buckets) (k : ℕ) → Rest (kids bs) k → FitB b len bs k
+    fit-buckets : (bs : Buckets) (k : ℕ) → Rest (childrenB bs) k → FitB b len bs k
     fit-buckets end k h = tt
     fit-buckets (bucket ch bs) k h =
-        let both = fit-chain ch (kids bs) k h in
+        let both = fit-chain ch (childrenB bs) k h in
         (both .0, fit-buckets bs k (both .1))
 
-    fit-chain : (ch : Chain) (cs : Children) (k : ℕ) → Rest (kidsC ch cs) k → FitC b len ch k × Rest cs k
+    fit-chain : (ch : Chain) (cs : Children) (k : ℕ) → Rest (childrenC ch cs) k → FitC b len ch k × Rest cs k
     fit-chain stop cs k h = (tt, h)
     fit-chain (link c t ch) cs k h =
-        let parts = child-parts bytesOf b n len k (h .lo) c (tree t) (kidsC ch cs) (h .sound) in
+        let parts = child-parts bytesOf b n len k (h .lo) c (tree t) (childrenC ch cs) (h .sound) in
         let both = fit-chain ch cs k (record { lo = suc c; sound = parts .rest }) in
         ((packable-below b n k c (parts .here .packing), fit t (suc k) (parts .here .sub), both .0), both .1)
 
@@ -74,7 +74,7 @@ module _ (bytesOf : ℕ → List ℕ) (b n len : ℕ) where
 module _ (cap pcap b len y : ℕ) (ys : List ℕ) (query : y < 2 ^ (b * perByte b)) where
   -- a chain without the query's byte
   pub unmet : (ch : Chain) (lo hi k : ℕ) → SoundC cap pcap ch lo hi → FitC b len ch k → ((c : ℕ) → lo ≤ c → c < hi → c ≢ y)
-      → metIn b 0 (kidsC ch none) (y ∷ ys) ≡ []
+      → metIn b 0 (childrenC ch none) (y ∷ ys) ≡ []
   unfolding metIn
   unmet stop lo hi k s f away = refl
   unmet (link c t ch) lo hi k s f away =
@@ -82,11 +82,11 @@ module _ (cap pcap b len y : ℕ) (ys : List ℕ) (query : y < 2 ^ (b * perByte 
       (unmet ch (suc c) hi k (s .3) (f .2) (λ e l m. away e (omega (arith, s .0)) m))
 
   -- the chains past it
-  pub unmet-past : (bs : Buckets) (g k : ℕ) → SoundB cap pcap bs g → FitB b len bs k → y < 32 * g → metIn b 0 (kids bs) (y ∷ ys) ≡ []
+  pub unmet-past : (bs : Buckets) (g k : ℕ) → SoundB cap pcap bs g → FitB b len bs k → y < 32 * g → metIn b 0 (childrenB bs) (y ∷ ys) ≡ []
   unfolding metIn
   unmet-past end g k s f l = refl
   unmet-past (bucket ch bs) g k s f l =
-      met-chain b 0 y ys ch (kids bs)
+      met-chain b 0 y ys ch (childrenB bs)
       ∙ rw (unmet ch (32 * g) (32 * g + 32) k (s .0) (f .0) (λ c u v e. absurd (omega arith)))
       (unmet-past bs (suc g) k (s .1) (f .1) (omega arith))
 

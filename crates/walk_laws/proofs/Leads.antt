@@ -13,7 +13,7 @@ use Rattle.meaning.specs.Trie.{Children, none, child, met, metIn, nodes, nodesI
 use Rattle.sketch_laws.proofs.ByteDistance.{byte-distance-zero}
 use Rattle.layout.specs.Nodes.{linkOf, chainWord, headAt}
 use Rattle.trie.specs.Heap.{Holds}
-use Rattle.trie.specs.Phys.{Phys, leafP, innerP, Buckets, end, bucket, Chain, stop, link, root, first, tree, kids, kidsC, pageCells, cells, cellsB, cellsC, Below, Sound, SoundB, SoundC}
+use Rattle.trie.specs.Phys.{Phys, leafP, innerP, Buckets, end, bucket, Chain, stop, link, root, first, tree, childrenB, childrenC, pageCells, cells, cellsB, cellsC, Below, Sound, SoundB, SoundC}
 use Rattle.trie_laws.proofs.Lists.{less, same, more, compared}
 use Rattle.descent.specs.declared.Cursor.{Cursor}
 use Rattle.descent.specs.Cursor.{ended, ahead, arrive}
@@ -45,11 +45,11 @@ mutual
   steps-below (leafP n ps) = refl
   steps-below (innerP n bs) = ap suc (steps-among bs)
 
-  steps-among : (bs : Buckets) → stepsAmong bs ≡ nodesIn (kids bs)
+  steps-among : (bs : Buckets) → stepsAmong bs ≡ nodesIn (childrenB bs)
   steps-among end = refl
-  steps-among (bucket ch bs) = omega (arith, steps-along ch (kids bs), steps-among bs)
+  steps-among (bucket ch bs) = omega (arith, steps-along ch (childrenB bs), steps-among bs)
 
-  steps-along : (ch : Chain) (cs : Children) → stepsAlong ch + nodesIn cs ≡ nodesIn (kidsC ch cs)
+  steps-along : (ch : Chain) (cs : Children) → stepsAlong ch + nodesIn cs ≡ nodesIn (childrenC ch cs)
   steps-along stop cs = omega arith
   steps-along (link c t ch) cs = omega (arith, steps-below t, steps-along ch cs)
 
@@ -109,20 +109,20 @@ module _ (N P : List ℕ) (cap pcap next b len : ℕ) (bytes : List ℕ) (last :
   -- a child and the rest of its chain
   child-leads : (t : Phys) (ch : Chain) (c y s z lo hi k at : ℕ) (ys : List ℕ) → Holds (cellsC cap next (link c t ch) s z) N P
       → SoundC cap pcap (link c t ch) lo hi → FitC b len (link c t ch) k → Spelt b bytes last (y ∷ ys) at
-      → Leads (ahead (firstLink ch) at last) (metIn b 0 (kidsC ch none) (y ∷ ys)) (nearC b 0 ch (y ∷ ys)) (stepsAlong ch)
+      → Leads (ahead (firstLink ch) at last) (metIn b 0 (childrenC ch none) (y ∷ ys)) (nearC b 0 ch (y ∷ ys)) (stepsAlong ch)
       → Leads (arrive N cap bytes (root t) (at + 1) last) (met b 0 (tree t) ys) (nearBelow b t ys) (stepsBelow t)
-      → Leads (ahead (root t + 1) at last) (metIn b 0 (kidsC (link c t ch) none) (y ∷ ys)) (nearC b 0 (link c t ch) (y ∷ ys)) (stepsAlong (link c t ch))
+      → Leads (ahead (root t + 1) at last) (metIn b 0 (childrenC (link c t ch) none) (y ∷ ys)) (nearC b 0 (link c t ch) (y ∷ ys)) (stepsAlong (link c t ch))
   child-leads t ch c y s z lo hi k at ys h sound fits q along down = elim (compared c y) [
     | less l tests ↦
-        leads-same from from ps (metIn b 0 (kidsC ch none) (y ∷ ys)) xs (nearC b 0 ch (y ∷ ys)) (suc (stepsAlong ch)) cost refl
-        (apart-met b c y ys t (kidsC ch none) (fits .0) (q .2) (omega arith)) (apart-near b c y ys t ch (fits .0) (q .2) (omega arith)) (omega arith)
-        (leads-by from (ahead (firstLink ch) at last) (metIn b 0 (kidsC ch none) (y ∷ ys)) (nearC b 0 ch (y ∷ ys)) (nearC b 0 ch (y ∷ ys)) (stepsAlong ch)
+        leads-same from from ps (metIn b 0 (childrenC ch none) (y ∷ ys)) xs (nearC b 0 ch (y ∷ ys)) (suc (stepsAlong ch)) cost refl
+        (apart-met b c y ys t (childrenC ch none) (fits .0) (q .2) (omega arith)) (apart-near b c y ys t ch (fits .0) (q .2) (omega arith)) (omega arith)
+        (leads-by from (ahead (firstLink ch) at last) (metIn b 0 (childrenC ch none) (y ∷ ys)) (nearC b 0 ch (y ∷ ys)) (nearC b 0 ch (y ∷ ys)) (stepsAlong ch)
         (suc (stepsAlong ch)) along
-        (led-less N cap bytes (root t) c (firstLink ch) at last y inside word low (q .0) (first (metIn b 0 (kidsC ch none) (y ∷ ys))) (stepsAlong ch)
+        (led-less N cap bytes (root t) c (firstLink ch) at last y inside word low (q .0) (first (metIn b 0 (childrenC ch none) (y ∷ ys))) (stepsAlong ch)
         (nearC b 0 ch (y ∷ ys)) l (along .led)))
     | same e tests ↦
         leads-same from from ps (met b 0 (tree t) ys) xs (root t ∷ nearBelow b t ys) (suc (stepsBelow t)) cost refl
-        (sym (same-met b c y ys t (kidsC ch none) e
+        (sym (same-met b c y ys t (childrenC ch none) e
         (unmet cap pcap b len y ys (q .2) ch (suc c) hi k (sound .3) (fits .2) (λ d u v w. absurd (omega arith)))))
         (sym (near-below b t ys
         ∙ same-near b c y ys t ch e
@@ -144,7 +144,7 @@ module _ (N P : List ℕ) (cap pcap next b len : ℕ) (bytes : List ℕ) (last :
       from = ahead (root t + 1) at last
 
       ps : List ℕ
-      ps = metIn b 0 (kidsC (link c t ch) none) (y ∷ ys)
+      ps = metIn b 0 (childrenC (link c t ch) none) (y ∷ ys)
 
       xs : List ℕ
       xs = nearC b 0 (link c t ch) (y ∷ ys)
@@ -168,10 +168,10 @@ module _ (N P : List ℕ) (cap pcap next b len : ℕ) (bytes : List ℕ) (last :
   bucket-leads : (ch : Chain) (bs : Buckets) (x g y k at : ℕ) (ys : List ℕ) → Holds (cellsC cap next ch (headAt cap x g) 0) N P
       → SoundC cap pcap ch (32 * g) (32 * g + 32) → SoundB cap pcap bs (suc g) → FitC b len ch k → FitB b len bs k → Spelt b bytes last (y ∷ ys) at
       → g ≤ y / 32
-      → Leads (ahead (firstLink ch) at last) (metIn b 0 (kidsC ch none) (y ∷ ys)) (nearC b 0 ch (y ∷ ys)) (stepsAlong ch)
+      → Leads (ahead (firstLink ch) at last) (metIn b 0 (childrenC ch none) (y ∷ ys)) (nearC b 0 ch (y ∷ ys)) (stepsAlong ch)
       → (suc g ≤ y / 32
-      → Leads (ahead (linkOf (getD N (headAt cap x (y / 32)) 0)) at last) (metIn b 0 (kids bs) (y ∷ ys)) (nearB b 0 bs (y ∷ ys)) (stepsAmong bs))
-      → Leads (ahead (linkOf (getD N (headAt cap x (y / 32)) 0)) at last) (metIn b 0 (kids (bucket ch bs)) (y ∷ ys)) (nearB b 0 (bucket ch bs) (y ∷ ys))
+      → Leads (ahead (linkOf (getD N (headAt cap x (y / 32)) 0)) at last) (metIn b 0 (childrenB bs) (y ∷ ys)) (nearB b 0 bs (y ∷ ys)) (stepsAmong bs))
+      → Leads (ahead (linkOf (getD N (headAt cap x (y / 32)) 0)) at last) (metIn b 0 (childrenB (bucket ch bs)) (y ∷ ys)) (nearB b 0 (bucket ch bs) (y ∷ ys))
       (stepsAmong (bucket ch bs))
   unfolding nearB
   bucket-leads ch bs x g y k at ys h sound others fits fits′ q l here later = go (ℕ-discrete g (y / 32))
@@ -180,10 +180,10 @@ module _ (N P : List ℕ) (cap pcap next b len : ℕ) (bytes : List ℕ) (last :
       from = ahead (linkOf (getD N (headAt cap x (y / 32)) 0)) at last
 
       ps : List ℕ
-      ps = metIn b 0 (kidsC ch none) (y ∷ ys)
+      ps = metIn b 0 (childrenC ch none) (y ∷ ys)
 
       qs : List ℕ
-      qs = metIn b 0 (kids bs) (y ∷ ys)
+      qs = metIn b 0 (childrenB bs) (y ∷ ys)
 
       xs : List ℕ
       xs = nearC b 0 ch (y ∷ ys)
@@ -191,12 +191,12 @@ module _ (N P : List ℕ) (cap pcap next b len : ℕ) (bytes : List ℕ) (last :
       zs : List ℕ
       zs = nearB b 0 bs (y ∷ ys)
 
-      split : metIn b 0 (kids (bucket ch bs)) (y ∷ ys) ≡ ps ++ qs
-      split = met-chain b 0 y ys ch (kids bs)
+      split : metIn b 0 (childrenB (bucket ch bs)) (y ∷ ys) ≡ ps ++ qs
+      split = met-chain b 0 y ys ch (childrenB bs)
 
-      go : Dec (g ≡ y / 32) → Leads from (metIn b 0 (kids (bucket ch bs)) (y ∷ ys)) (xs ++ zs) (stepsAlong ch + stepsAmong bs)
+      go : Dec (g ≡ y / 32) → Leads from (metIn b 0 (childrenB (bucket ch bs)) (y ∷ ys)) (xs ++ zs) (stepsAlong ch + stepsAmong bs)
       go (yes e) =
-          leads-same from (ahead (firstLink ch) at last) (metIn b 0 (kids (bucket ch bs)) (y ∷ ys)) ps (xs ++ zs) xs (stepsAlong ch)
+          leads-same from (ahead (firstLink ch) at last) (metIn b 0 (childrenB (bucket ch bs)) (y ∷ ys)) ps (xs ++ zs) xs (stepsAlong ch)
           (stepsAlong ch + stepsAmong bs)
           (ap (λ n. ahead n at last)
           (ap (λ n. linkOf (getD N (headAt cap x n) 0)) (sym e)
@@ -206,7 +206,7 @@ module _ (N P : List ℕ) (cap pcap next b len : ℕ) (bytes : List ℕ) (last :
           (ap (λ rs. xs ++ rs) (none-near-past cap pcap b len y ys (q .2) bs (suc g) k others fits′ (omega arith)) ∙ append-nil xs)
           (omega arith) here
       go (no n) =
-          leads-same from from (metIn b 0 (kids (bucket ch bs)) (y ∷ ys)) qs (xs ++ zs) zs (stepsAmong bs) (stepsAlong ch + stepsAmong bs) refl
+          leads-same from from (metIn b 0 (childrenB (bucket ch bs)) (y ∷ ys)) qs (xs ++ zs) zs (stepsAmong bs) (stepsAlong ch + stepsAmong bs) refl
           (split ∙ ap (λ rs. rs ++ qs) (unmet cap pcap b len y ys (q .2) ch (32 * g) (32 * g + 32) k sound fits (λ d u v w. absurd (omega arith))))
           (ap (λ rs. rs ++ zs) (none-near cap pcap b len y ys (q .2) ch (32 * g) (32 * g + 32) k sound fits (λ d u v w. absurd (omega arith))))
           (omega arith) (later (omega arith))
@@ -222,7 +222,7 @@ module _ (N P : List ℕ) (cap pcap next b len : ℕ) (bytes : List ℕ) (last :
         (record { led = led-end N cap bytes (ended (first ps)) refl; held = h .1 .1; below = s .1 })
     tree-leads (innerP x bs) [] k at h s u l q = absurd (omega (arith, u .0))
     tree-leads (innerP x bs) (y ∷ ys) k at h s u l q =
-        let ps : List ℕ = metIn b 0 (kids bs) (y ∷ ys) in
+        let ps : List ℕ = metIn b 0 (childrenB bs) (y ∷ ys) in
         let xs : List ℕ = nearB b 0 bs (y ∷ ys) in
         leads-same (arrive N cap bytes x at last) (ahead (linkOf (getD N (headAt cap x (y / 32)) 0)) at last) ps ps xs xs (stepsAmong bs) (stepsAmong bs)
         (arrive-inner N cap bytes x at last y (h .0) (q .1) (q .0)) refl refl (omega arith)
@@ -231,7 +231,7 @@ module _ (N P : List ℕ) (cap pcap next b len : ℕ) (bytes : List ℕ) (last :
     -- the chains from g on
     buckets-lead : (bs : Buckets) (x g y : ℕ) (ys : List ℕ) (k at : ℕ) → Holds (cellsB cap next bs x g) N P → SoundB cap pcap bs g → FitB b len bs k
         → len ≤ k + length (y ∷ ys) → Spelt b bytes last (y ∷ ys) at → g ≤ y / 32
-        → Leads (ahead (linkOf (getD N (headAt cap x (y / 32)) 0)) at last) (metIn b 0 (kids bs) (y ∷ ys)) (nearB b 0 bs (y ∷ ys)) (stepsAmong bs)
+        → Leads (ahead (linkOf (getD N (headAt cap x (y / 32)) 0)) at last) (metIn b 0 (childrenB bs) (y ∷ ys)) (nearB b 0 bs (y ∷ ys)) (stepsAmong bs)
     buckets-lead end x g y ys k at h s u l q m = absurd (omega (arith, q .2, byte-small b))
     buckets-lead (bucket ch bs) x g y ys k at h s u l q m =
         bucket-leads ch bs x g y k at ys (h .0) (s .0) (s .1) (u .0) (u .1) q m
@@ -240,7 +240,7 @@ module _ (N P : List ℕ) (cap pcap next b len : ℕ) (bytes : List ℕ) (last :
 
     chain-leads : (ch : Chain) (s z lo hi y : ℕ) (ys : List ℕ) (k at : ℕ) → Holds (cellsC cap next ch s z) N P → SoundC cap pcap ch lo hi → FitC b len ch k
         → len ≤ k + length (y ∷ ys) → Spelt b bytes last (y ∷ ys) at
-        → Leads (ahead (firstLink ch) at last) (metIn b 0 (kidsC ch none) (y ∷ ys)) (nearC b 0 ch (y ∷ ys)) (stepsAlong ch)
+        → Leads (ahead (firstLink ch) at last) (metIn b 0 (childrenC ch none) (y ∷ ys)) (nearC b 0 ch (y ∷ ys)) (stepsAlong ch)
     chain-leads stop s z lo hi y ys k at h sound u l q = leads-none (ahead 0 at last) 0 (led-end N cap bytes (ahead 0 at last) refl)
     chain-leads (link c t ch) s z lo hi y ys k at h sound u l q =
         child-leads t ch c y s z lo hi k at ys h sound u q

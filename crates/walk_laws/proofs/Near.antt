@@ -14,9 +14,9 @@ use Rattle.meaning.specs.Sketch.{perByte, byteDistance}
 use Rattle.meaning.specs.Trie.{Tree, leaf, inner, Children, none, child, nodes, nodesIn}
 use Rattle.meaning.proofs.Lists.{count-append}
 use Rattle.sketch_laws.specs.Packed.{sumPairs, packedDistance}
-use Rattle.trie.specs.Phys.{Phys, leafP, innerP, Buckets, end, bucket, Chain, stop, link, tree, kids, kidsC}
+use Rattle.trie.specs.Phys.{Phys, leafP, innerP, Buckets, end, bucket, Chain, stop, link, tree, childrenB, childrenC}
 use Rattle.trie_laws.specs.Sound.{soundTrie, soundFrom}
-use Rattle.trie_laws.specs.Path.{has, kid, hasBelow, below, hasPath}
+use Rattle.trie_laws.specs.Path.{has, childBy, hasBelow, below, hasPath}
 use Rattle.trie_laws.proofs.Lists.{less, same, more, compared, count-none}
 use Rattle.trie_laws.proofs.Sound.{SoundChild, inner-parts, child-parts}
 use Rattle.walk_laws.specs.Near.{near, nearB, nearC, nearNodes, nearNodesIn, pathsIn, pathsAmong, pathNear, samePath}
@@ -41,13 +41,13 @@ module _ (b : ℕ) where
     near-count (leafP x ps) r ys = refl
     near-count (innerP x bs) r ys = ap suc (count-buckets bs r ys)
 
-    count-buckets : (bs : Buckets) (r : ℕ) (ys : List ℕ) → length (nearB b r bs ys) ≡ nearNodesIn b r (kids bs) ys
+    count-buckets : (bs : Buckets) (r : ℕ) (ys : List ℕ) → length (nearB b r bs ys) ≡ nearNodesIn b r (childrenB bs) ys
     count-buckets end r ys = refl
     count-buckets (bucket ch bs) r ys =
-        omega (arith, length-append (nearC b r ch ys) (nearB b r bs ys), count-buckets bs r ys, count-chain ch (kids bs) r ys)
+        omega (arith, length-append (nearC b r ch ys) (nearB b r bs ys), count-buckets bs r ys, count-chain ch (childrenB bs) r ys)
 
     count-chain : (ch : Chain) (cs : Children) (r : ℕ) (ys : List ℕ)
-        → length (nearC b r ch ys) + nearNodesIn b r cs ys ≡ nearNodesIn b r (kidsC ch cs) ys
+        → length (nearC b r ch ys) + nearNodesIn b r cs ys ≡ nearNodesIn b r (childrenC ch cs) ys
     count-chain stop cs r ys = omega arith
     count-chain (link c t ch) cs r [] = omega (arith, none-below r cs)
     count-chain (link c t ch) cs r (y ∷ ys) =
@@ -125,7 +125,7 @@ module _ (bytesOf : ℕ → List ℕ) (b n len : ℕ) where
     paths-at (leaf ps) k r ys e h = omega (arith, counted (pathNear b r ys []) (root-near b r ys))
     paths-at (inner cs) k r ys e h =
         let s = inner-parts bytesOf b n len k cs h in
-        omega (arith, counted (pathNear b r ys []) (root-near b r ys), paths-under cs k 0 r ys e (s .level) (s .kids))
+        omega (arith, counted (pathNear b r ys []) (root-near b r ys), paths-under cs k 0 r ys e (s .level) (s .childrenB))
 
     paths-under : (cs : Children) (k lo r : ℕ) (ys : List ℕ) → k + length ys ≡ len → k < len → soundFrom bytesOf b n len k lo cs ≡ true
         → nearNodesIn b r cs ys ≡ count (pathNear b r ys) (pathsAmong cs)
@@ -204,9 +204,9 @@ module _ (bytesOf : ℕ → List ℕ) (b n len : ℕ) where
 
   once-child : (c : ℕ) (t : Tree) (cs : Children) (k z : ℕ) (zs : List ℕ) → soundFrom bytesOf b n len k (suc c) cs ≡ true
       → count (samePath zs) (pathsIn t) ≡ cond (hasPath zs t) 1 0
-      → count (samePath (z ∷ zs)) (pathsAmong cs) ≡ cond (has z cs && hasPath zs (kid z cs)) 1 0
-      → count (samePath (z ∷ zs)) (pathsAmong (child c t cs)) ≡ cond (has z (child c t cs) && hasPath zs (kid z (child c t cs))) 1 0
-  unfolding has kid
+      → count (samePath (z ∷ zs)) (pathsAmong cs) ≡ cond (has z cs && hasPath zs (childBy z cs)) 1 0
+      → count (samePath (z ∷ zs)) (pathsAmong (child c t cs)) ≡ cond (has z (child c t cs) && hasPath zs (childBy z (child c t cs))) 1 0
+  unfolding has childBy
   once-child c t cs k z zs s here rest =
       split-paths z c zs t cs
       ∙ elim (compared z c) [
@@ -216,17 +216,17 @@ module _ (bytesOf : ℕ → List ℕ) (b n len : ℕ) where
       ]
 
   mutual
-    unfolding pathsIn pathsAmong samePath count hasPath hasBelow below has kid
+    unfolding pathsIn pathsAmong samePath count hasPath hasBelow below has childBy
 
     pub paths-once : (t : Tree) (k : ℕ) (zs : List ℕ) → soundTrie bytesOf b n len k t ≡ true
         → count (samePath zs) (pathsIn t) ≡ cond (hasPath zs t) 1 0
     paths-once (leaf ps) k [] h = refl
     paths-once (leaf ps) k (z ∷ zs) h = refl
     paths-once (inner cs) k [] h = omega (arith, none-empty cs)
-    paths-once (inner cs) k (z ∷ zs) h = omega (arith, once-among cs k 0 z zs (inner-parts bytesOf b n len k cs h .kids))
+    paths-once (inner cs) k (z ∷ zs) h = omega (arith, once-among cs k 0 z zs (inner-parts bytesOf b n len k cs h .childrenB))
 
     once-among : (cs : Children) (k lo z : ℕ) (zs : List ℕ) → soundFrom bytesOf b n len k lo cs ≡ true
-        → count (samePath (z ∷ zs)) (pathsAmong cs) ≡ cond (has z cs && hasPath zs (kid z cs)) 1 0
+        → count (samePath (z ∷ zs)) (pathsAmong cs) ≡ cond (has z cs && hasPath zs (childBy z cs)) 1 0
     once-among none k lo z zs h = refl
     once-among (child c t cs) k lo z zs h =
         let s = child-parts bytesOf b n len k lo c t cs h in
@@ -270,7 +270,7 @@ module _ (bytesOf : ℕ → List ℕ) (b n len : ℕ) where
     pub near-zero : (t : Tree) (k : ℕ) (ys : List ℕ) → ((i : ℕ) → getD ys i 0 < 2 ^ (b * perByte b)) → soundTrie bytesOf b n len k t ≡ true
         → nearNodes b 0 t ys ≤ length ys + 1
     near-zero (leaf ps) k ys q h = omega arith
-    near-zero (inner cs) k ys q h = omega (arith, zero-under cs k 0 ys q (inner-parts bytesOf b n len k cs h .kids))
+    near-zero (inner cs) k ys q h = omega (arith, zero-under cs k 0 ys q (inner-parts bytesOf b n len k cs h .childrenB))
 
     zero-under : (cs : Children) (k lo : ℕ) (ys : List ℕ) → ((i : ℕ) → getD ys i 0 < 2 ^ (b * perByte b))
         → soundFrom bytesOf b n len k lo cs ≡ true → nearNodesIn b 0 cs ys ≤ length ys

@@ -15,7 +15,7 @@ use Rattle.meaning.specs.Sketch.{perByte, byteDistance}
 use Rattle.meaning.specs.Trie.{Children, none, met, metIn, nodes, nodesIn}
 use Rattle.layout.specs.Nodes.{linkOf, chainWord, headAt, stateAt}
 use Rattle.trie.specs.Heap.{Holds}
-use Rattle.trie.specs.Phys.{Phys, leafP, innerP, Buckets, end, bucket, Chain, stop, link, root, first, tree, kids, kidsC, cells, cellsB, cellsC, Sound, SoundB, SoundC}
+use Rattle.trie.specs.Phys.{Phys, leafP, innerP, Buckets, end, bucket, Chain, stop, link, root, first, tree, childrenB, childrenC, cells, cellsB, cellsC, Sound, SoundB, SoundC}
 use Rattle.walk.specs.declared.frame.Frame.{Frame}
 use Rattle.walk.specs.Mark.{markAll}
 use Rattle.walk.specs.Frame.{entered, stepTo, stepIn}
@@ -67,7 +67,7 @@ module _ (w : Given) where
 
   -- the pages met in a chain
   abbrev metC : Chain → ℕ → List Frame → List ℕ
-  metC ch r stack = metIn (w .b) r (kidsC ch none) (here stack ∷ behind stack)
+  metC ch r stack = metIn (w .b) r (childrenC ch none) (here stack ∷ behind stack)
 
   -- the nodes gone through there
   abbrev nearIn : Chain → ℕ → List Frame → List ℕ
@@ -162,7 +162,7 @@ module _ (w : Given) (small : w .cap ≤ 262144) (query : (k : ℕ) → getD (w 
   metT t r stack = met (w .b) r (tree t) (behind w stack)
 
   abbrev metB : Buckets → ℕ → List Frame → List ℕ
-  metB bs r stack = metIn (w .b) r (kids bs) (here w stack ∷ behind w stack)
+  metB bs r stack = metIn (w .b) r (childrenB bs) (here w stack ∷ behind w stack)
 
   abbrev nearT : Phys → ℕ → List Frame → List ℕ
   nearT t r stack = near (w .b) r t (behind w stack)
@@ -202,7 +202,7 @@ module _ (w : Given) (small : w .cap ≤ 262144) (query : (k : ℕ) → getD (w 
   then-under ch bs x g stack h s f map left frame from c m through ih =
       let ps : List ℕ = metC w ch (frame .radius) stack in
       let qs : List ℕ = metB bs (frame .radius) stack in
-      let split : metB (bucket ch bs) (frame .radius) stack ≡ ps ++ qs = met-chain (w .b) (frame .radius) (here w stack) (behind w stack) ch (kids bs) in
+      let split : metB (bucket ch bs) (frame .radius) stack ≡ ps ++ qs = met-chain (w .b) (frame .radius) (here w stack) (behind w stack) ch (childrenB bs) in
       let sum : length (metB (bucket ch bs) (frame .radius) stack) ≡ length ps + length qs = ap length split ∙ length-append ps qs in
       let one = through f map left frame (from .2) (omega arith) (omega arith) in
       let map′ : List ℕ = markAll map (w .words) ps in
@@ -328,7 +328,7 @@ module _ (w : Given) (small : w .cap ≤ 262144) (query : (k : ℕ) → getD (w 
         (e ∙ to-inner N (w .cap) x d (frame .radius) (frame .at) l z (h .0)) (omega (arith, u .0)) in
         let cons : behind w stack ≡ here w stack′ ∷ behind w stack′ = drop-cons (w .bytes) (suc (length stack)) 0 (u .0) in
         let ps : List ℕ = metB bs r stack′ in
-        let same : metT t r stack ≡ ps = ap (metIn (w .b) r (kids bs)) cons in
+        let same : metT t r stack ≡ ps = ap (metIn (w .b) r (childrenB bs)) cons in
         let xs : List ℕ = nearUnder bs r stack′ in
         let same-nodes : x ∷ xs ≡ nearT t r stack = sym (ap (λ ys. x ∷ nearB (w .b) r bs ys) cons) in
         let under = through (down .rest) (omega (arith, down .enough)) (omega (arith, ap length same)) in
@@ -411,7 +411,7 @@ module _ (w : Given) (small : w .cap ≤ 262144) (query : (k : ℕ) → getD (w 
       ∙ ap walkedLeaf (ap (mark w map (w .pcap)) less ∙ leaf-marks P (w .words) (w .pcap) (w .next) N map ps (w .pcap) (h .1 .1) (s .1) m)
   right-some (innerP x bs) radius map h s u few c m some =
       let ps : List ℕ = metB bs radius [] in
-      let same : met (w .b) radius (tree (innerP x bs)) (w .bytes) ≡ ps = ap (metIn (w .b) radius (kids bs)) (drop-cons (w .bytes) 0 0 (u .0)) in
+      let same : met (w .b) radius (tree (innerP x bs)) (w .bytes) ≡ ps = ap (metIn (w .b) radius (childrenB bs)) (drop-cons (w .bytes) 0 0 (u .0)) in
       let under = root-through x bs radius map h s u few c (omega (arith, ap length same)) in
       sym (from-inner w x radius map some (stateAt (w .cap) x) refl (h .0))
       ∙ under .ran .same
@@ -431,7 +431,7 @@ module _ (w : Given) (small : w .cap ≤ 262144) (query : (k : ℕ) → getD (w 
       let ps : List ℕ = metB bs radius [] in
       let xs : List ℕ = nearUnder bs radius [] in
       let cons : w .bytes ≡ here w [] ∷ behind w [] = drop-cons (w .bytes) 0 0 (u .0) in
-      let same : met (w .b) radius (tree (innerP x bs)) (w .bytes) ≡ ps = ap (metIn (w .b) radius (kids bs)) cons in
+      let same : met (w .b) radius (tree (innerP x bs)) (w .bytes) ≡ ps = ap (metIn (w .b) radius (childrenB bs)) cons in
       let under = root-through x bs radius map h s u few c (omega (arith, ap length same)) in
       let ended : trail w (under .ran .rest) (after w map (w .pcap) ps (under .done) []) ≡ [] =
       trail-end w (under .ran .rest) (omega (arith, under .ran .enough)) (markAll map (w .words) ps) (w .pcap - length ps) (under .done)
@@ -477,10 +477,10 @@ module _ (cap pcap : ℕ) where
     steps-nodes (leafP n ps) s = omega arith
     steps-nodes (innerP n bs) s = omega (arith, steps-buckets bs 0 (s .1))
 
-    steps-buckets : (bs : Buckets) (g : ℕ) → SoundB cap pcap bs g → stepsB bs + g ≤ 8 + 10 * nodesIn (kids bs)
+    steps-buckets : (bs : Buckets) (g : ℕ) → SoundB cap pcap bs g → stepsB bs + g ≤ 8 + 10 * nodesIn (childrenB bs)
     steps-buckets end g s = omega arith
-    steps-buckets (bucket ch bs) g s = omega (arith, steps-chain ch (32 * g) (32 * g + 32) (kids bs) (s .0), steps-buckets bs (suc g) (s .1))
+    steps-buckets (bucket ch bs) g s = omega (arith, steps-chain ch (32 * g) (32 * g + 32) (childrenB bs) (s .0), steps-buckets bs (suc g) (s .1))
 
-    steps-chain : (ch : Chain) (lo hi : ℕ) (cs : Children) → SoundC cap pcap ch lo hi → stepsC ch + 10 * nodesIn cs ≤ 10 * nodesIn (kidsC ch cs)
+    steps-chain : (ch : Chain) (lo hi : ℕ) (cs : Children) → SoundC cap pcap ch lo hi → stepsC ch + 10 * nodesIn cs ≤ 10 * nodesIn (childrenC ch cs)
     steps-chain stop lo hi cs s = omega arith
     steps-chain (link c t ch) lo hi cs s = omega (arith, steps-nodes t (s .2), steps-chain ch (suc c) hi cs (s .3))

@@ -14,7 +14,7 @@ use Rattle.meaning.specs.Sketch.{perByte, byteDistance}
 use Rattle.meaning.specs.Trie.{Children, met, metIn, nodes}
 use Rattle.meaning.proofs.Lists.{all-append, and-intro}
 use Rattle.trie.specs.Heap.{Holds}
-use Rattle.trie.specs.Phys.{Phys, leafP, innerP, Buckets, end, bucket, Chain, stop, link, root, tree, kids, kidsC, cells, Below, Sound, SoundB, SoundC}
+use Rattle.trie.specs.Phys.{Phys, leafP, innerP, Buckets, end, bucket, Chain, stop, link, root, tree, childrenB, childrenC, cells, Below, Sound, SoundB, SoundC}
 use Rattle.trie_laws.specs.Sound.{soundTrie}
 use Rattle.walk.specs.Mark.{markAll}
 use Rattle.walk.specs.Walk.{Given, walked, walkFrom}
@@ -94,17 +94,17 @@ module _ (cap pcap b : ℕ) where
     met-small (leafP x ps) r ys s = below-all pcap ps (s .1)
     met-small (innerP x bs) r ys s = met-small-buckets bs r ys 0 (s .1)
 
-    met-small-buckets : (bs : Buckets) (r : ℕ) (ys : List ℕ) (g : ℕ) → SoundB cap pcap bs g → small (metIn b r (kids bs) ys) ≡ true
+    met-small-buckets : (bs : Buckets) (r : ℕ) (ys : List ℕ) (g : ℕ) → SoundB cap pcap bs g → small (metIn b r (childrenB bs) ys) ≡ true
     met-small-buckets end r ys g s = refl
     met-small-buckets (bucket ch bs) r ys g s =
-        met-small-chain ch r ys (kids bs) (32 * g) (32 * g + 32) (s .0) (met-small-buckets bs r ys (suc g) (s .1))
+        met-small-chain ch r ys (childrenB bs) (32 * g) (32 * g + 32) (s .0) (met-small-buckets bs r ys (suc g) (s .1))
 
     met-small-chain : (ch : Chain) (r : ℕ) (ys : List ℕ) (cs : Children) (lo hi : ℕ) → SoundC cap pcap ch lo hi → small (metIn b r cs ys) ≡ true
-        → small (metIn b r (kidsC ch cs) ys) ≡ true
+        → small (metIn b r (childrenC ch cs) ys) ≡ true
     met-small-chain stop r ys cs lo hi s h = h
     met-small-chain (link c t ch) r [] cs lo hi s h = refl
     met-small-chain (link c t ch) r (y ∷ ys) cs lo hi s h =
-        both-small (cond (leb (byteDistance b (bitXor c y)) r) (met b (r - byteDistance b (bitXor c y)) (tree t) ys) []) (metIn b r (kidsC ch cs) (y ∷ ys))
+        both-small (cond (leb (byteDistance b (bitXor c y)) r) (met b (r - byteDistance b (bitXor c y)) (tree t) ys) []) (metIn b r (childrenC ch cs) (y ∷ ys))
         (cond-small (leb (byteDistance b (bitXor c y)) r) (met b (r - byteDistance b (bitXor c y)) (tree t) ys)
         (met-small t (r - byteDistance b (bitXor c y)) ys (s .2)))
         (met-small-chain ch r (y ∷ ys) cs (suc c) hi (s .3) h)

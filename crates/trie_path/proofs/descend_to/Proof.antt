@@ -5,7 +5,7 @@ use native.Mathlib.Omega.{arith}
 use borrow.Author.Needs.{needs}
 use lib.ListN.{length}
 use Rattle.trie_path.specs.Descend.{descend, descendTo}
-use Rattle.trie_path.proofs.Steps.{desc-leaf, desc-free, desc-out, desc-found, desc-gap, desc-lost}
+use Rattle.trie_path.proofs.Steps.{desc-leaf, desc-free, desc-out, desc-found, desc-gap, desc-nowhere}
 use Rattle.trie.proofs.Steps.{found-in, found-slot, missing-in}
 use Rattle.trie_path.proofs.descend_to.Statement.{statement}
 use Rattle.trie_path.proofs.descend_to.Tie as tie
@@ -72,7 +72,7 @@ enum-told : tie.Need-enum-told Inv-loop μ-loop
 enum-told c = search needs
 
 returns-5 : tie.Need-returns-5 Inv-loop μ-loop
-returns-5 c = search (desc-lost, arith)
+returns-5 c = search (desc-nowhere, arith)
 
 pub descend-to-spec : {M : Type 1} → statement M
 descend-to-spec =

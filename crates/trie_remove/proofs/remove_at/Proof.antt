@@ -1,6 +1,6 @@
 -- `remove_at` meets its contract.
 use native.Mathlib.Omega.{arith}
-use Rattle.trie_remove.proofs.Steps.{first-link, remove-first, remove-inside, remove-missing, remove-torn}
+use Rattle.trie_remove.proofs.Steps.{first-link, remove-first, remove-inside, remove-missing, remove-unlinked}
 use borrow.Author.Needs.{needs}
 use Rattle.trie_remove.proofs.remove_at.Statement.{statement}
 use Rattle.trie_remove.proofs.remove_at.Tie as tie
@@ -60,7 +60,7 @@ same-length-5 : tie.Need-same-length-5
 same-length-5 c = search needs
 
 returns-4 : tie.Need-returns-4
-returns-4 c = search remove-torn
+returns-4 c = search remove-unlinked
 
 pub remove-at-spec : {M : Type 1} → statement M
 remove-at-spec =

@@ -1,6 +1,6 @@
 -- `remove_page` meets its contract.
 use native.Mathlib.Omega.{arith}
-use Rattle.trie_remove.proofs.Steps.{leaf-node, leaf-slot, leaf-state, remove-leaf, remove-gap, remove-lost}
+use Rattle.trie_remove.proofs.Steps.{leaf-node, leaf-slot, leaf-state, remove-leaf, remove-gap, remove-nowhere}
 use borrow.Author.Needs.{needs}
 use Rattle.trie_remove.proofs.remove_page.Statement.{statement}
 use Rattle.trie_remove.proofs.remove_page.Tie as tie
@@ -39,7 +39,7 @@ same-length-4 : tie.Need-same-length-4
 same-length-4 c = search needs
 
 returns-3 : tie.Need-returns-3
-returns-3 c = search remove-lost
+returns-3 c = search remove-nowhere
 
 pub remove-page-spec : {M : Type 1} → statement M
 remove-page-spec =

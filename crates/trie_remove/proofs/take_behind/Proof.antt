@@ -5,7 +5,7 @@ use native.Mathlib.Omega.{arith}
 use borrow.Author.Needs.{needs}
 use lib.ListN.{length}
 use Rattle.trie_remove.specs.Take.{takeFrom}
-use Rattle.trie_remove.proofs.Steps.{take-out, take-none, take-wild, take-here, take-on}
+use Rattle.trie_remove.proofs.Steps.{take-out, take-none, take-broken, take-here, take-on}
 use Rattle.trie_remove.proofs.take_behind.Statement.{statement}
 use Rattle.trie_remove.proofs.take_behind.Tie as tie
 
@@ -35,7 +35,7 @@ same-length-3 : tie.Need-same-length-3 Inv-loop μ-loop
 same-length-3 c = search needs
 
 returns-3 : tie.Need-returns-3 Inv-loop μ-loop
-returns-3 c = search (take-wild, arith)
+returns-3 c = search (take-broken, arith)
 
 sub-at : tie.Need-sub-at Inv-loop μ-loop
 sub-at c = search needs

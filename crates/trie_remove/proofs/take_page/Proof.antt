@@ -1,7 +1,7 @@
 -- `take_page` meets its contract.
 use Prim.Native.Nat.{_+_}
 use native.Mathlib.Omega.{arith}
-use Rattle.trie_remove.proofs.Steps.{first-wild, first-out, not-first}
+use Rattle.trie_remove.proofs.Steps.{first-broken, first-out, not-first}
 use borrow.Author.Needs.{needs}
 use Rattle.trie_remove.proofs.take_page.Statement.{statement}
 use Rattle.trie_remove.proofs.take_page.Tie as tie
@@ -31,7 +31,7 @@ cast-if2 : tie.Need-cast-if2
 cast-if2 c = omega (arith, c .slice-known3 .given (c .before .before .before .args .base + c .before .before .before .args .p))
 
 returns-2 : tie.Need-returns-2
-returns-2 c = search (first-wild, arith)
+returns-2 c = search (first-broken, arith)
 
 returns-3 : tie.Need-returns-3
 returns-3 c = search (first-out, arith)

@@ -4,7 +4,7 @@ use mathlib.Core.List.{[]}
 use borrow.Author.Needs.{needs}
 use Rattle.promises.specs.Tables.{Tables, tables}
 use Rattle.add_page.proofs.Passed.{Passed, told-shown}
-use Rattle.add_page.proofs.Puts.{place-short, place-wild, place-enough}
+use Rattle.add_page.proofs.Puts.{place-short, place-broken, place-enough}
 use Rattle.add_page.proofs.add.place_page.Statement.{statement}
 use Rattle.add_page.proofs.add.place_page.Tie as tie
 
@@ -95,7 +95,7 @@ returns-3 : tie.Need-returns-3
 returns-3 c =
     let r = c .before .before in
     let t = r .before .before .before .before in
-    place-wild (lent (entry (t .before .before .before))) _ (passed (entry (t .before .before .before)) .header) _ _ _ _ (t .thresholds .ensures) _ (t .before .before .free-link .ensures) _ (r .room .ensures) (c .enum-told3 .given .1)
+    place-broken (lent (entry (t .before .before .before))) _ (passed (entry (t .before .before .before)) .header) _ _ _ _ (t .thresholds .ensures) _ (t .before .before .free-link .ensures) _ (r .room .ensures) (c .enum-told3 .given .1)
 
 pub place-page-spec : {M : Type 1} → statement M
 place-page-spec =

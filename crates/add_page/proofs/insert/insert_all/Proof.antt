@@ -7,7 +7,7 @@ use lib.ListN.{length}
 use Rattle.layout.specs.Header.{withThresholds}
 use Rattle.add_page.specs.Insert.{insertFrom, insertAll}
 use Rattle.add_page.proofs.Tables.{lent-kept}
-use Rattle.add_page.proofs.Inserts.{insert-start, insert-done, insert-more, insert-full, insert-bad}
+use Rattle.add_page.proofs.Inserts.{insert-start, insert-done, insert-more, insert-full, insert-failed}
 use Rattle.add_page.proofs.insert.insert_all.Statement.{statement}
 use Rattle.add_page.proofs.insert.insert_all.Tie as tie
 
@@ -65,7 +65,7 @@ same-length-4 : tie.Need-same-length-4 Inv-loop μ-loop
 same-length-4 c = search needs
 
 returns-2 : tie.Need-returns-2 Inv-loop μ-loop
-returns-2 c = search insert-bad
+returns-2 c = search insert-failed
 
 same-length-5 : tie.Need-same-length-5 Inv-loop μ-loop
 same-length-5 c = search needs

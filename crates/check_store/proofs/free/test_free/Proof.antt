@@ -4,7 +4,7 @@ use native.Mathlib.Omega.{arith}
 use mathlib.Core.Path.{_≡_, refl}
 use borrow.Author.Needs.{needs}
 use Rattle.check_store.specs.Free.{freeFrom, testFree}
-use Rattle.check_store.proofs.FreeSteps.{chain-end, chain-spent, chain-wild, chain-used, chain-next}
+use Rattle.check_store.proofs.FreeSteps.{chain-end, chain-spent, chain-broken, chain-used, chain-next}
 use Rattle.check_store.proofs.free.test_free.Statement.{statement}
 use Rattle.check_store.proofs.free.test_free.Tie as tie
 
@@ -34,7 +34,7 @@ sub-x : tie.Need-sub-x Inv-loop μ-loop
 sub-x c = omega arith
 
 returns-3 : tie.Need-returns-3 Inv-loop μ-loop
-returns-3 c = search chain-wild
+returns-3 c = search chain-broken
 
 is-free-requires : tie.Need-is-free-requires Inv-loop μ-loop
 is-free-requires c κs = search needs

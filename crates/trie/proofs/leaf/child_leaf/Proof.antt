@@ -1,6 +1,6 @@
 -- `child_leaf` meets its contract.
 use native.Mathlib.Omega.{arith}
-use Rattle.trie.proofs.Steps.{found-in, missing-in, child-found, child-made, child-lost}
+use Rattle.trie.proofs.Steps.{found-in, missing-in, child-found, child-made, child-nowhere}
 use Rattle.trie.proofs.leaf.child_leaf.Statement.{statement}
 use Rattle.trie.proofs.leaf.child_leaf.Tie as tie
 use borrow.Author.Needs.{needs}
@@ -36,7 +36,7 @@ same-length-3 : tie.Need-same-length-3
 same-length-3 c = search needs
 
 returns-3 : tie.Need-returns-3
-returns-3 c = search (child-lost, arith)
+returns-3 c = search (child-nowhere, arith)
 
 pub child-leaf-spec : {M : Type 1} → statement M
 child-leaf-spec =

@@ -1,6 +1,6 @@
 -- `fresh_leaf` meets its contract.
 use native.Mathlib.Omega.{arith}
-use Rattle.trie.proofs.Steps.{fresh-full, fresh-wild, fresh-made}
+use Rattle.trie.proofs.Steps.{fresh-full, fresh-broken, fresh-made}
 use borrow.Author.Needs.{needs}
 use Rattle.trie.proofs.leaf.fresh_leaf.Statement.{statement}
 use Rattle.trie.proofs.leaf.fresh_leaf.Tie as tie
@@ -12,7 +12,7 @@ sub-f : tie.Need-sub-f
 sub-f c = search needs
 
 returns-2 : tie.Need-returns-2
-returns-2 c = search (fresh-wild, arith)
+returns-2 c = search (fresh-broken, arith)
 
 mul-next : tie.Need-mul-next
 mul-next c = search needs

@@ -4,7 +4,7 @@ use mathlib.Core.Path.{_≡_, refl}
 use native.Mathlib.Omega.{arith}
 use borrow.Author.Needs.{needs}
 use Rattle.trie.specs.Model.{placeFrom, findPlace}
-use Rattle.trie.proofs.Steps.{place-out, place-none, place-wild, place-go, place-found, place-past}
+use Rattle.trie.proofs.Steps.{place-out, place-none, place-broken, place-go, place-found, place-past}
 use Rattle.trie.proofs.place.find_place.Statement.{statement}
 use Rattle.trie.proofs.place.find_place.Tie as tie
 
@@ -50,7 +50,7 @@ returns-2 : tie.Need-returns-2 Inv-loop μ-loop
 returns-2 c = search (place-none, arith)
 
 returns-3 : tie.Need-returns-3 Inv-loop μ-loop
-returns-3 c = search (place-wild, arith)
+returns-3 c = search (place-broken, arith)
 
 sub-child : tie.Need-sub-child Inv-loop μ-loop
 sub-child c = search needs

@@ -6,7 +6,7 @@ use mir.Syntax.{w32}
 use mir.Facts.{fits-widen}
 use borrow.Author.Needs.{needs}
 use Rattle.trie.specs.Model.{spanFrom}
-use Rattle.trie.proofs.Steps.{span-out, span-end, span-wild, span-next}
+use Rattle.trie.proofs.Steps.{span-out, span-end, span-broken, span-next}
 use Rattle.trie.proofs.span.at_least.Statement.{statement}
 use Rattle.trie.proofs.span.at_least.Tie as tie
 
@@ -27,7 +27,7 @@ returns-2 : tie.Need-returns-2 Inv-loop μ-loop
 returns-2 c = search span-end
 
 returns-3 : tie.Need-returns-3 Inv-loop μ-loop
-returns-3 c = search span-wild
+returns-3 c = search span-broken
 
 sub-link : tie.Need-sub-link Inv-loop μ-loop
 sub-link c = search needs

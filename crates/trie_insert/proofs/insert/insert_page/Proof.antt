@@ -1,6 +1,6 @@
 -- `insert_page` meets its contract.
 use Rattle.trie.proofs.Frame.{nodes-kept}
-use Rattle.trie_insert.proofs.Steps.{target-in, insert-grow, insert-full, insert-bad}
+use Rattle.trie_insert.proofs.Steps.{target-in, insert-grow, insert-full, insert-failed}
 use Rattle.trie_insert.proofs.insert.insert_page.Statement.{statement}
 use Rattle.trie_insert.proofs.insert.insert_page.Tie as tie
 use borrow.Author.Needs.{needs}
@@ -39,7 +39,7 @@ same-length-4 : tie.Need-same-length-4
 same-length-4 c = search needs
 
 returns-3 : tie.Need-returns-3
-returns-3 c = search insert-bad
+returns-3 c = search insert-failed
 
 pub insert-page-spec : {M : Type 1} → statement M
 insert-page-spec =

@@ -3,7 +3,7 @@ use native.Mathlib.Omega.{arith}
 use mir.Syntax.{w8}
 use mir.Facts.{fits-widen}
 use Rattle.trie.proofs.Steps.{got-in}
-use Rattle.trie_insert.proofs.Steps.{leaf-node, gap-slot, gap-level, aim-leaf, aim-made, aim-full, aim-bad, aim-lost}
+use Rattle.trie_insert.proofs.Steps.{leaf-node, gap-slot, gap-level, aim-leaf, aim-made, aim-full, aim-failed, aim-nowhere}
 use Rattle.trie_insert.proofs.insert.leaf_for.Statement.{statement}
 use Rattle.trie_insert.proofs.insert.leaf_for.Tie as tie
 use borrow.Author.Needs.{needs}
@@ -63,13 +63,13 @@ same-length-4 : tie.Need-same-length-4
 same-length-4 c = search needs
 
 returns-4 : tie.Need-returns-4
-returns-4 c = search (aim-bad, arith)
+returns-4 c = search (aim-failed, arith)
 
 same-length-5 : tie.Need-same-length-5
 same-length-5 c = search needs
 
 returns-5 : tie.Need-returns-5
-returns-5 c = search (aim-lost, arith)
+returns-5 c = search (aim-nowhere, arith)
 
 pub leaf-for-spec : {M : Type 1} → statement M
 leaf-for-spec =

@@ -1,7 +1,7 @@
 -- `put_leaf` meets its contract.
 use native.Mathlib.Omega.{arith}
 use Rattle.trie.proofs.Steps.{got-in}
-use Rattle.trie_insert.proofs.Steps.{put-done, put-lost, put-full, put-bad}
+use Rattle.trie_insert.proofs.Steps.{put-done, put-nowhere, put-full, put-failed}
 use Rattle.trie_insert.proofs.pages.put_leaf.Statement.{statement}
 use Rattle.trie_insert.proofs.pages.put_leaf.Tie as tie
 use borrow.Author.Needs.{needs}
@@ -37,7 +37,7 @@ same-length-4 : tie.Need-same-length-4
 same-length-4 c = search needs
 
 returns-2 : tie.Need-returns-2
-returns-2 c = search put-lost
+returns-2 c = search put-nowhere
 
 same-length-5 : tie.Need-same-length-5
 same-length-5 c = search needs
@@ -49,7 +49,7 @@ same-length-6 : tie.Need-same-length-6
 same-length-6 c = search needs
 
 returns-4 : tie.Need-returns-4
-returns-4 c = search put-bad
+returns-4 c = search put-failed
 
 pub put-leaf-spec : {M : Type 1} → statement M
 put-leaf-spec =

@@ -1,7 +1,7 @@
 -- `grow_leaf` meets its contract.
 use borrow.Author.Tests.{not-true, not-false}
 use Rattle.trie.proofs.Frame.{nodes-kept, pages-kept}
-use Rattle.trie_insert.proofs.Steps.{long-below, grow-none, grow-short, grow-wild, grow-split}
+use Rattle.trie_insert.proofs.Steps.{long-below, grow-none, grow-short, grow-broken, grow-split}
 use Rattle.trie_insert.proofs.split.grow_leaf.Statement.{statement}
 use Rattle.trie_insert.proofs.split.grow_leaf.Tie as tie
 use borrow.Author.Needs.{needs}
@@ -64,7 +64,7 @@ same-length-8 : tie.Need-same-length-8
 same-length-8 c = search needs
 
 returns-4 : tie.Need-returns-4
-returns-4 c = search (grow-wild, not-false)
+returns-4 c = search (grow-broken, not-false)
 
 pub grow-leaf-spec : {M : Type 1} → statement M
 grow-leaf-spec =

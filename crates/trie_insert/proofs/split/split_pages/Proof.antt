@@ -7,7 +7,7 @@ use mir.Facts.{fits-widen}
 use lib.ListN.{length}
 use borrow.Author.Needs.{needs}
 use Rattle.trie_insert.specs.Split.{splitFrom}
-use Rattle.trie_insert.proofs.Steps.{split-out, split-end, split-wild, split-next, split-full, split-bad}
+use Rattle.trie_insert.proofs.Steps.{split-out, split-end, split-broken, split-next, split-full, split-failed}
 use Rattle.trie_insert.proofs.split.split_pages.Statement.{statement}
 use Rattle.trie_insert.proofs.split.split_pages.Tie as tie
 
@@ -54,7 +54,7 @@ same-length-6 : tie.Need-same-length-6 Inv-loop μ-loop
 same-length-6 c = omega arith
 
 returns-3 : tie.Need-returns-3 Inv-loop μ-loop
-returns-3 c = search split-wild
+returns-3 c = search split-broken
 
 add-next : tie.Need-add-next Inv-loop μ-loop
 add-next c = search needs
@@ -108,7 +108,7 @@ same-length-10 : tie.Need-same-length-10 Inv-loop μ-loop
 same-length-10 c = omega arith
 
 returns-5 : tie.Need-returns-5 Inv-loop μ-loop
-returns-5 c = search split-bad
+returns-5 c = search split-failed
 
 pub split-pages-spec : {M : Type 1} → statement M
 split-pages-spec =

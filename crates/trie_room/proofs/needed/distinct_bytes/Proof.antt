@@ -8,7 +8,7 @@ use lib.ListN.{length, replicate, length-set}
 use Rattle.trie.specs.Model.{pageByte}
 use Rattle.trie_room.specs.Chains.{chainFrom}
 use Rattle.trie_room.specs.Needs.{distinctBytes}
-use Rattle.trie_room.proofs.Count.{counted, flagged, flag-most, no-flags, count-start, bytes-done, bytes-long, bytes-wild, bytes-next}
+use Rattle.trie_room.proofs.Count.{counted, flagged, flag-most, no-flags, count-start, bytes-done, bytes-long, bytes-broken, bytes-next}
 use Rattle.trie_room.proofs.needed.distinct_bytes.Statement.{statement}
 use Rattle.trie_room.proofs.needed.distinct_bytes.Tie as tie
 
@@ -39,7 +39,7 @@ returns : tie.Need-returns Inv-loop μ-loop
 returns c = search (bytes-long, arith)
 
 returns-2 : tie.Need-returns-2 Inv-loop μ-loop
-returns-2 c = search (bytes-wild, arith)
+returns-2 c = search (bytes-broken, arith)
 
 sub-p : tie.Need-sub-p Inv-loop μ-loop
 sub-p c = search needs

@@ -1,7 +1,7 @@
 -- `leaf_needs` is `leafNeeds`.
 use native.Mathlib.Omega.{arith}
 use Rattle.trie.proofs.Bytes.{level-path}
-use Rattle.trie_room.proofs.Ways.{leaf-splits, leaf-stays, leaf-wild}
+use Rattle.trie_room.proofs.Ways.{leaf-splits, leaf-stays, leaf-broken}
 use borrow.Author.Needs.{needs}
 use Rattle.trie_room.proofs.needed.leaf_needs.Statement.{statement}
 use Rattle.trie_room.proofs.needed.leaf_needs.Tie as tie
@@ -40,7 +40,7 @@ returns-2 : tie.Need-returns-2
 returns-2 c = search leaf-stays
 
 returns-3 : tie.Need-returns-3
-returns-3 c = search leaf-wild
+returns-3 c = search leaf-broken
 
 pub leaf-needs-spec : {M : Type 1} → statement M
 leaf-needs-spec =

@@ -10,7 +10,7 @@ use Rattle.meaning.specs.Lists.{count}
 use Rattle.meaning.specs.Trie.{Tree, leaf, inner, Children, none, child, push, putLeaf, prune, byteAt, remove, removeIn, addLeaf, insert, insertIn, nodes, nodesIn, pagesIn, pagesAmong}
 use Rattle.trie_laws.specs.Sound.{filled, soundFrom}
 use Rattle.trie_laws.specs.Needed.{splitNodes, needed, neededIn, frees, freesIn}
-use Rattle.trie_laws.specs.Path.{has, kid, setKid, dropKid, putKid, pruneKid}
+use Rattle.trie_laws.specs.Path.{has, childBy, setChild, dropChild, putChild, pruneChild}
 use Rattle.meaning.proofs.Lists.{count-append}
 use Rattle.trie_laws.proofs.Lists.{less, same, more, compared, holds, fails, truth}
 use Rattle.trie_laws.proofs.Sound.{SoundBelow, child-parts}
@@ -23,72 +23,72 @@ reflexive b = eq-eqb b b refl
 
 -- ---- what is written is read back
 module _ (b : ℕ) (u : Tree) where
-  pub has-set : (cs : Children) → has b (setKid b u cs) ≡ has b cs
-  unfolding has setKid
+  pub has-set : (cs : Children) → has b (setChild b u cs) ≡ has b cs
+  unfolding has setChild
   has-set none = refl
   has-set (child c t cs) = elim (truth (ltb c b)) [
     | holds e ↦ simp e (has-set cs)
     | fails e ↦ simp e refl
   ]
 
-  pub kid-set : (cs : Children) → has b cs ≡ true → kid b (setKid b u cs) ≡ u
-  unfolding has kid setKid
-  kid-set none h = absurd (false≢true h)
-  kid-set (child c t cs) h = elim (truth (ltb c b)) [
-    | holds e ↦ simp e (kid-set cs (rw e at h))
+  pub child-set : (cs : Children) → has b cs ≡ true → childBy b (setChild b u cs) ≡ u
+  unfolding has childBy setChild
+  child-set none h = absurd (false≢true h)
+  child-set (child c t cs) h = elim (truth (ltb c b)) [
+    | holds e ↦ simp e (child-set cs (rw e at h))
     | fails e ↦ simp e refl
   ]
 
-  pub set-set : (v : Tree) (cs : Children) → setKid b u (setKid b v cs) ≡ setKid b u cs
-  unfolding setKid
+  pub set-set : (v : Tree) (cs : Children) → setChild b u (setChild b v cs) ≡ setChild b u cs
+  unfolding setChild
   set-set v none = refl
   set-set v (child c t cs) = elim (truth (ltb c b)) [
     | holds e ↦ simp e (ap (child c t) (set-set v cs))
     | fails e ↦ simp e refl
   ]
 
-  pub drop-set : (cs : Children) → dropKid b (setKid b u cs) ≡ dropKid b cs
-  unfolding setKid dropKid
+  pub drop-set : (cs : Children) → dropChild b (setChild b u cs) ≡ dropChild b cs
+  unfolding setChild dropChild
   drop-set none = refl
   drop-set (child c t cs) = elim (truth (ltb c b)) [
     | holds e ↦ simp e (ap (child c t) (drop-set cs))
     | fails e ↦ simp e refl
   ]
 
-  pub has-put : (cs : Children) → has b (putKid b u cs) ≡ true
-  unfolding has putKid
+  pub has-put : (cs : Children) → has b (putChild b u cs) ≡ true
+  unfolding has putChild
   has-put none = rw (irreflexive b, reflexive b) refl
   has-put (child c t cs) = elim (truth (ltb c b)) [
     | holds e ↦ simp e (has-put cs)
     | fails e ↦ simp (e, irreflexive b, reflexive b) refl
   ]
 
-  pub kid-put : (cs : Children) → kid b (putKid b u cs) ≡ u
-  unfolding kid putKid
-  kid-put none = rw (irreflexive b) refl
-  kid-put (child c t cs) = elim (truth (ltb c b)) [
-    | holds e ↦ simp e (kid-put cs)
+  pub child-put : (cs : Children) → childBy b (putChild b u cs) ≡ u
+  unfolding childBy putChild
+  child-put none = rw (irreflexive b) refl
+  child-put (child c t cs) = elim (truth (ltb c b)) [
+    | holds e ↦ simp e (child-put cs)
     | fails e ↦ simp (e, irreflexive b) refl
   ]
 
-  pub set-put : (v : Tree) (cs : Children) → setKid b u (putKid b v cs) ≡ putKid b u cs
-  unfolding setKid putKid
+  pub set-put : (v : Tree) (cs : Children) → setChild b u (putChild b v cs) ≡ putChild b u cs
+  unfolding setChild putChild
   set-put v none = rw (irreflexive b) refl
   set-put v (child c t cs) = elim (truth (ltb c b)) [
     | holds e ↦ simp e (ap (child c t) (set-put v cs))
     | fails e ↦ simp (e, irreflexive b) refl
   ]
 
-  pub drop-put : (cs : Children) → dropKid b (putKid b u cs) ≡ cs
-  unfolding dropKid putKid
+  pub drop-put : (cs : Children) → dropChild b (putChild b u cs) ≡ cs
+  unfolding dropChild putChild
   drop-put none = rw (irreflexive b) refl
   drop-put (child c t cs) = elim (truth (ltb c b)) [
     | holds e ↦ simp e (ap (child c t) (drop-put cs))
     | fails e ↦ simp (e, irreflexive b) refl
   ]
 
-pub set-same : (b : ℕ) (cs : Children) → setKid b (kid b cs) cs ≡ cs
-unfolding kid setKid
+pub set-same : (b : ℕ) (cs : Children) → setChild b (childBy b cs) cs ≡ cs
+unfolding childBy setChild
 set-same b none = refl
 set-same b (child c t cs) = elim (truth (ltb c b)) [
   | holds e ↦ simp e (ap (child c t) (set-same b cs))
@@ -97,16 +97,16 @@ set-same b (child c t cs) = elim (truth (ltb c b)) [
 
 -- ---- nodes and pages
 module _ (b : ℕ) (u : Tree) where
-  pub set-nodes : (cs : Children) → has b cs ≡ true → nodesIn (setKid b u cs) + nodes (kid b cs) ≡ nodesIn cs + nodes u
-  unfolding has kid setKid nodes
+  pub set-nodes : (cs : Children) → has b cs ≡ true → nodesIn (setChild b u cs) + nodes (childBy b cs) ≡ nodesIn cs + nodes u
+  unfolding has childBy setChild nodes
   set-nodes none h = absurd (false≢true h)
   set-nodes (child c t cs) h = elim (truth (ltb c b)) [
     | holds e ↦ simp e (omega (arith, set-nodes cs (rw e at h)))
     | fails e ↦ simp e (omega arith)
   ]
 
-  pub put-nodes : (cs : Children) → nodesIn (putKid b u cs) ≡ nodesIn cs + nodes u
-  unfolding putKid nodes
+  pub put-nodes : (cs : Children) → nodesIn (putChild b u cs) ≡ nodesIn cs + nodes u
+  unfolding putChild nodes
   put-nodes none = omega arith
   put-nodes (child c t cs) = elim (truth (ltb c b)) [
     | holds e ↦ simp e (omega (arith, put-nodes cs))
@@ -115,16 +115,16 @@ module _ (b : ℕ) (u : Tree) where
 
   module _ (q : ℕ → Bool) where
     pub set-count : (cs : Children) → has b cs ≡ true →
-        count q (pagesAmong (setKid b u cs)) + count q (pagesIn (kid b cs)) ≡ count q (pagesAmong cs) + count q (pagesIn u)
-    unfolding has kid setKid pagesIn
+        count q (pagesAmong (setChild b u cs)) + count q (pagesIn (childBy b cs)) ≡ count q (pagesAmong cs) + count q (pagesIn u)
+    unfolding has childBy setChild pagesIn
     set-count none h = absurd (false≢true h)
     set-count (child c t cs) h = elim (truth (ltb c b)) [
       | holds e ↦ simp (e, count-append q) (omega (arith, set-count cs (rw e at h)))
       | fails e ↦ simp (e, count-append q) (omega arith)
     ]
 
-    pub put-count : (cs : Children) → count q (pagesAmong (putKid b u cs)) ≡ count q (pagesAmong cs) + count q (pagesIn u)
-    unfolding putKid pagesIn
+    pub put-count : (cs : Children) → count q (pagesAmong (putChild b u cs)) ≡ count q (pagesAmong cs) + count q (pagesIn u)
+    unfolding putChild pagesIn
     put-count none = simp (count-append q) (omega arith)
     put-count (child c t cs) = elim (truth (ltb c b)) [
       | holds e ↦ simp (e, count-append q) (omega (arith, put-count cs))
@@ -132,8 +132,8 @@ module _ (b : ℕ) (u : Tree) where
     ]
 
 module _ (b : ℕ) where
-  pub drop-nodes : (cs : Children) → has b cs ≡ true → nodesIn (dropKid b cs) + nodes (kid b cs) ≡ nodesIn cs
-  unfolding has kid dropKid nodes
+  pub drop-nodes : (cs : Children) → has b cs ≡ true → nodesIn (dropChild b cs) + nodes (childBy b cs) ≡ nodesIn cs
+  unfolding has childBy dropChild nodes
   drop-nodes none h = absurd (false≢true h)
   drop-nodes (child c t cs) h = elim (truth (ltb c b)) [
     | holds e ↦ simp e (omega (arith, drop-nodes cs (rw e at h)))
@@ -141,8 +141,8 @@ module _ (b : ℕ) where
   ]
 
   pub drop-count : (q : ℕ → Bool) (cs : Children) → has b cs ≡ true →
-      count q (pagesAmong (dropKid b cs)) + count q (pagesIn (kid b cs)) ≡ count q (pagesAmong cs)
-  unfolding has kid dropKid pagesIn
+      count q (pagesAmong (dropChild b cs)) + count q (pagesIn (childBy b cs)) ≡ count q (pagesAmong cs)
+  unfolding has childBy dropChild pagesIn
   drop-count q none h = absurd (false≢true h)
   drop-count q (child c t cs) h = elim (truth (ltb c b)) [
     | holds e ↦ simp (e, count-append q) (omega (arith, drop-count q cs (rw e at h)))
@@ -150,14 +150,14 @@ module _ (b : ℕ) where
   ]
 
 -- a child of a sound node
-pub kid-sound : (bytesOf : ℕ → List ℕ) (b n len k lo y : ℕ) (cs : Children) → soundFrom bytesOf b n len k lo cs ≡ true → has y cs ≡ true →
-    SoundBelow bytesOf b n len k y (kid y cs)
-unfolding has kid
-kid-sound bytesOf b n len k lo y none h e = absurd (false≢true e)
-kid-sound bytesOf b n len k lo y (child c t cs) h e =
+pub child-sound : (bytesOf : ℕ → List ℕ) (b n len k lo y : ℕ) (cs : Children) → soundFrom bytesOf b n len k lo cs ≡ true → has y cs ≡ true →
+    SoundBelow bytesOf b n len k y (childBy y cs)
+unfolding has childBy
+child-sound bytesOf b n len k lo y none h e = absurd (false≢true e)
+child-sound bytesOf b n len k lo y (child c t cs) h e =
     let s = child-parts bytesOf b n len k lo c t cs h in
     elim (truth (ltb c y)) [
-      | holds l ↦ rw l (kid-sound bytesOf b n len k (suc c) y cs (s .rest) (rw l at e))
+      | holds l ↦ rw l (child-sound bytesOf b n len k (suc c) y cs (s .rest) (rw l at e))
       | fails l ↦ rw l (rw (eqb-true c y (rw l at e)) at (s .here))
     ]
 
@@ -167,8 +167,8 @@ module _ (b : ℕ) (new : Tree) (f : Tree → Tree) where
   alter none = child b new none
   alter (child c t cs) = cond (ltb b c) (child b new (child c t cs)) (cond (eqb b c) (child c (f t) cs) (child c t (alter cs)))
 
-  alter-there : (cs : Children) → has b cs ≡ true → alter cs ≡ setKid b (f (kid b cs)) cs
-  unfolding has kid setKid
+  alter-there : (cs : Children) → has b cs ≡ true → alter cs ≡ setChild b (f (childBy b cs)) cs
+  unfolding has childBy setChild
   alter-there none h = absurd (false≢true h)
   alter-there (child c t cs) h = elim (compared b c) [
     | less l s ↦ absurd (true≢false (sym h ∙ rw (s .gt, s .qe) refl))
@@ -176,8 +176,8 @@ module _ (b : ℕ) (new : Tree) (f : Tree → Tree) where
     | more l s ↦ simp (s .lt, s .gt, s .eq) (ap (child c t) (alter-there cs (rw (s .gt) at h)))
   ]
 
-  alter-gap : (cs : Children) → has b cs ≡ false → alter cs ≡ putKid b new cs
-  unfolding has putKid
+  alter-gap : (cs : Children) → has b cs ≡ false → alter cs ≡ putChild b new cs
+  unfolding has putChild
   alter-gap none h = refl
   alter-gap (child c t cs) h = elim (compared b c) [
     | less l s ↦ simp (s .lt, s .gt) refl
@@ -190,10 +190,10 @@ unfolding putLeaf
 leaf-alter b p none = refl
 leaf-alter b p (child c t cs) = rw (leaf-alter b p cs) refl
 
-pub leaf-there : (b p : ℕ) (cs : Children) → has b cs ≡ true → putLeaf b p cs ≡ setKid b (push p (kid b cs)) cs
+pub leaf-there : (b p : ℕ) (cs : Children) → has b cs ≡ true → putLeaf b p cs ≡ setChild b (push p (childBy b cs)) cs
 leaf-there b p cs h = leaf-alter b p cs ∙ alter-there b (leaf (p ∷ [])) (push p) cs h
 
-pub leaf-gap : (b p : ℕ) (cs : Children) → has b cs ≡ false → putLeaf b p cs ≡ putKid b (leaf (p ∷ [])) cs
+pub leaf-gap : (b p : ℕ) (cs : Children) → has b cs ≡ false → putLeaf b p cs ≡ putChild b (leaf (p ∷ [])) cs
 leaf-gap b p cs h = leaf-alter b p cs ∙ alter-gap b (leaf (p ∷ [])) (push p) cs h
 
 module _ (bytesOf : ℕ → List ℕ) (len : ℕ) (thresholds : List ℕ) (k p : ℕ) where
@@ -203,16 +203,16 @@ module _ (bytesOf : ℕ → List ℕ) (len : ℕ) (thresholds : List ℕ) (k p :
   insert-alter (child c t cs) = rw (insert-alter cs) refl
 
   pub insert-there : (cs : Children) → has (byteAt bytesOf k p) cs ≡ true →
-      insertIn bytesOf len thresholds k p cs ≡ setKid (byteAt bytesOf k p) (insert bytesOf len thresholds (suc k) p (kid (byteAt bytesOf k p) cs)) cs
+      insertIn bytesOf len thresholds k p cs ≡ setChild (byteAt bytesOf k p) (insert bytesOf len thresholds (suc k) p (childBy (byteAt bytesOf k p) cs)) cs
   insert-there cs h = insert-alter cs ∙ alter-there (byteAt bytesOf k p) (addLeaf bytesOf len thresholds (suc k) p []) (insert bytesOf len thresholds (suc k) p) cs h
 
   pub insert-gap : (cs : Children) → has (byteAt bytesOf k p) cs ≡ false →
-      insertIn bytesOf len thresholds k p cs ≡ putKid (byteAt bytesOf k p) (addLeaf bytesOf len thresholds (suc k) p []) cs
+      insertIn bytesOf len thresholds k p cs ≡ putChild (byteAt bytesOf k p) (addLeaf bytesOf len thresholds (suc k) p []) cs
   insert-gap cs h = insert-alter cs ∙ alter-gap (byteAt bytesOf k p) (addLeaf bytesOf len thresholds (suc k) p []) (insert bytesOf len thresholds (suc k) p) cs h
 
   pub needed-there : (cs : Children) → has (byteAt bytesOf k p) cs ≡ true →
-      neededIn bytesOf len thresholds k p cs ≡ needed bytesOf len thresholds (suc k) p (kid (byteAt bytesOf k p) cs)
-  unfolding needed has kid
+      neededIn bytesOf len thresholds k p cs ≡ needed bytesOf len thresholds (suc k) p (childBy (byteAt bytesOf k p) cs)
+  unfolding needed has childBy
   needed-there none h = absurd (false≢true h)
   needed-there (child c t cs) h = elim (compared (byteAt bytesOf k p) c) [
     | less l s ↦ absurd (true≢false (sym h ∙ rw (s .gt, s .qe) refl))
@@ -231,23 +231,23 @@ module _ (bytesOf : ℕ → List ℕ) (len : ℕ) (thresholds : List ℕ) (k p :
   ]
 
 -- a child changed, or gone: the first, or a later one
-prune-here : (y c : ℕ) (t u : Tree) (cs : Children) → ltb c y ≡ false → prune c u cs ≡ pruneKid y u (child c t cs)
-unfolding prune filled pruneKid setKid dropKid
+prune-here : (y c : ℕ) (t u : Tree) (cs : Children) → ltb c y ≡ false → prune c u cs ≡ pruneChild y u (child c t cs)
+unfolding prune filled pruneChild setChild dropChild
 prune-here y c t (leaf []) cs l = rw l refl
 prune-here y c t (leaf (p ∷ ps)) cs l = rw l refl
 prune-here y c t (inner ds) cs l = rw l refl
 
-prune-behind : (y c : ℕ) (t u : Tree) (cs : Children) → ltb c y ≡ true → child c t (pruneKid y u cs) ≡ pruneKid y u (child c t cs)
-unfolding pruneKid setKid dropKid
+prune-behind : (y c : ℕ) (t u : Tree) (cs : Children) → ltb c y ≡ true → child c t (pruneChild y u cs) ≡ pruneChild y u (child c t cs)
+unfolding pruneChild setChild dropChild
 prune-behind y c t u cs l = rw l (go (filled u))
   where
-    go : (q : Bool) → child c t (cond q (setKid y u cs) (dropKid y cs)) ≡ cond q (child c t (setKid y u cs)) (child c t (dropKid y cs))
+    go : (q : Bool) → child c t (cond q (setChild y u cs) (dropChild y cs)) ≡ cond q (child c t (setChild y u cs)) (child c t (dropChild y cs))
     go true = refl
     go false = refl
 
 pub remove-there : (bytesOf : ℕ → List ℕ) (k p : ℕ) (cs : Children) → has (byteAt bytesOf k p) cs ≡ true →
-    removeIn bytesOf k p cs ≡ pruneKid (byteAt bytesOf k p) (remove bytesOf (suc k) p (kid (byteAt bytesOf k p) cs)) cs
-unfolding remove has kid
+    removeIn bytesOf k p cs ≡ pruneChild (byteAt bytesOf k p) (remove bytesOf (suc k) p (childBy (byteAt bytesOf k p) cs)) cs
+unfolding remove has childBy
 remove-there bytesOf k p none h = absurd (false≢true h)
 remove-there bytesOf k p (child c t cs) h =
     let y : ℕ = byteAt bytesOf k p in
@@ -256,13 +256,13 @@ remove-there bytesOf k p (child c t cs) h =
       | same l s ↦ rw (s .eq, s .gt) (prune-here y c t (remove bytesOf (suc k) p t) cs (s .gt))
       | more l s ↦
           rw (s .eq, s .gt)
-          (ap (child c t) (remove-there bytesOf k p cs (rw (s .gt) at h)) ∙ prune-behind y c t (remove bytesOf (suc k) p (kid y cs)) cs (s .gt))
+          (ap (child c t) (remove-there bytesOf k p cs (rw (s .gt) at h)) ∙ prune-behind y c t (remove bytesOf (suc k) p (childBy y cs)) cs (s .gt))
     ]
 
 pub frees-there : (bytesOf : ℕ → List ℕ) (k p : ℕ) (cs : Children) → has (byteAt bytesOf k p) cs ≡ true →
     freesIn bytesOf k p cs ≡
-    cond (filled (remove bytesOf (suc k) p (kid (byteAt bytesOf k p) cs))) (frees bytesOf (suc k) p (kid (byteAt bytesOf k p) cs)) true
-unfolding frees has kid
+    cond (filled (remove bytesOf (suc k) p (childBy (byteAt bytesOf k p) cs))) (frees bytesOf (suc k) p (childBy (byteAt bytesOf k p) cs)) true
+unfolding frees has childBy
 frees-there bytesOf k p none h = absurd (false≢true h)
 frees-there bytesOf k p (child c t cs) h = elim (compared (byteAt bytesOf k p) c) [
   | less l s ↦ absurd (true≢false (sym h ∙ rw (s .gt, s .qe) refl))
