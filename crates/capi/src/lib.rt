@@ -6,7 +6,8 @@ ghost use mathlib.Core.List.{[]};
 ghost use lib.Dec.{eqb};
 ghost use lib.ListN.{take};
 ghost use lib.ListN.{drop as skip};
-ghost use Rattle.meaning.specs.Ledger.{opening, add, drop, join, leave, grant, revoke, search, show, check};
+ghost use Rattle.meaning.specs.Rights.{join, leave, grant, revoke};
+ghost use Rattle.meaning.specs.Ledger.{search, check, opening, add, drop, reading};
 ghost use Rattle.promises.specs.Tables.{tables, showTables};
 ghost use Rattle.promises.specs.Calls.{settingsGiven, startShown, lengthShown};
 ghost use Rattle.store.specs.Calls.{outcome};
@@ -118,7 +119,7 @@ pub extern "C" fn vetch_search(
     output: &mut [u16],
     count: &mut u32,
 ) -> u32
-    ensures { λ r. ⌜ Promised (search reader radius (now (sketch .entry)) (now (output .entry))) (tables (now (settings .entry)) (now (nodes .entry)) (now (pages .entry)) (now (sketches .entry)) (now (working .entry))) (withList r (now (count .exit)) (now (output .exit))) (tables (now (settings .entry)) (now (nodes .entry)) (now (pages .entry)) (now (sketches .entry)) (now (working .exit))) ⌝ }
+    ensures { λ r. ⌜ Promised (reading (search reader radius (now (sketch .entry)) (now (output .entry)))) (tables (now (settings .entry)) (now (nodes .entry)) (now (pages .entry)) (now (sketches .entry)) (now (working .entry))) (withList r (now (count .exit)) (now (output .exit))) (tables (now (settings .entry)) (now (nodes .entry)) (now (pages .entry)) (now (sketches .entry)) (now (working .exit))) ⌝ }
 {
     let found = search::search::search(
         settings,
@@ -194,7 +195,7 @@ pub extern "C" fn vetch_check(
     working: &mut [u32],
     sound: &mut u32,
 ) -> u32
-    ensures { λ r. ⌜ Promised check (tables (now (settings .entry)) (now (nodes .entry)) (now (pages .entry)) (now (sketches .entry)) (now (working .entry))) (withVerdict r (eqb (now (sound .exit)) 1)) (tables (now (settings .entry)) (now (nodes .entry)) (now (pages .entry)) (now (sketches .entry)) (now (working .exit))) ⌝ }
+    ensures { λ r. ⌜ Promised (reading check) (tables (now (settings .entry)) (now (nodes .entry)) (now (pages .entry)) (now (sketches .entry)) (now (working .entry))) (withVerdict r (eqb (now (sound .exit)) 1)) (tables (now (settings .entry)) (now (nodes .entry)) (now (pages .entry)) (now (sketches .entry)) (now (working .exit))) ⌝ }
     ensures { λ r. ⌜ now (sound .exit) ≤ 1 ⌝ }
 {
     let verdict = check_store::check(settings, nodes, pages, sketches, working);

@@ -6,7 +6,7 @@ use mathlib.Core.Logic.{_≢_}
 use mathlib.Core.List.{[]}
 use lib.ListN.{length}
 use Rattle.meaning.specs.Refusal.{firstNo}
-use Rattle.meaning.specs.Ledger.{check}
+use Rattle.meaning.specs.Ledger.{check, reading}
 use Rattle.meaning.specs.Questions.{asked}
 use Rattle.layout.specs.declared.Header.{Header}
 use Rattle.layout.specs.declared.Opening.the-variants.{Shown, Refused}
@@ -23,7 +23,7 @@ use Rattle.index.proofs.Enters.{Entered, entry-refused, entry-shown}
 use Rattle.check_store.specs.Lent.{Lent}
 
 pub record Admitted (T : Tables) (h : Header) : Type 0 where
-  pub answers : number T [] check ≡ 0
+  pub answers : number T [] (reading check) ≡ 0
   pub header : headerOf (given T) ≡ h
   pub settings : settingsLength ≤ length (T .settings)
   pub lent : Lent (given T) (T .nodes) (T .pages) (T .sketches)
@@ -31,11 +31,11 @@ pub record Admitted (T : Tables) (h : Header) : Type 0 where
 
 module _ (T : Tables) where
   -- 5 and 6 are all that is asked
-  pub first-number : firstNo (entered T check) ≡ number T [] check
+  pub first-number : firstNo (entered T (reading check)) ≡ number T [] (reading check)
   unfolding number entered shown56 asked
   first-number = refl
 
-  asked-first : number T [] check ≡ firstNo (tablesAsked T)
+  asked-first : number T [] (reading check) ≡ firstNo (tablesAsked T)
   unfolding number entered shown56 longSettings longFor asked tablesAsked
   asked-first = refl
 
@@ -57,13 +57,13 @@ module _ (T : Tables) where
       }
 
   pub record Rejected (n : ℕ) : Type 0 where
-    pub answers : n ≡ number T [] check
-    pub some : number T [] check ≢ 0
+    pub answers : n ≡ number T [] (reading check)
+    pub some : number T [] (reading check) ≢ 0
 
   pub rejected : (n : ℕ) → entry T ≡ Refused n → Rejected n
   rejected n e =
       let r = entry-refused T n e in
-      let same : number T [] check ≡ n = asked-first ∙ r .0 in
+      let same : number T [] (reading check) ≡ n = asked-first ∙ r .0 in
       record { answers = sym same; some = λ z. r .1 (sym same ∙ z) }
 
 -- as the code has the header

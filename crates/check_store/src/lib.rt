@@ -2,7 +2,7 @@
 ghost use mathlib.Core.Path.{_≡_};
 ghost use Prim.Native.Nat.{_≤_};
 ghost use lib.ListN.{length};
-ghost use Rattle.meaning.specs.Ledger.{check};
+ghost use Rattle.meaning.specs.Ledger.{check, reading};
 ghost use Rattle.layout.specs.Header.{bare};
 ghost use Rattle.promises.specs.Tables.{tables};
 ghost use Rattle.check_store.specs.Lent.{Lent};
@@ -55,7 +55,7 @@ pub fn check(
     sketches: &[u8],
     working: &mut [u32],
 ) -> Verdict
-    ensures { λ r. ⌜ Promised check (tables (now (settings .entry)) (now (nodes .entry)) (now (pages .entry)) (now (sketches .entry)) (now (working .entry))) (withVerdict (r .number) (r .sound)) (tables (now (settings .entry)) (now (nodes .entry)) (now (pages .entry)) (now (sketches .entry)) (now (working .exit))) ⌝ }
+    ensures { λ r. ⌜ Promised (reading check) (tables (now (settings .entry)) (now (nodes .entry)) (now (pages .entry)) (now (sketches .entry)) (now (working .entry))) (withVerdict (r .number) (r .sound)) (tables (now (settings .entry)) (now (nodes .entry)) (now (pages .entry)) (now (sketches .entry)) (now (working .exit))) ⌝ }
 {
     let h = match index::tables::enter(settings, nodes, pages, sketches, working) {
         Opening::Refused(number) => {

@@ -1,24 +1,23 @@
 -- Histories exist: for every list of calls behind an accepted opening there is one with just these calls.
 use Prim.Native.Nat.{ℕ}
 use mathlib.Core.Path.{_≡_, refl, sym, ap, subst, _∙_}
-use mathlib.Core.Bool.{Bool, true, false, cond, _||_}
-use mathlib.Core.Logic.{inr}
+use mathlib.Core.Bool.{Bool, true, false, cond}
 use mathlib.Core.List.{List, [], _∷_, _++_, map}
-use lib.Dec.{leb, eqb}
-use lib.ListN.{length, getD}
-use borrow.Author.Tests.{eq-eqb, ne-eqb, eqb-true, eqb-false}
-use Rattle.meaning.specs.Refusal.{firstNo}
-use Rattle.meaning.specs.SketchCalls.{lengthGiven, outputLeft}
+use lib.Dec.{eqb}
+use lib.ListN.{getD}
+use borrow.Author.Tests.{eqb-true, eqb-false}
 use Rattle.meaning.specs.Trie.{Tree}
-use Rattle.meaning.specs.Ledger.{Settings, Ledger, Event, Call, opening, add, drop, join, leave, grant, revoke, search, show, check, ledger}
+use Rattle.meaning.specs.Rights.{Change}
+use Rattle.meaning.specs.Ledger.{Settings, Event, Reading, Call, opening, add, drop, change, reading, ledger}
 use Rattle.meaning.specs.Forest.{forest}
-use Rattle.meaning.specs.Questions.{asked}
 use Rattle.layout.specs.Settings.{freeAt}
-use Rattle.promises.specs.Tables.{Tables, settingsAlone, given, withSettings, scan}
-use Rattle.promises.specs.Answers.{number, opened, registered}
-use Rattle.promises.specs.Calls.{RightsPromise, rowShown}
-use Rattle.store.specs.Calls.{Lists, AddPromise, SearchPromise, workingLeft, listedOf}
-use Rattle.store.specs.Relation.{Answer, numberAlone, withList, withVerdict, toStore, toShow, withOpening, withWorking, Registers, Promised}
+use Rattle.promises.specs.Tables.{Tables, settingsAlone, given, withSettings}
+use Rattle.rights.specs.Register.{registered}
+use Rattle.promises.specs.Answers.{number, opened}
+use Rattle.store.specs.Sound.{Sound}
+use Rattle.store.specs.Calls.{AddPromise}
+use Rattle.store.specs.Relation.{Answer, numberAlone, toStore, withOpening, withWorking, Promised}
+use Rattle.store.proofs.Readings.{law}
 use Rattle.trie_remove.specs.declared.Removed.the-variants.{Done, Broken}
 use Rattle.trie_remove.specs.Remove.{Gone, gone}
 use Rattle.add_page.specs.Add.{Added, added, addPage}
@@ -26,9 +25,7 @@ use Rattle.add_page.proofs.Adds.{add-promise}
 use Rattle.drop_laws.specs.Removal.{removeAll}
 use Rattle.drop_laws.specs.After.{withTries, dropped}
 use Rattle.drop_laws.proofs.Promise.{drop-refused, drop-done, drop-broken}
-use Rattle.history.specs.History.{event, History, begun, called, admitted, judged}
-use Rattle.history.proofs.Represents.{number-eq}
-use Rattle.history.proofs.Numbers.{Shows, early}
+use Rattle.history.specs.History.{event, History, begun, called, judged}
 use Rattle.history.proofs.Main.{represents, theorem}
 
 -- a call carried out
@@ -49,19 +46,11 @@ module _ (T : Tables) where
       t : Bool
       t = eqb (number T [] (opening s)) 0
 
-  rights : (c : Call) → ((a : Answer) (T′ : Tables) → Registers c T a T′ → Promised c T a T′) → Carried c T
-  rights c f =
-      let n : ℕ = number (settingsAlone (T .settings)) [] c in
+  changes : (c : Change) → Carried (change c) T
+  changes c =
+      let n : ℕ = number (settingsAlone (T .settings)) [] (change c) in
       let ws : List ℕ = cond (eqb n 0) (registered c (T .settings)) (T .settings) in
-      let p : RightsPromise c (T .settings) n ws = record { answers = refl; settings-left = refl } in
-      record { answer = numberAlone n; tables = withSettings T ws; promised = f (numberAlone n) (withSettings T ws) (p, refl) }
-
-  shows : (r p : ℕ) → Carried (show r p) T
-  shows r p = record {
-    answer = withList (number (toShow T) [] (show r p)) 0 (rowShown (toShow T) r p);
-    tables = T;
-    promised = (refl, refl, refl);
-  }
+      record { answer = numberAlone n; tables = withSettings T ws; promised = (record { answers = refl; settings-left = refl }, refl) }
 
   -- an add by the model of its code
   adds : (p c : ℕ) (x : List ℕ) → Carried (add p c x) T
@@ -106,76 +95,23 @@ module _ (T : Tables) where
       by true e = go (eqb-true n 0 e) removed refl
       by false e = record { answer = numberAlone n; tables = T; promised = (drop-refused S p n refl (eqb-false n 0 e), refl, refl) }
 
-  -- a search by the plain scan
-  module _ (r d : ℕ) (x o : List ℕ) where
-    n : ℕ
-    n = cond (eqb (early T r d x) 0) (cond (leb (length (scan T r d x)) (length o)) 0 13) (early T r d x)
+  module _ (F : List Tree) (sound : Sound T F) where
+    reads : (q : Reading) → Carried (reading q) T
+    reads q =
+        let k = law q T .possible F sound in
+        record { answer = k .answer; tables = withWorking T (k .working); promised = (k .reads, refl) }
 
-    either : (t : Bool) (k : ℕ) → cond (eqb (cond t 0 13) 0 || eqb (cond t 0 13) 13) k 0 ≡ k
-    either true k = refl
-    either false k = refl
-
-    lists : early T r d x ≡ 0 → Lists (scan T r d x) o n (lengthGiven n (length (scan T r d x))) (outputLeft n (scan T r d x) o)
-    unfolding n lengthGiven
-    lists e = record {
-      refusal = rw (eq-eqb (early T r d x) 0 e);
-      counted = rw (eq-eqb (early T r d x) 0 e) (either (leb (length (scan T r d x)) (length o)) (length (scan T r d x)));
-      output = refl;
-    }
-
-    scanned : SearchPromise T r d x o n (lengthGiven n (length (scan T r d x))) (outputLeft n (scan T r d x) o) (workingLeft T (search r d x o))
-    scanned = record {
-      early = λ e. unfold n in rw (ne-eqb (early T r d x) 0 e);
-      sound = λ F s e. lists e;
-      open-list = λ e. inr ((λ p. true), unfold listedOf scan in lists e);
-      refused = λ z w. unfold lengthGiven outputLeft in rw (ne-eqb n 0 z, ne-eqb n 13 w) (refl, refl);
-      working-left = refl;
-    }
-
-    searches : Carried (search r d x o) T
-    searches = record {
-      answer = withList n (lengthGiven n (length (scan T r d x))) (outputLeft n (scan T r d x) o);
-      tables = withWorking T (workingLeft T (search r d x o));
-      promised = (scanned, refl);
-    }
-
-module _ (T : Tables) (L : Ledger) (F : List Tree) (W : Shows T L F) where
-  -- on a sound store a check says yes
-  checks : Carried check T
-  checks = record {
-    answer = withVerdict (number T [] check) true;
-    tables = withWorking T (workingLeft T check);
-    promised = (
-      record {
-        answers = refl;
-        refused = λ z. absurd (z passes);
-        right = λ e y. (F, W .store);
-        whole = λ e G s. refl;
-        working-left = refl;
-      },
-      refl,
-    );
-  }
-    where
-      passes : number T [] check ≡ 0
-      passes = unfold judged admitted asked firstNo in number-eq T L (W .tables) [] check
-
-  carried : (c : Call) → Carried c T
-  carried (opening s) = opens T s
-  carried (add p c x) = adds T p c x
-  carried (drop p) = drops T p
-  carried (join r g) = rights T (join r g) (λ a T′ p. p)
-  carried (leave r g) = rights T (leave r g) (λ a T′ p. p)
-  carried (grant g c) = rights T (grant g c) (λ a T′ p. p)
-  carried (revoke g c) = rights T (revoke g c) (λ a T′ p. p)
-  carried (search r d x o) = searches T r d x o
-  carried (show r p) = shows T r p
-  carried check = checks
+    carried : (c : Call) → Carried c T
+    carried (opening s) = opens s
+    carried (add p c x) = adds p c x
+    carried (drop p) = drops p
+    carried (change c) = changes c
+    carried (reading q) = reads q
 
 module _ {es : List Event} {T : Tables} (h : History es T) (c : Call) where
   -- a history goes on with every call
   further : Carried c T
-  further = carried T (ledger es) (forest es) (represents h) c
+  further = carried T (forest es) (represents h .store) c
 
   -- and that call is accepted where no question says no
   pub accepted : judged T (ledger es) (forest es) c ≡ 0 → (T′ : Tables) × History (event c 0 ∷ es) T′

@@ -6,11 +6,11 @@ use Prim.Native.Nat.{ℕ}
 use lib.ListN.{getD, set, replicate}
 use Rattle.meaning.specs.Lists.{all, any, keep, onto, from, upto, sum}
 use Rattle.meaning.specs.Refusal.{firstNo}
-use Rattle.meaning.specs.Ledger.{Settings, Event, opening, add, join, grant, accept, step, ledger, withRows, withMembers, withGrants, putRow, calledFor, listed}
+use Rattle.meaning.specs.Ledger.{Settings, Event, opening, add, change, accept, step, ledger, withRows, withRegister, putRow, calledFor, listed}
 use Rattle.meaning.specs.Forest.{blockBytes, forest, forestAfter, eachFrom, totalNodes}
 use Rattle.meaning.specs.Sketch.{distance, inRange, perByte, packedLength, blockLength}
 use Rattle.meaning.specs.Trie.{fresh, addLeaf, insert, nodes}
-use Rattle.meaning.specs.Rights.{samePair, stands, write, openTo}
+use Rattle.meaning.specs.Rights.{samePair, stands, write, openTo, join, grant, changed}
 use Rattle.meaning.specs.SketchCalls.{sketchLimits}
 use Rattle.meaning.specs.Questions.{inLimits, asked, byLedger}
 use Rattle.words.specs.Bits.{bit, withBit, withFlag}
@@ -18,9 +18,9 @@ use Rattle.layout.specs.Settings.{header, settingsOf, showsOpening}
 use Rattle.layout.specs.Pages.{withPage, withRow}
 use Rattle.layout.specs.Lengths.{nodesLength, pagesLength, sketchesLength, workingLength}
 use Rattle.layout.specs.Working.{mapWords, summaryWords}
-use Rattle.rights.specs.Register.{withMember, withGrant}
+use Rattle.rights.specs.Register.{withMember, withGrant, registered}
 use Rattle.promises.specs.Tables.{Tables, withSettings}
-use Rattle.promises.specs.Answers.{longFor, longSettings, longNodes, longPages, longWorking, entered, shown56, number, freeLink, freshSettings, freshChain, freshState, freshNodes, freshPages, opened, registered}
+use Rattle.promises.specs.Answers.{longFor, longSettings, longNodes, longPages, longWorking, entered, shown56, number, freeLink, freshSettings, freshChain, freshState, freshNodes, freshPages, opened}
 use Rattle.promises.specs.Calls.{OpenPromise, RightsPromise}
 use Rattle.store.specs.Calls.{SameRest, PageAdded}
 use Rattle.store.specs.Relation.{toStore, numberAlone}
@@ -58,7 +58,7 @@ unfolding s held first second third opened freshSettings freeLink header onto nu
 grant-promise = record { answers = refl; settings-left = refl }
 
 events : List Event
-events = event (grant 1 3) 0 ∷ event (join 5 1) 0 ∷ event (opening s) 0 ∷ []
+events = event (change (grant 1 3)) 0 ∷ event (change (join 5 1)) 0 ∷ event (opening s) 0 ∷ []
 
 opened-tables : Tables
 opened-tables = withSettings first third
@@ -67,8 +67,8 @@ history : History events opened-tables
 unfolding events opened-tables first opened
 history =
     let begins = begun s held (numberAlone 0) first (opening-promise, refl) refl in
-    let joins = called begins (join 5 1) (numberAlone 0) (withSettings first second) (join-promise, refl) in
-    called joins (grant 1 3) (numberAlone 0) (withSettings first third) (grant-promise, refl)
+    let joins = called begins (change (join 5 1)) (numberAlone 0) (withSettings first second) (join-promise, refl) in
+    called joins (change (grant 1 3)) (numberAlone 0) (withSettings first third) (grant-promise, refl)
 
 shown : Represents opened-tables (ledger events)
 shown = represents history .tables
@@ -110,7 +110,7 @@ unfolding s x held first second third opened-tables added-tables opened freshSet
 added = record { pages = refl; sketches = refl }
 
 accepts : judged opened-tables (ledger events) (forest events) (add 1 3 x) ≡ 0
-unfolding s x events judged admitted asked byLedger firstNo inRange all any forest forestAfter ledger step accept withMembers withGrants putRow eachFrom blockBytes packedLength perByte blockLength totalNodes sum insert addLeaf nodes fresh
+unfolding s x events judged admitted asked byLedger firstNo inRange all any forest forestAfter ledger step accept withRegister changed putRow eachFrom blockBytes packedLength perByte blockLength totalNodes sum insert addLeaf nodes fresh
 accepts = refl
 
 shown-page : Represents added-tables (ledger (event (add 1 3 x) 0 ∷ events))
@@ -118,5 +118,5 @@ unfolding ledger step opened-tables added-tables first opened
 shown-page = adds opened-tables (ledger events) shown added-tables same-rest refl (forest events) 1 3 x added accepts
 
 lists : listed (ledger (event (add 1 3 x) 0 ∷ events)) 5 0 x ≡ 1 ∷ []
-unfolding x events ledger step accept withRows withMembers withGrants putRow write listed calledFor keep openTo stands any samePair upto from distance
+unfolding x events ledger step accept withRows withRegister changed putRow write listed calledFor keep openTo stands any samePair upto from distance
 lists = refl

@@ -1,7 +1,7 @@
 -- Each call keeps the invariant: afterwards the tables show the ledger after its step, and the store is sound with the tries after it.
 use Prim.Native.Nat.{ℕ}
 use native.Mathlib.Omega.{arith}
-use mathlib.Core.Path.{_≡_, refl, sym, ap, _∙_, subst}
+use mathlib.Core.Path.{_≡_, refl, sym, ap, _∙_}
 use mathlib.Core.Bool.{Bool, true, false, cond, not}
 use mathlib.Core.Logic.{_≢_}
 use mathlib.Core.List.{List, [], _∷_}
@@ -11,20 +11,24 @@ use borrow.Author.Tests.{eqb-true, eqb-false, eq-eqb, ne-eqb, ltb-true}
 use Rattle.meaning.specs.Lists.{all}
 use Rattle.meaning.specs.Refusal.{Question, firstNo}
 use Rattle.meaning.specs.Trie.{Tree, fresh}
-use Rattle.meaning.specs.Ledger.{Settings, Ledger, Call, opening, add, drop, join, leave, grant, revoke, search, show, check, accept, step}
+use Rattle.meaning.specs.Rights.{Change, changeInRange}
+use Rattle.meaning.specs.Ledger.{Settings, Ledger, Reading, Call, opening, add, drop, change, reading, accept, step}
 use Rattle.meaning.specs.Forest.{forestAfter}
 use Rattle.meaning.specs.Questions.{asked, byLedger}
 use Rattle.layout.specs.Lengths.{workingLength}
-use Rattle.layout.proofs.Tests.{and-left, and-right}
-use Rattle.promises.specs.Tables.{Tables, withSettings, pageClass, pageRow, rowsOf}
-use Rattle.promises.specs.Answers.{entered, shown56, registered}
+use Rattle.promises.specs.Tables.{Tables, takesOf, withSettings, pageClass, pageRow, rowsOf}
+use Rattle.rights.specs.Register.{registered}
+use Rattle.promises.specs.Answers.{entered}
 use Rattle.store.specs.Sound.{Sound}
 use Rattle.store.specs.Calls.{workingLeft}
-use Rattle.store.specs.Relation.{Answer, toStore, withWorking, Registers, Promised}
+use Rattle.store.specs.Relation.{Answer, toStore, withWorking, Promised}
+use Rattle.store.proofs.Numbers.{number-in}
+use Rattle.store.proofs.Readings.{workingAfter, law}
 use Rattle.history.specs.History.{event, admitted, judged, zeroed}
+use Rattle.history.proofs.Lists.{passed}
 use Rattle.history.proofs.Represents.{Represents, given-eq, long-working, past-6}
 use Rattle.history.proofs.Opening.{onto-length, started, entered-4-5, left-by}
-use Rattle.history.proofs.Steps.{RightsLeft, joins, leaves, grants, revokes, works, drops, adds}
+use Rattle.history.proofs.Steps.{registered-as, changes, works, drops, adds}
 use Rattle.history.proofs.FreshStore.{fresh-store}
 use Rattle.history.proofs.Store.{sound-others, sound-working, sound-back}
 use Rattle.history.proofs.Numbers.{Shows, numbers}
@@ -49,16 +53,6 @@ module _ (s : Settings) (T : Tables) (a : Answer) (T′ : Tables) (p : Promised 
   begins L e =
       let h = entered-4-5 s T (sym (p .0 .answers) ∙ e) in
       rw (left-by s T a T′ p, eq-eqb (a .number) 0 e) (record { tables = started s (h .0) T (h .1) L; store = fresh-store s (h .0) T (h .1) })
-
--- ---- a number is 0 or that of a question that is asked
-pub number-in : (P : ℕ → Bool) (qs : List Question) → P 0 ≡ true → all (λ q. P (q .number)) qs ≡ true → P (firstNo qs) ≡ true
-unfolding all firstNo
-number-in P [] z h = z
-number-in P (q ∷ qs) z h = go (q .passed) (number-in P qs z (and-right (P (q .number)) _ h))
-  where
-    go : (t : Bool) → P (firstNo qs) ≡ true → P (cond t (firstNo qs) (q .number)) ≡ true
-    go true r = r
-    go false r = and-left (P (q .number)) _ h
 
 not-14 : (qs : List Question) → all (λ q. ltb (q .number) 14) qs ≡ true → firstNo qs ≢ 14
 not-14 qs h e = omega (arith, ltb-true (firstNo qs) 14 (number-in (λ n. ltb n 14) qs refl h))
@@ -104,16 +98,17 @@ module _ (T : Tables) (L : Ledger) (F : List Tree) (W : Shows T L F) where
         })
         (λ e. rw (rejoin T T′ (h .0 .refused e (λ z. not-14 (asked (byLedger L F) (drop p)) refl (sym n ∙ z))) (h .1)) W)
 
-    -- ---- join, leave, grant, revoke
-    registers : (c : Call) → Registers c T a T′ → forestAfter (L .settings) (L .rows) c F ≡ F
-        → (a .number ≡ 0 → RightsLeft T (registered c (T .settings)) (accept c L)) → Shows T′ (step (event c (a .number)) L) (triesAfter L c (a .number) F)
-    registers c h f r =
-        stepped T′ L F c (a .number)
+    -- ---- a change of the register
+    changing : (c : Change) → Promised (change c) T a T′ → Shows T′ (step (event (change c) (a .number)) L) (triesAfter L (change c) (a .number) F)
+    unfolding judged admitted asked firstNo forestAfter
+    changing c h =
+        stepped T′ L F (change c) (a .number)
         (λ e.
-        let k = r e in
-        rw (left, eq-eqb (a .number) 0 e, f) (record {
-          tables = k .tables;
-          store = sound-others T (registered c (T .settings)) (T .working) (k .head) (k .link) F (W .store);
+        let fits = passed 7 (changeInRange c) 0 (omega arith) (sym (numbers T L F W (change c) a T′ h) ∙ e) .0 in
+        let k = registered-as T L R c fits in
+        rw (left, eq-eqb (a .number) 0 e) (record {
+          tables = changes T L R c fits;
+          store = sound-others T (registered c (T .settings)) (T .working) (k .header) (k .free) F (W .store);
         }))
         (λ e. rw (left, ne-eqb (a .number) 0 e) W)
       where
@@ -124,34 +119,31 @@ module _ (T : Tables) (L : Ledger) (F : List Tree) (W : Shows T L F) where
         left : T′ ≡ cond (eqb (a .number) 0) (withSettings T (registered c (T .settings))) T
         left = h .1 ∙ rw (h .0 .settings-left, ← h .0 .answers) (go (eqb (a .number) 0))
 
-  -- ---- search and check
-  pub zeros-left : (c : Call) → entered T c ≡ shown56 T c → workingLeft T c ≡ zeroed L (T .working)
-  unfolding workingLeft zeroed
-  zeros-left c e = rw (e, past-6 T L R c, given-eq T L R)
+  -- ---- a reading
+  pub zeros-left : (q : Reading) → workingLeft T q ≡ zeroed L (T .working)
+  unfolding workingLeft zeroed entered
+  zeros-left q = rw (past-6 T L R (reading q), given-eq T L R)
 
-  working : (c : Call) (n : ℕ) (T′ : Tables) → T′ ≡ withWorking T (T′ .working) → T′ .working ≡ zeroed L (T .working)
-      → accept c L ≡ L → forestAfter (L .settings) (L .rows) c F ≡ F → Shows T′ (step (event c n) L) (triesAfter L c n F)
-  working c n T′ e z l f = stepped T′ L F c n (λ i. rw (l, f) shows) (λ i. shows)
+  as-long : (q : Reading) → length (workingAfter T q) ≡ length (T .working)
+  unfolding workingAfter zeroed
+  as-long q = go (takesOf q .working)
     where
-      long : length (zeroed L (T .working)) ≡ length (T .working)
-      long = unfold zeroed in onto-length (replicate (workingLength (L .settings)) 0) (T .working) (simp length-replicate (long-working T L R))
+      go : (t : Bool) → length (cond t (workingLeft T q) (T .working)) ≡ length (T .working)
+      go true = rw (zeros-left q) (onto-length (replicate (workingLength (L .settings)) 0) (T .working) (simp length-replicate (long-working T L R)))
+      go false = refl
 
-      shows : Shows T′ L F
-      shows = subst (λ (U : Tables). Shows U L F) (sym e) (record {
-        tables = works T L R (T′ .working) (ap length z ∙ long);
+  reads : (q : Reading) (a : Answer) (T′ : Tables) → Promised (reading q) T a T′ → Shows T′ L F
+  reads q a T′ p =
+      rw (p .1) (record {
+        tables = works T L R (T′ .working) (ap length (law q T .read a (T′ .working) (p .0) .left) ∙ as-long q);
         store = sound-working T F (T′ .working) (W .store);
       })
 
   -- ---- every call
   pub goes-on : (c : Call) (a : Answer) (T′ : Tables) → Promised c T a T′ → Shows T′ (step (event c (a .number)) L) (triesAfter L c (a .number) F)
-  unfolding forestAfter accept entered
+  unfolding forestAfter accept
   goes-on (opening s) a T′ p = stepped T′ L F (opening s) (a .number) (begins s T a T′ p L) (λ e. rw (left-by s T a T′ p, ne-eqb (a .number) 0 e) W)
   goes-on (add q c x) a T′ p = adding a T′ q c x p
   goes-on (drop q) a T′ p = dropping a T′ q p
-  goes-on (join r g) a T′ p = registers a T′ (join r g) p refl (λ e. joins T L R F r g (sym (numbers T L F W (join r g) a T′ p) ∙ e))
-  goes-on (leave r g) a T′ p = registers a T′ (leave r g) p refl (λ e. leaves T L R F r g (sym (numbers T L F W (leave r g) a T′ p) ∙ e))
-  goes-on (grant g c) a T′ p = registers a T′ (grant g c) p refl (λ e. grants T L R F g c (sym (numbers T L F W (grant g c) a T′ p) ∙ e))
-  goes-on (revoke g c) a T′ p = registers a T′ (revoke g c) p refl (λ e. revokes T L R F g c (sym (numbers T L F W (revoke g c) a T′ p) ∙ e))
-  goes-on (search r d x o) a T′ p = working (search r d x o) (a .number) T′ (p .1) (p .0 .working-left ∙ zeros-left (search r d x o) refl) refl refl
-  goes-on (show r q) a T′ p = rw (p .2) (stepped T L F (show r q) (a .number) (λ e. W) (λ e. W))
-  goes-on check a T′ p = working check (a .number) T′ (p .1) (p .0 .working-left ∙ zeros-left check refl) refl refl
+  goes-on (change c) a T′ p = changing a T′ c p
+  goes-on (reading q) a T′ p = stepped T′ L F (reading q) (a .number) (λ e. reads q a T′ p) (λ e. reads q a T′ p)

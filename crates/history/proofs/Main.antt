@@ -12,18 +12,20 @@ use Rattle.meaning.specs.Lists.{onto}
 use Rattle.meaning.specs.Refusal.{firstNo}
 use Rattle.meaning.specs.Questions.{asked}
 use Rattle.meaning.specs.Trie.{Tree}
-use Rattle.meaning.specs.Ledger.{Ledger, Event, search, show, check, step, unopened, ledger, calledFor, listed}
+use Rattle.meaning.specs.Ledger.{Ledger, Event, search, show, check, reading, step, unopened, ledger, calledFor, listed}
 use Rattle.meaning.specs.Forest.{forest, forestAfter}
 use Rattle.promises.specs.Tables.{Tables, pageRow, scan}
 use Rattle.promises.specs.Answers.{entered}
 use Rattle.promises.specs.Calls.{rowShown}
+use Rattle.store.specs.Calls.{earlyNumber}
 use Rattle.store.specs.Relation.{Answer, toShow, Promised}
+use Rattle.store.proofs.Readings.{number-show}
 use Rattle.history.specs.History.{History, begun, called, foreign, admitted, judged, RightlyPut, Found, sketchIn, Claim, Agree}
 use Rattle.history.proofs.Lists.{passed}
 use Rattle.history.proofs.Represents.{found-eq, number-eq}
 use Rattle.history.proofs.Searches.{ordered, refuses, finds, shows-row}
 use Rattle.history.proofs.Searches.{agreed as agreed-in}
-use Rattle.history.proofs.Numbers.{Shows, early, numbers, number-show}
+use Rattle.history.proofs.Numbers.{Shows, numbers}
 use Rattle.history.proofs.Keeps.{begins, zeros-left, goes-on}
 
 -- after every history the tables show the ledger, and the store is sound with the tries of demand 2
@@ -35,20 +37,20 @@ represents (foreign h c T₀ a T₁ p l m) = rw (ne-eqb (a .number) 0 (omega ari
 
 -- a search rightly put gives what the ledger calls for
 module _ (T : Tables) (L : Ledger) (F : List Tree) (W : Shows T L F) where
-  put-early : (reader radius : ℕ) (x : List ℕ) → RightlyPut L reader radius x → early T reader radius x ≡ 0
+  put-early : (reader radius : ℕ) (x : List ℕ) → RightlyPut L reader radius x → earlyNumber T reader radius x ≡ 0
   put-early reader radius x r =
       let l : length (calledFor L reader radius x) ≤ length (scan T reader radius x) = omega (arith, found-eq T L (W .tables) reader radius x (r .reads)) in
       refuses T L (W .tables) [] reader radius x (scan T reader radius x) r
       ∙ rw (le-leb (length (calledFor L reader radius x)) (length (scan T reader radius x)) l)
 
-  found : (reader radius : ℕ) (x o : List ℕ) (a : Answer) (T′ : Tables) → Promised (search reader radius x o) T a T′
+  found : (reader radius : ℕ) (x o : List ℕ) (a : Answer) (T′ : Tables) → Promised (reading (search reader radius x o)) T a T′
       → RightlyPut L reader radius x → Found L reader radius x o (a .number) (a .count) (a .list)
   found reader radius x o a T′ p r =
       finds T L (W .tables) [] reader radius x o r (a .number) (a .count) (a .list) (p .0 .sound F (W .store) (put-early reader radius x r))
 
-  row-shown : (reader p : ℕ) → rowShown (toShow T) reader p ≡ cond (eqb (judged T L F (show reader p)) 0) (sketchIn (L .rows) p) []
+  row-shown : (reader p : ℕ) → rowShown (toShow T) reader p ≡ cond (eqb (judged T L F (reading (show reader p))) 0) (sketchIn (L .rows) p) []
   unfolding rowShown pageRow
-  row-shown reader p = rw (number-show T F reader p, number-eq T L (W .tables) F (show reader p)) (shows-row T L (W .tables) F reader p)
+  row-shown reader p = rw (number-show T reader p F, number-eq T L (W .tables) F (reading (show reader p))) (shows-row T L (W .tables) F reader p)
 
 -- the theorem
 pub theorem : {es : List Event} {T : Tables} → History es T → Claim T (ledger es) (forest es)
@@ -57,10 +59,10 @@ theorem {es} {T} h = record {
   refusals = numbers T L F W;
   searches = found T L F W;
   once = ordered T L (W .tables);
-  shows = λ reader q a T′ p. p .1 ∙ row-shown T L F W reader q;
-  checks = λ a T′ p. p .0 .whole (numbers T L F W check a T′ p) F (W .store);
-  searched = λ reader radius x o a T′ p. p .0 .working-left ∙ zeros-left T L F W (search reader radius x o) refl;
-  checked = λ a T′ p. p .0 .working-left ∙ zeros-left T L F W check refl;
+  shows = λ reader q a T′ p. p .0 .1 ∙ row-shown T L F W reader q;
+  checks = λ a T′ p. p .0 .whole (numbers T L F W (reading check) a T′ p) F (W .store);
+  searched = λ reader radius x o a T′ p. p .0 .working-left ∙ zeros-left T L F W (search reader radius x o);
+  checked = λ a T′ p. p .0 .working-left ∙ zeros-left T L F W check;
   sound = W .store;
 }
   where
@@ -96,7 +98,7 @@ gave L reader radius x o n count after f e =
 module _ {es fs : List Event} {T U : Tables} (h : History es T) (k : History fs U) (reader radius : ℕ) (x : List ℕ)
     (agree : Agree (ledger es) (ledger fs) reader radius x) (put : RightlyPut (ledger es) reader radius x) (put′ : RightlyPut (ledger fs) reader radius x)
     (o o′ : List ℕ) (a a′ : Answer) (T′ U′ : Tables)
-    (p : Promised (search reader radius x o) T a T′) (p′ : Promised (search reader radius x o′) U a′ U′) where
+    (p : Promised (reading (search reader radius x o)) T a T′) (p′ : Promised (reading (search reader radius x o′)) U a′ U′) where
   abbrev f : Found (ledger es) reader radius x o (a .number) (a .count) (a .list)
   f = theorem h .searches reader radius x o a T′ p put
 

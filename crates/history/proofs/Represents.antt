@@ -1,6 +1,6 @@
 -- The tables show the ledger: the invariant of a history, and what the questions read under it.
 use mathlib.Core.Path.{_≡_, refl, sym, ap, _∙_}
-use mathlib.Core.Bool.{Bool, true, _&&_, and-assoc}
+use mathlib.Core.Bool.{Bool, true, false, cond, _&&_, and-assoc}
 use mathlib.Core.List.{List, _++_}
 use Prim.Native.Nat.{ℕ, _+_, _*_, _≤_, _<_}
 use native.Mathlib.Nat.{mul-le-mul-right}
@@ -14,8 +14,8 @@ use Rattle.meaning.specs.Refusal.{firstNo}
 use Rattle.meaning.specs.Sketch.{distance}
 use Rattle.meaning.specs.Rights.{openTo}
 use Rattle.meaning.specs.Trie.{Tree}
-use Rattle.meaning.specs.Ledger.{Settings, Row, Ledger, Call, opening, add, drop, join, leave, grant, revoke, search, show, check, calledFor, listed}
-use Rattle.meaning.specs.Questions.{inLimits, asked, byLedger}
+use Rattle.meaning.specs.Ledger.{Settings, Row, Ledger, Reading, search, show, check, Call, opening, add, drop, change, reading, calledFor, listed}
+use Rattle.meaning.specs.Questions.{inLimits, askedOf, asked, byLedger}
 use Rattle.layout.specs.Settings.{membersAt, header, settingsOf, showsOpening}
 use Rattle.layout.specs.Pages.{isLive, classOf}
 use Rattle.layout.specs.Lengths.{pagesLength, sketchesLength, workingLength}
@@ -24,7 +24,7 @@ use Rattle.layout.proofs.Limits.{bounds}
 use Rattle.layout.proofs.Written.{settings-header, shows-header}
 use Rattle.rights.specs.Register.{opens}
 use Rattle.rights.proofs.Pairs.{Holds, holds-opens}
-use Rattle.promises.specs.Tables.{Tables, given, pageClass, pageRow, isShown, scan, rowsOf, byTables}
+use Rattle.promises.specs.Tables.{Tables, takes, given, pageClass, pageRow, isShown, scan, rowsOf, byTables}
 use Rattle.promises.specs.Answers.{longFor, longSettings, longNodes, longPages, longWorking, shown56, entered, number}
 use Rattle.history.specs.History.{admitted, judged}
 use Rattle.history.proofs.Lists.{and-then, asks, keep-from, rows-live, rows-any, rows-keep}
@@ -35,7 +35,7 @@ pub record Represents (T : Tables) (L : Ledger) : Type 0 where
   pub limits : inLimits (L .settings) ≡ true
   -- all five tables
   pub long : longSettings T && longFor (L .settings) T (opening (L .settings)) ≡ true
-  pub register : Holds (T .settings) (L .members) (L .grants)
+  pub register : Holds (T .settings) (L .register)
   pub rows : L .rows ≡ rowsOf T
   pub classes : (p : ℕ) → p < L .settings .pages → isLive (T .pages) p ≡ true → classOf (T .pages) (L .settings .pages) p < 64
 
@@ -63,6 +63,10 @@ settings-read s limits ws e = ap settingsOf (parted s ws e) ∙ settings-header 
 
 -- ---- under the invariant
 
+asked-too : (t : Bool) {tests test : Bool} → tests ≡ true → test ≡ true → cond t (tests && test) tests ≡ true
+asked-too true {tests} {test} a b = and-both tests test a b
+asked-too false a b = a
+
 module _ (T : Tables) (L : Ledger) (R : Represents T L) where
   pub given-eq : given T ≡ L .settings
   given-eq = settings-read (L .settings) (R .limits) (T .settings) (R .head)
@@ -71,39 +75,43 @@ module _ (T : Tables) (L : Ledger) (R : Represents T L) where
   pub long-settings : longSettings T ≡ true
   long-settings = and-left (longSettings T) (longFor (L .settings) T (opening (L .settings))) (R .long)
 
+  long-all : longNodes (L .settings) T && longPages (L .settings) T && longWorking (L .settings) T ≡ true
+  unfolding longFor
+  long-all = and-right (longSettings T) (longFor (L .settings) T (opening (L .settings))) (R .long)
+
+  -- whichever tables it takes
   pub long-for : (c : Call) → longFor (L .settings) T c ≡ true
   unfolding longFor
-  long-for c = go c (and-right (longSettings T) (longFor (L .settings) T (opening (L .settings))) (R .long))
+  long-for c =
+      asked-too (takes c .working) (asked-too (takes c .pages) (asked-too (takes c .nodes) refl nodes) pages)
+      (and-right (longNodes (L .settings) T && longPages (L .settings) T) _ long-all)
     where
-      go : (c : Call) → longNodes (L .settings) T && longPages (L .settings) T && longWorking (L .settings) T ≡ true → longFor (L .settings) T c ≡ true
-      go (opening s) h = h
-      go (add p c x) h = Prim.search and-left
-      go (drop p) h = Prim.search and-left
-      go (join r g) h = refl
-      go (leave r g) h = refl
-      go (grant g c) h = refl
-      go (revoke g c) h = refl
-      go (search r d x o) h = h
-      go (show r p) h = Prim.search (and-left, and-right)
-      go check h = h
+      store : longNodes (L .settings) T && longPages (L .settings) T ≡ true
+      store = and-left (longNodes (L .settings) T && longPages (L .settings) T) (longWorking (L .settings) T) long-all
+
+      nodes : longNodes (L .settings) T ≡ true
+      nodes = and-left (longNodes (L .settings) T) (longPages (L .settings) T) store
+
+      pages : longPages (L .settings) T ≡ true
+      pages = and-right (longNodes (L .settings) T) (longPages (L .settings) T) store
 
   -- the live words and the classes, and the rows
   pub long-pages : 2 * L .settings .pages ≤ length (T .pages)
   unfolding longFor longPages pagesLength
   long-pages =
-      let a : leb (pagesLength (L .settings)) (length (T .pages)) ≡ true = and-left _ _ (long-for (show 0 0)) in
+      let a : leb (pagesLength (L .settings)) (length (T .pages)) ≡ true = and-left _ _ (long-for (reading (show 0 0))) in
       let b : 2 ≤ 2 + L .settings .blocks = omega arith in
       omega (arith, leb-true (pagesLength (L .settings)) (length (T .pages)) a, mul-le-mul-right (L .settings .pages) b)
 
   pub long-sketches : L .settings .pages * L .settings .symbols ≤ length (T .sketches)
   unfolding longFor longPages sketchesLength
   long-sketches =
-      leb-true (sketchesLength (L .settings)) (length (T .sketches)) (and-right (leb (pagesLength (L .settings)) (length (T .pages))) _ (long-for (show 0 0)))
+      leb-true (sketchesLength (L .settings)) (length (T .sketches)) (and-right (leb (pagesLength (L .settings)) (length (T .pages))) _ (long-for (reading (show 0 0))))
 
   pub long-working : workingLength (L .settings) ≤ length (T .working)
-  unfolding longFor longWorking
+  unfolding longWorking
   long-working =
-      leb-true (workingLength (L .settings)) (length (T .working)) (and-right (longNodes (L .settings) T && longPages (L .settings) T) _ (long-for check))
+      leb-true (workingLength (L .settings)) (length (T .working)) (and-right (longNodes (L .settings) T && longPages (L .settings) T) _ long-all)
 
   pub shows-opening : showsOpening (T .settings) ≡ true
   shows-opening =
@@ -133,19 +141,19 @@ module _ (T : Tables) (L : Ledger) (R : Represents T L) where
   live-eq p h = rw rows-eq (sym (rows-live live row (λ i. refl) p 0 (L .settings .pages) (omega arith) (omega arith)))
 
   opens-live : (reader p : ℕ) → reader < 256 → p < L .settings .pages → live p ≡ true
-      → opens (T .settings) reader (row p .class) ≡ openTo (L .members) (L .grants) reader (row p .class)
-  opens-live reader p hr h e = holds-opens (T .settings) (L .members) (L .grants) (R .register) reader (row p .class) hr (R .classes p h e)
+      → opens (T .settings) reader (row p .class) ≡ openTo (L .register) reader (row p .class)
+  opens-live reader p hr h e = holds-opens (T .settings) (L .register) (R .register) reader (row p .class) hr (R .classes p h e)
 
-  shown-row : (reader p : ℕ) → reader < 256 → p < L .settings .pages → isShown T reader p ≡ live p && openTo (L .members) (L .grants) reader (row p .class)
+  shown-row : (reader p : ℕ) → reader < 256 → p < L .settings .pages → isShown T reader p ≡ live p && openTo (L .register) reader (row p .class)
   unfolding isShown pageClass
   shown-row reader p hr h = rw given-eq (and-then (live p) (opens-live reader p hr h))
 
   pub shown-eq : (reader p : ℕ) → reader < 256 → p < L .settings .pages
-      → isShown T reader p ≡ any (λ r. eqb (r .page) p && openTo (L .members) (L .grants) reader (r .class)) (L .rows)
+      → isShown T reader p ≡ any (λ r. eqb (r .page) p && openTo (L .register) reader (r .class)) (L .rows)
   shown-eq reader p hr h =
       rw rows-eq
       (shown-row reader p hr h
-      ∙ sym (rows-any live row (λ i. refl) (λ r. openTo (L .members) (L .grants) reader (r .class)) p 0 (L .settings .pages) (omega arith) (omega arith)))
+      ∙ sym (rows-any live row (λ i. refl) (λ r. openTo (L .register) reader (r .class)) p 0 (L .settings .pages) (omega arith) (omega arith)))
 
   pub scan-eq : (reader radius : ℕ) (x : List ℕ) → reader < 256 → scan T reader radius x ≡ listed L reader radius x
   unfolding scan listed calledFor pageRow upto
@@ -153,10 +161,10 @@ module _ (T : Tables) (L : Ledger) (R : Represents T L) where
       rw (given-eq, rows-eq)
       (keep-from (λ p. isShown T reader p && near p) (λ p. live p && (mine p && near p)) 0 (L .settings .pages)
       (λ p a b. rw (shown-row reader p hr (omega arith)) (and-assoc (live p) (mine p) (near p)))
-      ∙ sym (rows-keep live row (λ i. refl) (λ r. openTo (L .members) (L .grants) reader (r .class) && leb (distance (r .sketch) x) radius) 0 (L .settings .pages)))
+      ∙ sym (rows-keep live row (λ i. refl) (λ r. openTo (L .register) reader (r .class) && leb (distance (r .sketch) x) radius) 0 (L .settings .pages)))
     where
       mine : ℕ → Bool
-      mine p = openTo (L .members) (L .grants) reader (row p .class)
+      mine p = openTo (L .register) reader (row p .class)
 
       near : ℕ → Bool
       near p = leb (distance (row p .sketch) x) radius
@@ -166,6 +174,19 @@ module _ (T : Tables) (L : Ledger) (R : Represents T L) where
   found-eq reader radius x hr = ap length (scan-eq reader radius x hr) ∙ length-map (calledFor L reader radius x) (λ r. r .page)
 
   -- ---- a call's number is the one that the ledger's questions give
+  reading-eq : (F : List Tree) (q : Reading) → firstNo (askedOf (byTables T F) q) ≡ firstNo (askedOf (byLedger L F) q)
+  unfolding byTables byLedger firstNo
+  reading-eq F (search r d x o) =
+      rw given-eq
+      (asks 7 (ltb r 256 && leb d 64) λ h7.
+      rw (found-eq r d x (ltb-true r 256 (and-left (ltb r 256) (leb d 64) h7))))
+  reading-eq F (show r p) =
+      rw given-eq
+      (asks 7 (ltb r 256) λ h7.
+      asks 8 (ltb p (L .settings .pages)) λ h8.
+      rw (shown-eq r p (ltb-true r 256 h7) (ltb-true p (L .settings .pages) h8)))
+  reading-eq F check = refl
+
   pub number-eq : (F : List Tree) (c : Call) → number T F c ≡ judged T L F c
   unfolding number judged admitted entered shown56 asked byTables byLedger firstNo
   number-eq F (opening s) = refl
@@ -178,17 +199,5 @@ module _ (T : Tables) (L : Ledger) (R : Represents T L) where
       rw (long-settings, shown-6 (drop p), given-eq)
       (asks 8 (ltb p (L .settings .pages)) λ h8.
       rw (live-eq p (ltb-true p (L .settings .pages) h8)))
-  number-eq F (join r g) = rw (long-settings, shown-6 (join r g))
-  number-eq F (leave r g) = rw (long-settings, shown-6 (leave r g))
-  number-eq F (grant g c) = rw (long-settings, shown-6 (grant g c))
-  number-eq F (revoke g c) = rw (long-settings, shown-6 (revoke g c))
-  number-eq F (search r d x o) =
-      rw (long-settings, shown-6 (search r d x o), given-eq)
-      (asks 7 (ltb r 256 && leb d 64) λ h7.
-      rw (found-eq r d x (ltb-true r 256 (and-left (ltb r 256) (leb d 64) h7))))
-  number-eq F (show r p) =
-      rw (long-settings, shown-6 (show r p), given-eq)
-      (asks 7 (ltb r 256) λ h7.
-      asks 8 (ltb p (L .settings .pages)) λ h8.
-      rw (shown-eq r p (ltb-true r 256 h7) (ltb-true p (L .settings .pages) h8)))
-  number-eq F check = rw (long-settings, shown-6 check)
+  number-eq F (change c) = rw (long-settings, shown-6 (change c))
+  number-eq F (reading q) = rw (long-settings, shown-6 (reading q)) (reading-eq F q)

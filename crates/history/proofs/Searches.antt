@@ -12,7 +12,7 @@ use Rattle.meaning.specs.Sketch.{distance}
 use Rattle.meaning.specs.SketchCalls.{outputLeft}
 use Rattle.meaning.specs.Rights.{openTo}
 use Rattle.meaning.specs.Trie.{Tree}
-use Rattle.meaning.specs.Ledger.{Ledger, search, show, calledFor, listed}
+use Rattle.meaning.specs.Ledger.{Ledger, search, show, reading, calledFor, listed}
 use Rattle.meaning.specs.Questions.{asked, byLedger}
 use Rattle.layout.specs.Pages.{isLive}
 use Rattle.layout.proofs.Tests.{and-left}
@@ -36,15 +36,15 @@ module _ (T : Tables) (L : Ledger) (R : Represents T L) where
       rw (
         rows-eq T L R,
         rows-keep (isLive (T .pages)) (rowAt (L .settings .pages) (L .settings .symbols) (T .pages) (T .sketches)) (λ i. refl)
-            (λ r. openTo (L .members) (L .grants) reader (r .class) && leb (distance (r .sketch) x) radius) 0 (L .settings .pages),
+            (λ r. openTo (L .register) reader (r .class) && leb (distance (r .sketch) x) radius) 0 (L .settings .pages),
       )
       (rising-keep _ 0 (L .settings .pages))
 
   module _ (F : List Tree) (reader radius : ℕ) (x o : List ℕ) (put : RightlyPut L reader radius x) where
-    pub refuses : number T F (search reader radius x o) ≡ cond (leb (length (calledFor L reader radius x)) (length o)) 0 13
+    pub refuses : number T F (reading (search reader radius x o)) ≡ cond (leb (length (calledFor L reader radius x)) (length o)) 0 13
     unfolding judged admitted asked byLedger firstNo
     refuses =
-        number-eq T L R F (search reader radius x o)
+        number-eq T L R F (reading (search reader radius x o))
         ∙ rw (lt-ltb reader 256 (put .reads), le-leb radius 64 (put .near), eq-eqb (length x) (L .settings .symbols) (put .whole), put .symbols)
 
     -- a search that gives what the scan lists
@@ -61,7 +61,7 @@ module _ (T : Tables) (L : Ledger) (R : Represents T L) where
 
 -- a show gives the sketch in the page's row
 module _ (T : Tables) (L : Ledger) (R : Represents T L) (F : List Tree) (reader p : ℕ) where
-  live-shown : judged T L F (show reader p) ≡ 0 → (p < L .settings .pages) × (isLive (T .pages) p ≡ true)
+  live-shown : judged T L F (reading (show reader p)) ≡ 0 → (p < L .settings .pages) × (isLive (T .pages) p ≡ true)
   unfolding judged admitted asked byLedger firstNo isShown
   live-shown e =
       let h7 = passed 7 (ltb reader 256) _ (omega arith) e in
@@ -70,8 +70,8 @@ module _ (T : Tables) (L : Ledger) (R : Represents T L) (F : List Tree) (reader 
       let hp = ltb-true p (L .settings .pages) (h8 .0) in
       (hp, and-left (isLive (T .pages) p) _ (shown-eq T L R reader p (ltb-true reader 256 (h7 .0)) hp ∙ h9 .0))
 
-  pub shows-row : cond (eqb (judged T L F (show reader p)) 0) (pageRow T p) [] ≡ cond (eqb (judged T L F (show reader p)) 0) (sketchIn (L .rows) p) []
-  shows-row = go (eqb (judged T L F (show reader p)) 0) refl
+  pub shows-row : cond (eqb (judged T L F (reading (show reader p))) 0) (pageRow T p) [] ≡ cond (eqb (judged T L F (reading (show reader p))) 0) (sketchIn (L .rows) p) []
+  shows-row = go (eqb (judged T L F (reading (show reader p))) 0) refl
     where
       row : (p < L .settings .pages) × (isLive (T .pages) p ≡ true) → pageRow T p ≡ sketchIn (L .rows) p
       row h =
@@ -80,8 +80,8 @@ module _ (T : Tables) (L : Ledger) (R : Represents T L) (F : List Tree) (reader 
           (sym (rows-sketch (isLive (T .pages)) (rowAt (L .settings .pages) (L .settings .symbols) (T .pages) (T .sketches)) (λ i. refl) p 0 (L .settings .pages) (h .1)
           (omega arith) (omega arith)))
 
-      go : (t : Bool) → eqb (judged T L F (show reader p)) 0 ≡ t → cond t (pageRow T p) [] ≡ cond t (sketchIn (L .rows) p) []
-      go true e = row (live-shown (eqb-true (judged T L F (show reader p)) 0 e))
+      go : (t : Bool) → eqb (judged T L F (reading (show reader p))) 0 ≡ t → cond t (pageRow T p) [] ≡ cond t (sketchIn (L .rows) p) []
+      go true e = row (live-shown (eqb-true (judged T L F (reading (show reader p))) 0 e))
       go false e = refl
 
 pub agreed : (T U : Tables) (L M : Ledger) → Represents T L → Represents U M → (reader radius : ℕ) (x : List ℕ)

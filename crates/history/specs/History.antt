@@ -9,7 +9,7 @@ use Rattle.meaning.specs.Lists.{all, any, onto}
 use Rattle.meaning.specs.Refusal.{Question, firstNo}
 use Rattle.meaning.specs.Sketch.{inRange}
 use Rattle.meaning.specs.Trie.{Tree}
-use Rattle.meaning.specs.Ledger.{Settings, Row, Ledger, Event, Call, opening, add, drop, join, leave, grant, revoke, search, show, check, calledFor, listed}
+use Rattle.meaning.specs.Ledger.{Settings, Row, Ledger, Event, search, show, check, Call, opening, reading, ifOpening, calledFor, listed}
 use Rattle.meaning.specs.Questions.{asked, byLedger}
 use Rattle.layout.specs.Lengths.{workingLength}
 use Rattle.promises.specs.Tables.{Tables}
@@ -34,16 +34,7 @@ pub data History : List Event → Tables → Type 0 where
 
 -- 4 and 5 of an opening go by its arguments and the tables' lengths; every other call passes 5 and 6
 unfoldable pub admitted : Tables → Call → List Question
-admitted T (opening s) = entered T (opening s)
-admitted T (add p c x) = []
-admitted T (drop p) = []
-admitted T (join r g) = []
-admitted T (leave r g) = []
-admitted T (grant g c) = []
-admitted T (revoke g c) = []
-admitted T (search r d x o) = []
-admitted T (show r p) = []
-admitted T check = []
+admitted T c = ifOpening c (λ s. entered T c) []
 
 -- the number of the first "no", as the ledger and the tries of demand 2 have it; 0 where there is none
 unfoldable pub judged : Tables → Ledger → List Tree → Call → ℕ
@@ -82,19 +73,19 @@ pub record Claim (T : Tables) (L : Ledger) (F : List Tree) : Type 0 where
   -- each further call is refused just where a question says no
   pub refusals : (c : Call) (a : Answer) (T′ : Tables) → Promised c T a T′ → a .number ≡ judged T L F c
   -- a search rightly put
-  pub searches : (reader radius : ℕ) (x o : List ℕ) (a : Answer) (T′ : Tables) → Promised (search reader radius x o) T a T′
+  pub searches : (reader radius : ℕ) (x o : List ℕ) (a : Answer) (T′ : Tables) → Promised (reading (search reader radius x o)) T a T′
       → RightlyPut L reader radius x → Found L reader radius x o (a .number) (a .count) (a .list)
   -- each page stands in its list once, and the numbers rise
   pub once : (reader radius : ℕ) (x : List ℕ) → rising (listed L reader radius x) ≡ true
   -- a show gives the page's row, and nothing where it is refused
-  pub shows : (reader p : ℕ) (a : Answer) (T′ : Tables) → Promised (show reader p) T a T′
-      → a .list ≡ cond (eqb (judged T L F (show reader p)) 0) (sketchIn (L .rows) p) []
+  pub shows : (reader p : ℕ) (a : Answer) (T′ : Tables) → Promised (reading (show reader p)) T a T′
+      → a .list ≡ cond (eqb (judged T L F (reading (show reader p))) 0) (sketchIn (L .rows) p) []
   -- a check says yes
-  pub checks : (a : Answer) (T′ : Tables) → Promised check T a T′ → a .yes ≡ true
+  pub checks : (a : Answer) (T′ : Tables) → Promised (reading check) T a T′ → a .yes ≡ true
   -- a search and a check leave zeros in the needed part of the working table
-  pub searched : (reader radius : ℕ) (x o : List ℕ) (a : Answer) (T′ : Tables) → Promised (search reader radius x o) T a T′
+  pub searched : (reader radius : ℕ) (x o : List ℕ) (a : Answer) (T′ : Tables) → Promised (reading (search reader radius x o)) T a T′
       → T′ .working ≡ zeroed L (T .working)
-  pub checked : (a : Answer) (T′ : Tables) → Promised check T a T′ → T′ .working ≡ zeroed L (T .working)
+  pub checked : (a : Answer) (T′ : Tables) → Promised (reading check) T a T′ → T′ .working ≡ zeroed L (T .working)
   -- the store is sound, and its tries are those
   pub sound : Sound T F
 

@@ -1,4 +1,4 @@
--- Join, leave, grant and revoke: what `refusal` answers, and one law for each way out, over the call.
+-- A change of the register: what `refusal` answers, and one law for each way out, over the change.
 use Prim.Native.Nat.{ℕ, _≤_, _<_}
 use native.Mathlib.Omega.{arith}
 use mathlib.Core.Path.{_≡_, refl, sym, _∙_}
@@ -8,7 +8,8 @@ use borrow.Author.Tests.{leb-true, ltb-true, ne-eqb}
 use lib.Dec.{ltb}
 use lib.ListN.{length}
 use Rattle.meaning.specs.Refusal.{ask, firstNo}
-use Rattle.meaning.specs.Ledger.{Call, join, leave, grant, revoke}
+use Rattle.meaning.specs.Rights.{Change, join, leave, grant, revoke}
+use Rattle.meaning.specs.Ledger.{change}
 use Rattle.meaning.specs.Questions.{asked}
 use Rattle.layout.specs.declared.Header.{Header}
 use Rattle.layout.specs.declared.Opening.the-variants.{Shown, Refused}
@@ -16,9 +17,9 @@ use Rattle.layout.specs.Settings.{settingsLength}
 use Rattle.layout.specs.Header.{openingOf, tablesFirst}
 use Rattle.layout.proofs.Openings.{shown-number, refused-number}
 use Rattle.layout.proofs.Tests.{and-left, and-right}
-use Rattle.rights.specs.Register.{withMember, withGrant}
+use Rattle.rights.specs.Register.{withMember, withGrant, registered}
 use Rattle.promises.specs.Tables.{settingsAlone}
-use Rattle.promises.specs.Answers.{number, entered, shown56, longSettings, longFor, registered}
+use Rattle.promises.specs.Answers.{number, entered, shown56, longSettings, longFor}
 use Rattle.promises.specs.Calls.{RightsPromise}
 use Rattle.index.specs.Register.{registerNumber}
 use Rattle.index.proofs.Questions.{all-yes}
@@ -33,9 +34,9 @@ module _ (ws : List ℕ) (t : Bool) where
   unfolding registerNumber
   register-refused n e = refused-number ws true (ask 7 t ∷ []) n e
 
--- ---- a call that asks whether a is below A and b below B, and leaves this table
-pub record Registers (c : Call) (ws : List ℕ) (a A b B : ℕ) (left : List ℕ) : Type 0 where
-  pub asks : number (settingsAlone ws) [] c ≡ registerNumber ws (ltb a A && ltb b B)
+-- ---- a change that asks whether a is below A and b below B, and leaves this table
+pub record Registers (c : Change) (ws : List ℕ) (a A b B : ℕ) (left : List ℕ) : Type 0 where
+  pub asks : number (settingsAlone ws) [] (change c) ≡ registerNumber ws (ltb a A && ltb b B)
   pub leaves : registered c ws ≡ left
 
 module _ (ws : List ℕ) (a b : ℕ) where
@@ -56,11 +57,11 @@ module _ (ws : List ℕ) (a b : ℕ) where
   revokes = record { asks = refl; leaves = refl }
 
 -- ---- the ways out, n the answer of `refusal`
-module _ {c : Call} {ws : List ℕ} {a A b B : ℕ} {left : List ℕ} (C : Registers c ws a A b B left) (n : ℕ)
+module _ {c : Change} {ws : List ℕ} {a A b B : ℕ} {left : List ℕ} (C : Registers c ws a A b B left) (n : ℕ)
     (answer : n ≡ registerNumber ws (ltb a A && ltb b B)) where
   pub refused : (n ≡ 0 → ⊥) → RightsPromise c ws n ws
   refused h =
-      let same : number (settingsAlone ws) [] c ≡ n = C .asks ∙ sym answer in
+      let same : number (settingsAlone ws) [] (change c) ≡ n = C .asks ∙ sym answer in
       record { answers = sym same; settings-left = rw (same, ne-eqb n 0 h) }
 
   pub passed : n ≡ 0 → (settingsLength ≤ length ws) × (a < A) × (b < B)
@@ -74,5 +75,5 @@ module _ {c : Call} {ws : List ℕ} {a A b B : ℕ} {left : List ℕ} (C : Regis
 
   pub done : n ≡ 0 → (after : List ℕ) → after ≡ left → RightsPromise c ws 0 after
   done z after e =
-      let same : number (settingsAlone ws) [] c ≡ 0 = C .asks ∙ sym answer ∙ z in
+      let same : number (settingsAlone ws) [] (change c) ≡ 0 = C .asks ∙ sym answer ∙ z in
       record { answers = sym same; settings-left = rw (same, C .leaves) e }

@@ -9,7 +9,7 @@ use borrow.Author.Tests.{lt-ltb, le-ltb, ne-eqb, ltb-true, leb-true, eqb-true}
 use lib.Dec.{ltb, leb, eqb, lit<}
 use lib.ListN.{length, take, drop}
 use Rattle.meaning.specs.Refusal.{firstNo}
-use Rattle.meaning.specs.Ledger.{show}
+use Rattle.meaning.specs.Ledger.{show, reading}
 use Rattle.meaning.specs.Questions.{asked}
 use Rattle.layout.specs.declared.Header.{Header}
 use Rattle.layout.specs.declared.Opening.the-variants.{Shown, Refused}
@@ -46,11 +46,11 @@ module _ (h : Header) (p : ℕ) (page : p < h .pages) where
       lt-of-le-of-lt (mul-le-mul small few) (lit< tt)
 
 module _ (T : Tables) (r p : ℕ) where
-  refused-place : (n : ℕ) → number T [] (show r p) ≡ n → (n ≡ 0 → ⊥) → noRow n ≡ placeOf T r p
+  refused-place : (n : ℕ) → number T [] (reading (show r p)) ≡ n → (n ≡ 0 → ⊥) → noRow n ≡ placeOf T r p
   unfolding placeOf startShown lengthShown
   refused-place n e h = rw (e, ne-eqb n 0 h)
 
-  shown-place : (m : ℕ) → given T .symbols ≡ m → number T [] (show r p) ≡ 0
+  shown-place : (m : ℕ) → given T .symbols ≡ m → number T [] (reading (show r p)) ≡ 0
       → record { number = 0; start = p * m; length = m } ≡ placeOf T r p
   unfolding placeOf startShown lengthShown
   shown-place m same e = rw (e, same)
@@ -61,8 +61,8 @@ module _ (ws pages sketches : List ℕ) (r p : ℕ) where
   T = showTables ws pages sketches
 
   -- 5 and 6, then the others
-  asked-first : number T [] (show r p)
-      ≡ firstNo (tablesFirst ws (longPages (settingsOf ws) T) (asked (byTables T []) (show r p)))
+  asked-first : number T [] (reading (show r p))
+      ≡ firstNo (tablesFirst ws (longPages (settingsOf ws) T) (asked (byTables T []) (reading (show r p))))
   unfolding number entered shown56 longSettings longFor
   asked-first = refl
 
@@ -79,11 +79,11 @@ module _ (ws pages sketches : List ℕ) (r p : ℕ) where
         (cond (ltb p (g .pages))
         (cond (isLive pages p && opens ws r (classOf pages (g .pages) p)) 0 9) 8) 7) 6
 
-    by-header : number T [] (show r p) ≡ from6 h
+    by-header : number T [] (reading (show r p)) ≡ from6 h
     unfolding from6 longPages pagesLength sketchesLength asked byTables isShown pageClass firstNo
     by-header =
         asked-first
-        ∙ shown-number ws (longPages (settingsOf ws) T) (asked (byTables T []) (show r p)) h e
+        ∙ shown-number ws (longPages (settingsOf ws) T) (asked (byTables T []) (reading (show r p))) h e
         ∙ ap from6 (shown ws h e .header)
 
     pub row-6 : longFor6 h pages sketches ≡ false → noRow 6 ≡ placeOf T r p
@@ -121,10 +121,10 @@ module _ (ws pages sketches : List ℕ) (r p : ℕ) where
                 (by-header ∙ rw (long, lt-ltb r 256 hr, lt-ltb p (h .pages) hp, live, ← of-page, granted))
 
   -- ---- the part with that place
-  place-shown : number T [] (show r p) ≡ 0 → p * given T .symbols + given T .symbols ≤ length sketches
+  place-shown : number T [] (reading (show r p)) ≡ 0 → p * given T .symbols + given T .symbols ≤ length sketches
   unfolding longPages sketchesLength asked byTables
   place-shown z =
-      let yes = all-yes (tablesFirst ws (longPages (given T) T) (asked (byTables T []) (show r p))) (omega arith) (sym asked-first ∙ z) in
+      let yes = all-yes (tablesFirst ws (longPages (given T) T) (asked (byTables T []) (reading (show r p)))) (omega arith) (sym asked-first ∙ z) in
       let long = and-right (showsOpening ws) (longPages (given T) T) (yes .1 .0) in
       row-inside (given T .symbols) (given T .pages) (length sketches)
       (ltb-true p (given T .pages) (yes .1 .1 .1 .0))
@@ -132,16 +132,16 @@ module _ (ws pages sketches : List ℕ) (r p : ℕ) where
 
   pub place-inside : placeOf T r p .start + placeOf T r p .length ≤ length sketches
   unfolding placeOf startShown lengthShown
-  place-inside = go (eqb (number T [] (show r p)) 0) refl
+  place-inside = go (eqb (number T [] (reading (show r p))) 0) refl
     where
-      go : (t : Bool) → eqb (number T [] (show r p)) 0 ≡ t
+      go : (t : Bool) → eqb (number T [] (reading (show r p))) 0 ≡ t
           → cond t (p * given T .symbols) 0 + cond t (given T .symbols) 0 ≤ length sketches
-      go true e = place-shown (eqb-true (number T [] (show r p)) 0 e)
+      go true e = place-shown (eqb-true (number T [] (reading (show r p))) 0 e)
       go false e = omega arith
 
   pub part-shown : rowShown T r p ≡ take (placeOf T r p .length) (drop (placeOf T r p .start) sketches)
   unfolding placeOf startShown lengthShown rowShown pageRow rowOf
-  part-shown = go (eqb (number T [] (show r p)) 0)
+  part-shown = go (eqb (number T [] (reading (show r p))) 0)
     where
       go : (t : Bool) → cond t (rowOf (given T .symbols) sketches p) []
           ≡ take (cond t (given T .symbols) 0) (drop (cond t (p * given T .symbols) 0) sketches)

@@ -1,4 +1,4 @@
--- The refusal number of a join, leave, grant or revoke.
+-- The refusal number of a change of the register.
 use Prim.Native.Nat.{ℕ}
 use mathlib.Core.Bool.{Bool, true}
 use mathlib.Core.List.{List, [], _∷_}

@@ -2,7 +2,7 @@
 ghost use mathlib.Core.Path.{_≡_};
 ghost use mathlib.Core.Bool.{_&&_};
 ghost use lib.Dec.{ltb};
-ghost use Rattle.meaning.specs.Ledger.{join, leave, grant, revoke};
+ghost use Rattle.meaning.specs.Rights.{join, leave, grant, revoke};
 ghost use Rattle.promises.specs.Calls.{RightsPromise};
 ghost use Rattle.index.specs.Register.{registerNumber};
 use layout::Opening;

@@ -3,7 +3,7 @@ ghost use mathlib.Core.Path.{_≡_};
 ghost use mathlib.Core.List.{[]};
 ghost use Prim.Native.Nat.{_+_};
 ghost use lib.ListN.{length};
-ghost use Rattle.meaning.specs.Ledger.{show};
+ghost use Rattle.meaning.specs.Ledger.{show, reading};
 ghost use Rattle.promises.specs.Tables.{showTables};
 ghost use Rattle.promises.specs.Answers.{number};
 ghost use Rattle.promises.specs.Calls.{startShown, rowShown};
@@ -80,7 +80,7 @@ pub fn show<'a>(
     reader: u32,
     page: u32,
 ) -> &'a [u8]
-    ensures { λ r. ⌜ OnShow reader page (showTables (now (settings .entry)) (now (pages .entry)) (now (sketches .entry))) (number (showTables (now (settings .entry)) (now (pages .entry)) (now (sketches .entry))) [] (show reader page)) (now r) ⌝ }
+    ensures { λ r. ⌜ OnShow reader page (showTables (now (settings .entry)) (now (pages .entry)) (now (sketches .entry))) (number (showTables (now (settings .entry)) (now (pages .entry)) (now (sketches .entry))) [] (reading (show reader page))) (now r) ⌝ }
     ensures { λ r. ⌜ r .ptr .0 ≡ sketches .entry .ptr .0 ⌝ }
     ensures { λ r. ⌜ r .ptr .1 ≡ sketches .entry .ptr .1 + startShown (showTables (now (settings .entry)) (now (pages .entry)) (now (sketches .entry))) reader page ⌝ }
 {

@@ -8,12 +8,14 @@ use lib.Dec.{ltb, eqb}
 use lib.ListN.{length, take, drop, length-drop}
 use lib.Seq.{drop-drop, take-all}
 use borrow.Author.Tests.{lt-ltb, le-ltb, eq-eqb, ne-eqb, ltb-true, eqb-true}
-use Rattle.meaning.specs.Journal.{opens, adds, drops, joins, leaves, grants, revokes, searches, byteAt, wordAt, operandBytes, taken, formAt, next, command, ended, refused, command-to}
+use Rattle.meaning.specs.Rights.{join, leave, grant, revoke}
+use Rattle.meaning.specs.Journal.{opens, adds, drops, changes, searches, byteAt, wordAt, entries, operandBytes, taken, formAt, next, command, ended, refused, command-to}
 use Rattle.meaning.specs.Journal.{Command as PaperCommand}
-use Rattle.journal.specs.Steps.{meant, told, symbolsEnd, pairCommand, commandOf, commandAt, stepAt, Stepped, reachedBy}
+use Rattle.journal.specs.Steps.{changeMeant, meant, told, symbolsEnd, changeOf, commandOf, commandAt, stepAt, Stepped, reachedBy}
 use Rattle.journal.proofs.Questions.{behind-there}
+use Rattle.journal.specs.declared.commands.Change.the-variants.{Join, Leave, Grant, Revoke}
 use Rattle.journal.specs.declared.commands.Command.{Command}
-use Rattle.journal.specs.declared.commands.Command.the-variants.{Open, Add, Drop, Join, Leave, Grant, Revoke, Search}
+use Rattle.journal.specs.declared.commands.Command.the-variants.{Open, Add, Drop, Register, Search}
 use Rattle.journal.specs.declared.commands.Step.{Step}
 use Rattle.journal.specs.declared.commands.Step.the-variants.{Taken, Refused, End}
 
@@ -21,7 +23,7 @@ symbols-at : (m at k : ℕ) (bytes : List ℕ) → take m (drop (at + k) bytes) 
 symbols-at m at k bytes = ap (take m) (sym (drop-drop k at bytes))
 
 pub command-meant : (m : ℕ) (bytes : List ℕ) (at : ℕ) → meant m bytes (commandAt bytes at) ≡ command m (drop at bytes)
-unfolding commandAt commandOf pairCommand meant command
+unfolding commandAt commandOf changeOf changeMeant meant entries command
 command-meant m bytes at = go (is 73) (is 65) (is 68) (is 83) (is 74) (is 76) (is 71)
   where
     own : List ℕ
@@ -36,16 +38,17 @@ command-meant m bytes at = go (is 73) (is 65) (is 68) (is 83) (is 74) (is 76) (i
         cond a (Add (wordAt own 1) (byteAt own 3) (at + 4)) (
         cond d (Drop (wordAt own 1)) (
         cond s (Search (byteAt own 1) (byteAt own 2) (at + 3)) (
+        Register (
         cond j (Join (byteAt own 1) (byteAt own 2)) (
         cond l (Leave (byteAt own 1) (byteAt own 2)) (
-        cond g (Grant (byteAt own 1) (byteAt own 2)) (Revoke (byteAt own 1) (byteAt own 2)))))))))
+        cond g (Grant (byteAt own 1) (byteAt own 2)) (Revoke (byteAt own 1) (byteAt own 2))))))))))
         ≡ cond i (opens (byteAt own 1) (byteAt own 2) (byteAt own 3) (wordAt own 4)) (
         cond a (adds (wordAt own 1) (byteAt own 3) (take m (drop 4 own))) (
         cond d (drops (wordAt own 1)) (
         cond s (searches (byteAt own 1) (byteAt own 2) (take m (drop 3 own))) (
-        cond j (joins (byteAt own 1) (byteAt own 2)) (
-        cond l (leaves (byteAt own 1) (byteAt own 2)) (
-        cond g (grants (byteAt own 1) (byteAt own 2)) (revokes (byteAt own 1) (byteAt own 2))))))))
+        cond j (changes (join (byteAt own 1) (byteAt own 2))) (
+        cond l (changes (leave (byteAt own 1) (byteAt own 2))) (
+        cond g (changes (grant (byteAt own 1) (byteAt own 2))) (changes (revoke (byteAt own 1) (byteAt own 2)))))))))
     go true a d s j l g = refl
     go false true d s j l g = ap (adds (wordAt own 1) (byteAt own 3)) (symbols-at m at 4 bytes)
     go false false true s j l g = refl
@@ -112,10 +115,10 @@ module _ (at : ℕ) (bytes : List ℕ) where
   unfolding commandOf
   search-at e f er ed = rw (← part-of at bytes, er, ed, sym e ∙ f)
 
-  pub pair-at : {c x y : ℕ} → c ≡ byteAt own 0 → (c ≡ 73 → ⊥) → (c ≡ 65 → ⊥) → (c ≡ 68 → ⊥) → (c ≡ 83 → ⊥) → x ≡ byteAt own 1 → y ≡ byteAt own 2
-      → pairCommand c x y ≡ commandAt bytes at
+  pub change-at : {c x y : ℕ} → c ≡ byteAt own 0 → (c ≡ 73 → ⊥) → (c ≡ 65 → ⊥) → (c ≡ 68 → ⊥) → (c ≡ 83 → ⊥) → x ≡ byteAt own 1 → y ≡ byteAt own 2
+      → Register (changeOf c x y) ≡ commandAt bytes at
   unfolding commandOf
-  pair-at {c} e i a d s ex ey = rw (← part-of at bytes, ex, ey, ← e, ne-eqb c 73 i, ne-eqb c 65 a, ne-eqb c 68 d, ne-eqb c 83 s)
+  change-at {c} e i a d s ex ey = rw (← part-of at bytes, ex, ey, ← e, ne-eqb c 73 i, ne-eqb c 65 a, ne-eqb c 68 d, ne-eqb c 83 s)
 
 -- ---- a command that was taken
 
@@ -146,33 +149,26 @@ taken-there m bytes at c to st = go (ltb at (length bytes)) (eqb (formAt m bytes
     go true false e f p = absurd (false≢true (sym (ap isTaken p)))
     go false right e f p = absurd (false≢true (sym (ap isTaken p)))
 
-pair-no-symbols : (m c x y : ℕ) → symbolsEnd m (pairCommand c x y) ≡ 0
-unfolding pairCommand symbolsEnd
-pair-no-symbols m c x y = go (eqb c 74) (eqb c 76) (eqb c 71)
-  where
-    go : (j l g : Bool) → symbolsEnd m (cond j (Join x y) (cond l (Leave x y) (cond g (Grant x y) (Revoke x y)))) ≡ 0
-    go true l g = refl
-    go false true g = refl
-    go false false true = refl
-    go false false false = refl
-
 symbols-inside : (m : ℕ) (own : List ℕ) (at : ℕ) → symbolsEnd m (commandOf own at) ≤ at + taken m own
-unfolding commandOf symbolsEnd taken operandBytes
-symbols-inside m own at = go (eqb (byteAt own 0) 73) (eqb (byteAt own 0) 65) (eqb (byteAt own 0) 68) (eqb (byteAt own 0) 83)
+unfolding commandOf symbolsEnd taken entries operandBytes
+symbols-inside m own at = go (is 73) (is 65) (is 68) (is 83) (is 74) (is 76) (is 71)
   where
-    go : (i a d s : Bool)
+    is : ℕ → Bool
+    is k = eqb (byteAt own 0) k
+
+    go : (i a d s j l g : Bool)
         → symbolsEnd m (
         cond i (Open (byteAt own 1) (byteAt own 2) (byteAt own 3) (wordAt own 4)) (
         cond a (Add (wordAt own 1) (byteAt own 3) (at + 4)) (
         cond d (Drop (wordAt own 1)) (
         cond s (Search (byteAt own 1) (byteAt own 2) (at + 3)) (
-        pairCommand (byteAt own 0) (byteAt own 1) (byteAt own 2))))))
-        ≤ at + (1 + cond i 5 (cond a (3 + m) (cond s (2 + m) 2)))
-    go true a d s = omega arith
-    go false true d s = omega arith
-    go false false true s = omega arith
-    go false false false true = omega arith
-    go false false false false = omega (arith, pair-no-symbols m (byteAt own 0) (byteAt own 1) (byteAt own 2))
+        Register (changeOf (byteAt own 0) (byteAt own 1) (byteAt own 2)))))))
+        ≤ at + (1 + cond i 5 (cond a (3 + m) (cond d 2 (cond s (2 + m) (cond j 2 (cond l 2 (cond g 2 2)))))))
+    go true a d s j l g = omega arith
+    go false true d s j l g = omega arith
+    go false false true s j l g = omega arith
+    go false false false true j l g = omega arith
+    go false false false false j l g = omega arith
 
 -- its symbols lie inside too
 pub symbols-there : (m : ℕ) (bytes : List ℕ) (at : ℕ) (c : Command) (to : ℕ) → Stepped m bytes at (Taken c to) → symbolsEnd m c ≤ length bytes

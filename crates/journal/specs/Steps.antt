@@ -5,22 +5,30 @@ use mathlib.Core.Bool.{cond}
 use mathlib.Core.List.{List}
 use lib.Dec.{ltb, eqb}
 use lib.ListN.{length, take, drop}
-use Rattle.meaning.specs.Journal.{opens, adds, drops, joins, leaves, grants, revokes, searches, byteAt, wordAt, taken, Next, ended, refused, command-to, formAt, next}
+use Rattle.meaning.specs.Rights.{join, leave, grant, revoke}
+use Rattle.meaning.specs.Rights.{Change as PaperChange}
+use Rattle.meaning.specs.Journal.{opens, adds, drops, changes, searches, byteAt, wordAt, taken, Next, ended, refused, command-to, formAt, next}
 use Rattle.meaning.specs.Journal.{Command as PaperCommand}
+use Rattle.journal.specs.declared.commands.Change.{Change}
+use Rattle.journal.specs.declared.commands.Change.the-variants.{Join, Leave, Grant, Revoke}
 use Rattle.journal.specs.declared.commands.Command.{Command}
-use Rattle.journal.specs.declared.commands.Command.the-variants.{Open, Add, Drop, Join, Leave, Grant, Revoke, Search}
+use Rattle.journal.specs.declared.commands.Command.the-variants.{Open, Add, Drop, Register, Search}
 use Rattle.journal.specs.declared.commands.Step.{Step}
 use Rattle.journal.specs.declared.commands.Step.the-variants.{Taken, Refused, End}
+
+-- the change that the code's one stands for
+unfoldable pub changeMeant : Change → PaperChange
+changeMeant (Join r g) = join r g
+changeMeant (Leave r g) = leave r g
+changeMeant (Grant g c) = grant g c
+changeMeant (Revoke g c) = revoke g c
 
 -- the command that the code's one stands for, its m symbols taken from the journal's bytes
 unfoldable pub meant : ℕ → List ℕ → Command → PaperCommand
 meant m bytes (Open b n q t) = opens b n q t
 meant m bytes (Add p c s) = adds p c (take m (drop s bytes))
 meant m bytes (Drop p) = drops p
-meant m bytes (Join r g) = joins r g
-meant m bytes (Leave r g) = leaves r g
-meant m bytes (Grant g c) = grants g c
-meant m bytes (Revoke g c) = revokes g c
+meant m bytes (Register c) = changes (changeMeant c)
 meant m bytes (Search r d s) = searches r d (take m (drop s bytes))
 
 -- where the m symbols of a command end; 0 for a command without symbols
@@ -29,10 +37,7 @@ symbolsEnd m (Add p c s) = s + m
 symbolsEnd m (Search r d s) = s + m
 symbolsEnd m (Open b n q t) = 0
 symbolsEnd m (Drop p) = 0
-symbolsEnd m (Join r g) = 0
-symbolsEnd m (Leave r g) = 0
-symbolsEnd m (Grant g c) = 0
-symbolsEnd m (Revoke g c) = 0
+symbolsEnd m (Register c) = 0
 
 -- what a step says
 unfoldable pub told : ℕ → List ℕ → Step → Next
@@ -43,8 +48,8 @@ told m bytes End = ended
 -- ---- the answers themselves
 
 -- J, L, G or R with its two operands
-unfoldable pub pairCommand : ℕ → ℕ → ℕ → Command
-pairCommand c x y = cond (eqb c 74) (Join x y) (cond (eqb c 76) (Leave x y) (cond (eqb c 71) (Grant x y) (Revoke x y)))
+unfoldable pub changeOf : ℕ → ℕ → ℕ → Change
+changeOf c x y = cond (eqb c 74) (Join x y) (cond (eqb c 76) (Leave x y) (cond (eqb c 71) (Grant x y) (Revoke x y)))
 
 -- the command whose bytes begin own, which stands at an offset
 unfoldable pub commandOf : List ℕ → ℕ → Command
@@ -53,7 +58,7 @@ commandOf own at =
     cond (eqb (byteAt own 0) 65) (Add (wordAt own 1) (byteAt own 3) (at + 4)) (
     cond (eqb (byteAt own 0) 68) (Drop (wordAt own 1)) (
     cond (eqb (byteAt own 0) 83) (Search (byteAt own 1) (byteAt own 2) (at + 3)) (
-    pairCommand (byteAt own 0) (byteAt own 1) (byteAt own 2)))))
+    Register (changeOf (byteAt own 0) (byteAt own 1) (byteAt own 2))))))
 
 unfoldable pub commandAt : List ℕ → ℕ → Command
 commandAt bytes at = commandOf (drop at bytes) at

@@ -5,7 +5,15 @@ ghost use mathlib.Core.Path.{_≡_};
 ghost use Prim.Native.Nat.{_+_, _≤_};
 ghost use lib.ListN.{length, take, drop};
 ghost use Rattle.meaning.specs.Journal.{byteAt, wordAt, taken, next, markAt};
-ghost use Rattle.journal.specs.Steps.{pairCommand, commandAt, Stepped, reachedBy};
+ghost use Rattle.journal.specs.Steps.{changeOf, commandAt, Stepped, reachedBy};
+
+// A change of the register, with its two numbers.
+pub enum Change {
+    Join { reader: u32, group: u32 },
+    Leave { reader: u32, group: u32 },
+    Grant { group: u32, class: u32 },
+    Revoke { group: u32, class: u32 },
+}
 
 // A command with its operands. Symbols are told by the offset where they begin in the journal's bytes.
 pub enum Command {
@@ -23,22 +31,7 @@ pub enum Command {
     Drop {
         page: u32,
     },
-    Join {
-        reader: u32,
-        group: u32,
-    },
-    Leave {
-        reader: u32,
-        group: u32,
-    },
-    Grant {
-        group: u32,
-        class: u32,
-    },
-    Revoke {
-        group: u32,
-        class: u32,
-    },
+    Register(Change),
     Search {
         reader: u32,
         radius: u32,
@@ -92,25 +85,25 @@ pub fn symbols_at(bytes: &[u8], at: usize, m: u8) -> &[u8]
 }
 
 // J, L, G or R with its two operands.
-fn pair_command(c: u8, x: u32, y: u32) -> Command
-    ensures { λ r. ⌜ r ≡ pairCommand c x y ⌝ }
+fn change_of(c: u8, x: u32, y: u32) -> Change
+    ensures { λ r. ⌜ r ≡ changeOf c x y ⌝ }
 {
     if c == b'J' {
-        return Command::Join {
+        return Change::Join {
             reader: x,
             group: y,
         };
     }
     if c == b'L' {
-        return Command::Leave {
+        return Change::Leave {
             reader: x,
             group: y,
         };
     }
     if c == b'G' {
-        return Command::Grant { group: x, class: y };
+        return Change::Grant { group: x, class: y };
     }
-    Command::Revoke { group: x, class: y }
+    Change::Revoke { group: x, class: y }
 }
 
 // The command at an offset whose form is right.
@@ -149,7 +142,7 @@ fn command_at(bytes: &[u8], at: usize, m: u8) -> Command
             symbols: at + 3,
         };
     }
-    pair_command(c, x, y)
+    Command::Register(change_of(c, x, y))
 }
 
 // The mark of the command at an offset: the first one stands at 0.

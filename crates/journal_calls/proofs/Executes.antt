@@ -8,8 +8,8 @@ use native.Mathlib.Omega.{arith}
 use lib.Dec.{leb, eqb}
 use lib.ListN.{length, replicate}
 use borrow.Author.Tests.{leb-true, eqb-true, eqb-false}
-use Rattle.meaning.specs.Ledger.{join, leave, grant, revoke}
-use Rattle.meaning.specs.Journal.{opens, adds, drops, joins, leaves, grants, revokes, searches, callOf}
+use Rattle.meaning.specs.Rights.{Change}
+use Rattle.meaning.specs.Journal.{opens, adds, drops, changes, searches, callOf}
 use Rattle.promises.specs.Tables.{Tables, tables, withSettings}
 use Rattle.promises.specs.Calls.{OpenPromise, RightsPromise, settingsGiven}
 use Rattle.store.specs.Calls.{AddPromise, DropPromise, SearchPromise, Lists, earlyNumber, listedOf}
@@ -35,22 +35,9 @@ module _ (T : Tables) (found : List ℕ) (r : ℕ) {n k : ℕ} (e : n ≡ r) (z 
     unfolding callOf foundAfter
     drop-executed p h = record { promised = (rw e h, refl, refl); output = refl; inside = λ _. omega (arith, z) }
 
-  module _ (x y : ℕ) (settings : List ℕ) where
-    pub join-executed : RightsPromise (join x y) (T .settings) r settings → Executed (joins x y) T found n k (withSettings T settings) found
-    unfolding callOf foundAfter
-    join-executed h = record { promised = (rw e h, refl); output = refl; inside = λ _. omega (arith, z) }
-
-    pub leave-executed : RightsPromise (leave x y) (T .settings) r settings → Executed (leaves x y) T found n k (withSettings T settings) found
-    unfolding callOf foundAfter
-    leave-executed h = record { promised = (rw e h, refl); output = refl; inside = λ _. omega (arith, z) }
-
-    pub grant-executed : RightsPromise (grant x y) (T .settings) r settings → Executed (grants x y) T found n k (withSettings T settings) found
-    unfolding callOf foundAfter
-    grant-executed h = record { promised = (rw e h, refl); output = refl; inside = λ _. omega (arith, z) }
-
-    pub revoke-executed : RightsPromise (revoke x y) (T .settings) r settings → Executed (revokes x y) T found n k (withSettings T settings) found
-    unfolding callOf foundAfter
-    revoke-executed h = record { promised = (rw e h, refl); output = refl; inside = λ _. omega (arith, z) }
+  pub change-executed : (c : Change) (settings : List ℕ) → RightsPromise c (T .settings) r settings → Executed (changes c) T found n k (withSettings T settings) found
+  unfolding callOf foundAfter
+  change-executed c settings h = record { promised = (rw e h, refl); output = refl; inside = λ _. omega (arith, z) }
 
 -- the list of an accepted search lies inside the output
 module _ (T : Tables) (reader radius : ℕ) (x before : List ℕ) (n count : ℕ) (after working : List ℕ)

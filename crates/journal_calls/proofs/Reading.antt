@@ -8,7 +8,7 @@ use lib.Dec.{ltb, leb, eqb}
 use lib.ListN.{length, drop}
 use borrow.Author.Tests.{ltb-true, eqb-true}
 use Rattle.meaning.specs.Refusal.{firstNo}
-use Rattle.meaning.specs.Journal.{Command, opens, known, operandBytes, inPlace, form, byteAt, wordAt, command, taken, Next, ended, refused, command-to, markAt, formAt, next}
+use Rattle.meaning.specs.Journal.{Command, opens, known, operandBytes, inPlace, form, byteAt, wordAt, entries, command, taken, Next, ended, refused, command-to, markAt, formAt, next}
 use Rattle.journal.proofs.Questions.{behind-there}
 
 isCommand : Next → Bool
@@ -64,7 +64,7 @@ first-letter m (c ∷ xs) h = go (known c) (eqb c 73) (leb (operandBytes m c) (l
     go false p o e = absurd (omega arith)
 
 opens-there : (m : ℕ) (xs : List ℕ) → eqb (byteAt xs 0) 73 ≡ true → command m xs ≡ opens (byteAt xs 1) (byteAt xs 2) (byteAt xs 3) (wordAt xs 4)
-unfolding command
+unfolding entries command
 opens-there m xs e = rw e
 
 pub first-opens : (m : ℕ) (bytes : List ℕ) (c : Command) (to : ℕ) → next m bytes 0 ≡ command-to c to

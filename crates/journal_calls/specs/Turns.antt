@@ -5,8 +5,8 @@ use mathlib.Core.Bool.{Bool, true, false, cond, not}
 use mathlib.Core.List.{List, []}
 use lib.Dec.{eqb}
 use lib.ListN.{length, take}
-use Rattle.meaning.specs.Journal.{Command, opens, adds, drops, joins, leaves, grants, revokes, searches, callOf, next, ended, refused, command-to, searchLine, refusalLine}
-use Rattle.meaning.specs.Ledger.{Call}
+use Rattle.meaning.specs.Journal.{Command, callOf, ifSearch, next, ended, refused, command-to, searchLine, refusalLine}
+use Rattle.meaning.specs.Ledger.{Call, ifOpening}
 use Rattle.promises.specs.Tables.{Tables}
 use Rattle.store.specs.Relation.{Answer, Promised}
 
@@ -27,36 +27,15 @@ answer number count list = record { number = number; count = count; list = list;
 
 -- the output of searches after a command
 unfoldable pub foundAfter : Command → List ℕ → List ℕ → List ℕ
-foundAfter (opens b m q t) list found = found
-foundAfter (adds p c x) list found = found
-foundAfter (drops p) list found = found
-foundAfter (joins r g) list found = found
-foundAfter (leaves r g) list found = found
-foundAfter (grants g c) list found = found
-foundAfter (revokes g c) list found = found
-foundAfter (searches r d x) list found = list
+foundAfter c list found = ifSearch c (λ r. list) found
 
--- m after a command: I gives it
+-- m after a command: an opening gives it
 unfoldable pub symbolsAfter : Command → ℕ → ℕ
-symbolsAfter (opens b m′ q t) m = m′
-symbolsAfter (adds p c x) m = m
-symbolsAfter (drops p) m = m
-symbolsAfter (joins r g) m = m
-symbolsAfter (leaves r g) m = m
-symbolsAfter (grants g c) m = m
-symbolsAfter (revokes g c) m = m
-symbolsAfter (searches r d x) m = m
+symbolsAfter c m = ifOpening (made [] c) (λ s. s .symbols) m
 
 -- what an accepted command writes
 unfoldable pub listing : Command → Answer → List ℕ
-listing (opens b m q t) a = []
-listing (adds p c x) a = []
-listing (drops p) a = []
-listing (joins r g) a = []
-listing (leaves r g) a = []
-listing (grants g c) a = []
-listing (revokes g c) a = []
-listing (searches r d x) a = searchLine r (take (a .count) (a .list))
+listing c a = ifSearch c (λ r. searchLine r (take (a .count) (a .list))) []
 
 -- what a command at an offset writes: a refused one its E line
 unfoldable pub lineOf : ℕ → Command → Answer → List ℕ

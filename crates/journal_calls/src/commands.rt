@@ -3,13 +3,14 @@ ghost use Prim.Native.Nat.{_≤_};
 ghost use mathlib.Core.Path.{_≡_};
 ghost use lib.ListN.{length, replicate};
 ghost use Rattle.promises.specs.Tables.{tables};
-ghost use Rattle.promises.specs.Calls.{OpenPromise, settingsGiven};
+ghost use Rattle.promises.specs.Calls.{OpenPromise, RightsPromise, settingsGiven};
 ghost use Rattle.store.specs.Calls.{SearchPromise};
-ghost use Rattle.journal.specs.Steps.{meant, symbolsEnd};
+ghost use Rattle.journal.specs.Steps.{changeMeant, meant, symbolsEnd};
 ghost use Rattle.journal_calls.specs.Turns.{pageCapacity, nodeCapacity, Executed};
 use add_page::add::add;
 use drop_page::drop::drop_page;
 use index::register;
+use journal::commands::Change;
 use journal::commands::Command;
 use journal::commands::symbols_at;
 
@@ -59,6 +60,18 @@ fn open_levels(
         NODES,
         &thresholds,
     )
+}
+
+// Changes the register.
+fn change_register(settings: &mut [u32], change: Change) -> u32
+    ensures { λ r. ⌜ RightsPromise (changeMeant change) (now (settings .entry)) r (now (settings .exit)) ⌝ }
+{
+    match change {
+        Change::Join { reader, group } => register::join(settings, reader, group),
+        Change::Leave { reader, group } => register::leave(settings, reader, group),
+        Change::Grant { group, class } => register::grant(settings, group, class),
+        Change::Revoke { group, class } => register::revoke(settings, group, class),
+    }
 }
 
 // Searches with a query of the journal's bytes.
@@ -123,10 +136,7 @@ pub fn execute(
             numbered(add(settings, nodes, pages, sketches, page, class, x))
         }
         Command::Drop { page } => numbered(drop_page(settings, nodes, pages, sketches, page)),
-        Command::Join { reader, group } => numbered(register::join(settings, reader, group)),
-        Command::Leave { reader, group } => numbered(register::leave(settings, reader, group)),
-        Command::Grant { group, class } => numbered(register::grant(settings, group, class)),
-        Command::Revoke { group, class } => numbered(register::revoke(settings, group, class)),
+        Command::Register(change) => numbered(change_register(settings, change)),
         Command::Search {
             reader,
             radius,

@@ -4,7 +4,8 @@ use mathlib.Core.Path.{_≡_, refl}
 use mathlib.Core.List.{List, [], _∷_}
 use Rattle.meaning.specs.Lists.{any}
 use Rattle.meaning.specs.Refusal.{firstNo}
-use Rattle.meaning.specs.Journal.{opens, adds, joins, grants, revokes, searches, letters, known, operandBytes, inPlace, form, wordAt, command, taken, ended, command-to, markAt, formAt, next, digits, decimal, fields, searchLine, refusalLine, lastLine}
+use Rattle.meaning.specs.Rights.{join, grant, revoke}
+use Rattle.meaning.specs.Journal.{opens, adds, changes, searches, entries, known, operandBytes, inPlace, form, wordAt, command, taken, ended, command-to, markAt, formAt, next, digits, decimal, fields, searchLine, refusalLine, lastLine}
 
 -- its 61 bytes
 abbrev journal : List ℕ
@@ -22,13 +23,13 @@ query = 0 ∷ 1 ∷ 2 ∷ 3 ∷ []
 -- its commands, each found at the offset that the one before it gave
 pub record WorkedJournal : Type 0 where
   pub at-0 : next 0 journal 0 ≡ command-to (opens 2 4 2 1) 6
-  pub at-6 : next 4 journal 6 ≡ command-to (joins 5 1) 9
-  pub at-9 : next 4 journal 9 ≡ command-to (grants 1 3) 12
+  pub at-6 : next 4 journal 6 ≡ command-to (changes (join 5 1)) 9
+  pub at-9 : next 4 journal 9 ≡ command-to (changes (grant 1 3)) 12
   pub at-12 : next 4 journal 12 ≡ command-to (adds 7 3 query) 20
   pub at-20 : next 4 journal 20 ≡ command-to (adds 9 4 (0 ∷ 1 ∷ 2 ∷ 2 ∷ [])) 28
   pub at-28 : next 4 journal 28 ≡ command-to (adds 2 3 (0 ∷ 1 ∷ 0 ∷ 0 ∷ [])) 36
   pub at-36 : next 4 journal 36 ≡ command-to (searches 5 2 query) 43
-  pub at-43 : next 4 journal 43 ≡ command-to (revokes 1 3) 46
+  pub at-43 : next 4 journal 43 ≡ command-to (changes (revoke 1 3)) 46
   pub at-46 : next 4 journal 46 ≡ command-to (searches 5 2 query) 53
   pub at-53 : next 4 journal 53 ≡ command-to (adds 600 3 zeros) 61
   pub at-61 : next 4 journal 61 ≡ ended
@@ -47,7 +48,7 @@ pub record WorkedJournal : Type 0 where
   pub whole : form 4 0 (68 ∷ 7 ∷ 0 ∷ 1 ∷ []) ≡ 0
 
 pub worked-journal : WorkedJournal
-unfolding any firstNo letters known operandBytes inPlace form wordAt command taken markAt formAt next digits decimal fields searchLine refusalLine lastLine
+unfolding any firstNo entries known operandBytes inPlace form wordAt command taken markAt formAt next digits decimal fields searchLine refusalLine lastLine
 worked-journal = record {
   at-0 = refl;
   at-6 = refl;

@@ -11,9 +11,9 @@ use Rattle.meaning.specs.Lists.{all, any, keep, count, onto, from, upto,
 use Rattle.meaning.specs.Refusal.{firstNo}
 use Rattle.meaning.specs.Sketch.{distance, inRange, perByte, packedLength, packByte, packBytes, pack, group, symbolsAt, packable, allPackable, unpack, byteDistance, blockLength, blockStart, block}
 use Rattle.meaning.specs.SketchCalls.{sketchLimits, packNumber, unpackNumber}
-use Rattle.meaning.specs.Rights.{openTo, stands, samePair, write}
+use Rattle.meaning.specs.Rights.{openTo, stands, samePair, write, changed}
 use Rattle.meaning.specs.Trie.{Tree, fresh, push, putLeaf, byteAt, split, addLeaf, insert, nodes, met}
-use Rattle.meaning.specs.Ledger.{Row, Ledger, Call, search, calledFor, listed, ledger, step, accept, withRows, withMembers, withGrants, putRow}
+use Rattle.meaning.specs.Ledger.{Row, Ledger, calledFor, listed, ledger, step, accept, withRows, withRegister, putRow}
 use Rattle.meaning.specs.Forest.{blockBytes, bytesOfSketch, bytesIn, eachFrom, forestAfter, forest, totalNodes, metFrom}
 use Rattle.meaning.specs.Questions.{asked, byLedger}
 use Rattle.meaning.specs.Sums.{MarkedSums, adds, nodesOfAdds, twoPages, query}
@@ -46,8 +46,8 @@ too-far false n = refl
 pub marked-sums : MarkedSums
 unfolding
     all any keep count onto from upto sum firstNo distance inRange perByte packedLength packByte packBytes pack group symbolsAt packable allPackable
-    unpack byteDistance blockLength blockStart block sketchLimits packNumber unpackNumber openTo stands samePair write fresh push putLeaf byteAt split
-    addLeaf insert nodes met calledFor listed ledger step accept withRows withMembers withGrants putRow blockBytes bytesOfSketch bytesIn eachFrom
+    unpack byteDistance blockLength blockStart block sketchLimits packNumber unpackNumber openTo stands samePair write changed fresh push putLeaf byteAt split
+    addLeaf insert nodes met calledFor listed ledger step accept withRows withRegister putRow blockBytes bytesOfSketch bytesIn eachFrom
     forestAfter forest totalNodes metFrom asked adds nodesOfAdds twoPages
 marked-sums = record {
   first-packs = refl;
@@ -64,6 +64,6 @@ marked-sums = record {
   equal-pages = refl;
   found = refl;
   not-listed = refl;
-  radius-m = λ L reader x. keep-open (λ r. openTo (L .members) (L .grants) reader (r .class)) x (L .rows);
+  radius-m = λ L reader x. keep-open (λ r. openTo (L .register) reader (r .class)) x (L .rows);
   radius-65 = λ L F reader x output. too-far (ltb reader 256) _;
 }

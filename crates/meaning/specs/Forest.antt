@@ -8,7 +8,7 @@ use Rattle.meaning.specs.Lists.{sum}
 use Rattle.meaning.specs.Sketch.{pack, packedLength, block, blockLength}
 use Rattle.meaning.specs.Trie.{Tree, fresh, insert, remove, met}
 use Rattle.meaning.specs.Trie.{nodes as nodesOf}
-use Rattle.meaning.specs.Ledger.{Settings, Row, Ledger, Event, Call, opening, add, drop, join, leave, grant, revoke, search, show, check, putRow, ledger}
+use Rattle.meaning.specs.Ledger.{Settings, Row, Ledger, Event, Call, opening, add, drop, change, reading, putRow, ledger}
 
 -- the packed length of block j
 unfoldable pub blockBytes : Settings → ℕ → ℕ
@@ -35,13 +35,8 @@ forestAfter s rows (add p c x) F =
     let after : List Row = putRow (record { page = p; class = c; sketch = x }) rows in
     eachFrom (λ j. insert (bytesIn s after j) (blockBytes s j) (s .thresholds) 0 p) 0 F
 forestAfter s rows (drop p) F = eachFrom (λ j. remove (bytesIn s rows j) 0 p) 0 F
-forestAfter s rows (join r g) F = F
-forestAfter s rows (leave r g) F = F
-forestAfter s rows (grant g c) F = F
-forestAfter s rows (revoke g c) F = F
-forestAfter s rows (search r d x o) F = F
-forestAfter s rows (show r p) F = F
-forestAfter s rows check F = F
+forestAfter s rows (change c) F = F
+forestAfter s rows (reading q) F = F
 
 -- the tries of a history's events, the last one first
 unfoldable pub forest : List Event → List Tree

@@ -7,7 +7,8 @@ use lib.ListN.{length, getD, take, replicate}
 use lib.ListN.{drop as skip}
 use Rattle.meaning.specs.Lists.{any}
 use Rattle.meaning.specs.Refusal.{ask, firstNo}
-use Rattle.meaning.specs.Ledger.{Settings, Call, opening, add, drop, join, leave, grant, revoke, search}
+use Rattle.meaning.specs.Rights.{Change, join, leave, grant, revoke}
+use Rattle.meaning.specs.Ledger.{Settings, search, Call, opening, add, drop, change, reading}
 
 -- ---- commands
 
@@ -19,10 +20,8 @@ pub data Command : Type 0 where
   adds : ℕ → ℕ → List ℕ → Command
   -- D: page
   drops : ℕ → Command
-  -- J and L: reader, group
-  joins leaves : ℕ → ℕ → Command
-  -- G and R: group, class
-  grants revokes : ℕ → ℕ → Command
+  -- J and L: reader, group; G and R: group, class
+  changes : Change → Command
   -- S: reader, radius, query
   searches : ℕ → ℕ → List ℕ → Command
 
@@ -32,24 +31,93 @@ callOf pages nodes output (opens b m q t) =
     opening (record { bits = b; symbols = m; blocks = q; pages = pages; nodes = nodes; thresholds = replicate 64 t })
 callOf pages nodes output (adds p c x) = add p c x
 callOf pages nodes output (drops p) = drop p
-callOf pages nodes output (joins r g) = join r g
-callOf pages nodes output (leaves r g) = leave r g
-callOf pages nodes output (grants g c) = grant g c
-callOf pages nodes output (revokes g c) = revoke g c
-callOf pages nodes output (searches r d x) = search r d x output
+callOf pages nodes output (changes c) = change c
+callOf pages nodes output (searches r d x) = reading (search r d x output)
+
+-- one thing for a search, by its reader, and another for every other command
+abbrev pub ifSearch : {A : Type 0} → Command → (ℕ → A) → A → A
+ifSearch (opens b m q t) f other = other
+ifSearch (adds p c x) f other = other
+ifSearch (drops p) f other = other
+ifSearch (changes c) f other = other
+ifSearch (searches r d x) f other = f r
+
+-- ---- the table of commands
+
+abbrev pub byteAt : List ℕ → ℕ → ℕ
+byteAt xs k = getD xs k 0
+
+-- two bytes, the low one first
+unfoldable pub wordAt : List ℕ → ℕ → ℕ
+wordAt xs k = byteAt xs k + 256 * byteAt xs (k + 1)
+
+-- how an operand stands: in one byte, in two, or as the m symbols of a sketch
+pub data Width : Type 0 where
+  byte word symbols : Width
+
+abbrev pub bytesOf : ℕ → Width → ℕ
+bytesOf m byte = 1
+bytesOf m word = 2
+bytesOf m symbols = m
+
+-- where operands that begin at an offset end
+abbrev pub endOf : ℕ → List Width → ℕ → ℕ
+endOf m [] at = at
+endOf m (w ∷ ws) at = endOf m ws (at + bytesOf m w)
+
+-- operands of these widths, and those that begin at an offset
+abbrev pub Operand : Width → Type 0
+Operand byte = ℕ
+Operand word = ℕ
+Operand symbols = List ℕ
+
+abbrev pub Operands : List Width → Type 0
+Operands [] = Unit {0}
+Operands (w ∷ ws) = Operand w × Operands ws
+
+abbrev pub operandAt : (m : ℕ) (xs : List ℕ) (w : Width) → ℕ → Operand w
+operandAt m xs byte at = byteAt xs at
+operandAt m xs word at = wordAt xs at
+operandAt m xs symbols at = take m (skip at xs)
+
+abbrev pub operandsAt : (m : ℕ) (xs : List ℕ) (ws : List Width) → ℕ → Operands ws
+operandsAt m xs [] at = tt
+operandsAt m xs (w ∷ ws) at = (operandAt m xs w at, operandsAt m xs ws (at + bytesOf m w))
+
+-- a command's byte, the widths of its operands in their order, and the command that they make
+pub record Entry : Type 0 where
+  pub letter : ℕ
+  pub widths : List Width
+  pub make : Operands widths → Command
+
+-- I, A, D, S, J, L, G; and R
+unfoldable pub entries : List Entry
+entries =
+    record { letter = 73; widths = byte ∷ byte ∷ byte ∷ word ∷ []; make = λ o. opens (o .0) (o .1 .0) (o .1 .1 .0) (o .1 .1 .1 .0) }
+    ∷ record { letter = 65; widths = word ∷ byte ∷ symbols ∷ []; make = λ o. adds (o .0) (o .1 .0) (o .1 .1 .0) }
+    ∷ record { letter = 68; widths = word ∷ []; make = λ o. drops (o .0) }
+    ∷ record { letter = 83; widths = byte ∷ byte ∷ symbols ∷ []; make = λ o. searches (o .0) (o .1 .0) (o .1 .1 .0) }
+    ∷ record { letter = 74; widths = byte ∷ byte ∷ []; make = λ o. changes (join (o .0) (o .1 .0)) }
+    ∷ record { letter = 76; widths = byte ∷ byte ∷ []; make = λ o. changes (leave (o .0) (o .1 .0)) }
+    ∷ record { letter = 71; widths = byte ∷ byte ∷ []; make = λ o. changes (grant (o .0) (o .1 .0)) }
+    ∷ []
+
+abbrev pub lastEntry : Entry
+lastEntry = record { letter = 82; widths = byte ∷ byte ∷ []; make = λ o. changes (revoke (o .0) (o .1 .0)) }
+
+-- what the entry of a command byte gives, the last one where no other is its
+abbrev pub lookup : {A : Type 0} → (Entry → A) → List Entry → ℕ → A
+lookup f [] c = f lastEntry
+lookup f (e ∷ es) c = cond (eqb c (e .letter)) (f e) (lookup f es c)
 
 -- ---- form
 
--- the command bytes: I, A, D, J, L, G, R, S
-unfoldable pub letters : List ℕ
-letters = 73 ∷ 65 ∷ 68 ∷ 74 ∷ 76 ∷ 71 ∷ 82 ∷ 83 ∷ []
-
 unfoldable pub known : ℕ → Bool
-known c = any (eqb c) letters
+known c = any (λ e. eqb c (e .letter)) (lastEntry ∷ entries)
 
--- how many bytes the operands of I, A, S and the others have: m, command byte
+-- how many bytes the operands have: m, command byte
 unfoldable pub operandBytes : ℕ → ℕ → ℕ
-operandBytes m c = cond (eqb c 73) 5 (cond (eqb c 65) (3 + m) (cond (eqb c 83) (2 + m) 2))
+operandBytes m = lookup (λ e. endOf m (e .widths) 0) entries
 
 -- is it I exactly where it is the first command? The mark is 0 for a later command
 unfoldable pub inPlace : ℕ → ℕ → Bool
@@ -67,24 +135,9 @@ form m mark (c ∷ operands) =
 
 -- ---- reading
 
-abbrev pub byteAt : List ℕ → ℕ → ℕ
-byteAt xs k = getD xs k 0
-
--- two bytes, the low one first
-unfoldable pub wordAt : List ℕ → ℕ → ℕ
-wordAt xs k = byteAt xs k + 256 * byteAt xs (k + 1)
-
 -- the command at the beginning of the bytes: its byte is at 0
 unfoldable pub command : ℕ → List ℕ → Command
-command m xs =
-    cond (eqb (byteAt xs 0) 73) (opens (byteAt xs 1) (byteAt xs 2) (byteAt xs 3) (wordAt xs 4)) (
-    cond (eqb (byteAt xs 0) 65) (adds (wordAt xs 1) (byteAt xs 3) (take m (skip 4 xs))) (
-    cond (eqb (byteAt xs 0) 68) (drops (wordAt xs 1)) (
-    cond (eqb (byteAt xs 0) 83) (searches (byteAt xs 1) (byteAt xs 2) (take m (skip 3 xs))) (
-    cond (eqb (byteAt xs 0) 74) (joins (byteAt xs 1) (byteAt xs 2)) (
-    cond (eqb (byteAt xs 0) 76) (leaves (byteAt xs 1) (byteAt xs 2)) (
-    cond (eqb (byteAt xs 0) 71) (grants (byteAt xs 1) (byteAt xs 2)) (
-    revokes (byteAt xs 1) (byteAt xs 2))))))))
+command m xs = lookup (λ e. e .make (operandsAt m xs (e .widths) 1)) entries (byteAt xs 0)
 
 -- how many bytes it takes
 unfoldable pub taken : ℕ → List ℕ → ℕ

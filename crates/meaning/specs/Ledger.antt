@@ -5,7 +5,7 @@ use mathlib.Core.List.{List, [], _∷_, map}
 use lib.Dec.{ltb, leb, eqb}
 use Rattle.meaning.specs.Lists.{keep}
 use Rattle.meaning.specs.Sketch.{distance}
-use Rattle.meaning.specs.Rights.{Pair, pair, write, strike, openTo}
+use Rattle.meaning.specs.Rights.{Register, noRights, openTo, Change, changed}
 
 -- what an opening is given: b, m, q, the capacities, and the thresholds by level
 pub record Settings : Type 0 where
@@ -26,26 +26,34 @@ pub record Ledger : Type 0 where
   pub settings : Settings
   -- rising by page
   pub rows : List Row
-  -- reader and group
-  pub members : List Pair
-  -- group and class
-  pub grants : List Pair
+  pub register : Register
 
--- a call, with its arguments as they were at entry
+-- a call that changes nothing in the ledger
+pub data Reading : Type 0 where
+  -- reader, radius, query, output
+  search : ℕ → ℕ → List ℕ → List ℕ → Reading
+  -- reader, page; the call beside show counts as a show
+  show : ℕ → ℕ → Reading
+  check : Reading
+
+-- a call, with its arguments as they were at entry, by what it may change
 pub data Call : Type 0 where
   opening : Settings → Call
   -- page, class, sketch
   add : ℕ → ℕ → List ℕ → Call
   drop : ℕ → Call
-  -- reader, group
-  join leave : ℕ → ℕ → Call
-  -- group, class
-  grant revoke : ℕ → ℕ → Call
-  -- reader, radius, query, output
-  search : ℕ → ℕ → List ℕ → List ℕ → Call
-  -- reader, page; the call beside show counts as a show
-  show : ℕ → ℕ → Call
-  check : Call
+  -- of the register alone
+  change : Change → Call
+  -- nothing
+  reading : Reading → Call
+
+-- one thing for an opening, by its settings, and another for every other call
+abbrev pub ifOpening : {A : Type 0} → Call → (Settings → A) → A → A
+ifOpening (opening s) f other = f s
+ifOpening (add p c x) f other = other
+ifOpening (drop p) f other = other
+ifOpening (change c) f other = other
+ifOpening (reading q) f other = other
 
 -- what the ledger is told: the call and whether it was refused
 pub record Event : Type 0 where
@@ -53,13 +61,10 @@ pub record Event : Type 0 where
   pub refused : Bool
 
 unfoldable pub withRows : Ledger → List Row → Ledger
-withRows L rs = record { settings = L .settings; rows = rs; members = L .members; grants = L .grants }
+withRows L rs = record { settings = L .settings; rows = rs; register = L .register }
 
-unfoldable pub withMembers : Ledger → List Pair → Ledger
-withMembers L ps = record { settings = L .settings; rows = L .rows; members = ps; grants = L .grants }
-
-unfoldable pub withGrants : Ledger → List Pair → Ledger
-withGrants L ps = record { settings = L .settings; rows = L .rows; members = L .members; grants = ps }
+unfoldable pub withRegister : Ledger → Register → Ledger
+withRegister L R = record { settings = L .settings; rows = L .rows; register = R }
 
 -- a row put in by its page number, so that the rows stay rising
 unfoldable pub putRow : Row → List Row → List Row
@@ -68,16 +73,11 @@ putRow r (x ∷ xs) = cond (ltb (x .page) (r .page)) (x ∷ putRow r xs) (r ∷ 
 
 -- an accepted call's step
 unfoldable pub accept : Call → Ledger → Ledger
-accept (opening s) L = record { settings = s; rows = []; members = []; grants = [] }
+accept (opening s) L = record { settings = s; rows = []; register = noRights }
 accept (add p c x) L = withRows L (putRow (record { page = p; class = c; sketch = x }) (L .rows))
 accept (drop p) L = withRows L (keep (λ r. not (eqb (r .page) p)) (L .rows))
-accept (join r g) L = withMembers L (write (pair r g) (L .members))
-accept (leave r g) L = withMembers L (strike (pair r g) (L .members))
-accept (grant g c) L = withGrants L (write (pair g c) (L .grants))
-accept (revoke g c) L = withGrants L (strike (pair g c) (L .grants))
-accept (search r d x o) L = L
-accept (show r p) L = L
-accept check L = L
+accept (change c) L = withRegister L (changed c (L .register))
+accept (reading q) L = L
 
 -- a refused call changes nothing
 unfoldable pub step : Event → Ledger → Ledger
@@ -88,8 +88,7 @@ unfoldable pub unopened : Ledger
 unopened = record {
   settings = record { bits = 0; symbols = 0; blocks = 0; pages = 0; nodes = 0; thresholds = [] };
   rows = [];
-  members = [];
-  grants = [];
+  register = noRights;
 }
 
 -- the ledger of a history's events, the last one first
@@ -100,7 +99,7 @@ ledger (e ∷ es) = step e (ledger es)
 -- the rows that a search calls for
 unfoldable pub calledFor : Ledger → ℕ → ℕ → List ℕ → List Row
 calledFor L reader radius x =
-    keep (λ r. openTo (L .members) (L .grants) reader (r .class) && leb (distance (r .sketch) x) radius) (L .rows)
+    keep (λ r. openTo (L .register) reader (r .class) && leb (distance (r .sketch) x) radius) (L .rows)
 
 -- their page numbers
 unfoldable pub listed : Ledger → ℕ → ℕ → List ℕ → List ℕ

@@ -8,9 +8,9 @@ use Rattle.meaning.specs.Lists.{all, any}
 use Rattle.meaning.specs.Refusal.{Question, ask}
 use Rattle.meaning.specs.Sketch.{inRange}
 use Rattle.meaning.specs.SketchCalls.{sketchLimits}
-use Rattle.meaning.specs.Rights.{openTo}
+use Rattle.meaning.specs.Rights.{openTo, changeInRange}
 use Rattle.meaning.specs.Trie.{Tree}
-use Rattle.meaning.specs.Ledger.{Settings, Ledger, Call, opening, add, drop, join, leave, grant, revoke, search, show, check, calledFor}
+use Rattle.meaning.specs.Ledger.{Settings, Ledger, Reading, search, show, check, Call, opening, add, drop, change, reading, calledFor}
 use Rattle.meaning.specs.Forest.{forestAfter, totalNodes}
 
 -- what 8 to 13 are judged by
@@ -38,7 +38,18 @@ inLimits s =
     && eqb (length (s .thresholds)) 64
     && all (λ t. ltb t 65536) (s .thresholds)
 
--- 7 to 13, as far as they concern the call
+-- 7 to 13, as far as they concern a reading
+abbrev pub askedOf : View → Reading → List Question
+askedOf v (search r d x o) =
+    ask 7 (ltb r 256 && leb d 64)
+    ∷ ask 10 (eqb (length x) (v .symbols))
+    ∷ ask 11 (inRange (v .bits) x)
+    ∷ ask 13 (leb (v .found r d x) (length o))
+    ∷ []
+askedOf v (show r p) = ask 7 (ltb r 256) ∷ ask 8 (ltb p (v .pages)) ∷ ask 9 (v .shown r p) ∷ []
+askedOf v check = []
+
+-- and of every call
 unfoldable pub asked : View → Call → List Question
 asked v (opening s) = []
 asked v (add p c x) =
@@ -50,18 +61,8 @@ asked v (add p c x) =
     ∷ ask 12 (v .room p c x)
     ∷ []
 asked v (drop p) = ask 8 (ltb p (v .pages)) ∷ ask 9 (v .live p) ∷ []
-asked v (join r g) = ask 7 (ltb r 256 && ltb g 32) ∷ []
-asked v (leave r g) = ask 7 (ltb r 256 && ltb g 32) ∷ []
-asked v (grant g c) = ask 7 (ltb g 32 && ltb c 64) ∷ []
-asked v (revoke g c) = ask 7 (ltb g 32 && ltb c 64) ∷ []
-asked v (search r d x o) =
-    ask 7 (ltb r 256 && leb d 64)
-    ∷ ask 10 (eqb (length x) (v .symbols))
-    ∷ ask 11 (inRange (v .bits) x)
-    ∷ ask 13 (leb (v .found r d x) (length o))
-    ∷ []
-asked v (show r p) = ask 7 (ltb r 256) ∷ ask 8 (ltb p (v .pages)) ∷ ask 9 (v .shown r p) ∷ []
-asked v check = []
+asked v (change c) = ask 7 (changeInRange c) ∷ []
+asked v (reading q) = askedOf v q
 
 -- as the ledger and the tries of demand 2 have it
 unfoldable pub byLedger : Ledger → List Tree → View
@@ -70,7 +71,7 @@ byLedger L F = record {
   symbols = L .settings .symbols;
   pages = L .settings .pages;
   live = λ p. any (λ r. eqb (r .page) p) (L .rows);
-  shown = λ reader p. any (λ r. eqb (r .page) p && openTo (L .members) (L .grants) reader (r .class)) (L .rows);
+  shown = λ reader p. any (λ r. eqb (r .page) p && openTo (L .register) reader (r .class)) (L .rows);
   found = λ reader radius x. length (calledFor L reader radius x);
   room = λ p c x. leb (totalNodes (forestAfter (L .settings) (L .rows) (add p c x) F)) (L .settings .nodes);
 }

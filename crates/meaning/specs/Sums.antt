@@ -8,9 +8,9 @@ use Rattle.meaning.specs.Lists.{keep, upto}
 use Rattle.meaning.specs.Refusal.{firstNo}
 use Rattle.meaning.specs.Sketch.{distance, pack, blockLength}
 use Rattle.meaning.specs.SketchCalls.{packNumber, unpackNumber}
-use Rattle.meaning.specs.Rights.{openTo}
+use Rattle.meaning.specs.Rights.{openTo, join, grant}
 use Rattle.meaning.specs.Trie.{Tree}
-use Rattle.meaning.specs.Ledger.{Settings, Ledger, Event, Call, opening, add, join, grant, search, ledger, calledFor, listed}
+use Rattle.meaning.specs.Ledger.{Settings, Ledger, Event, search, Call, opening, add, change, reading, ledger, calledFor, listed}
 use Rattle.meaning.specs.Forest.{forest, totalNodes, metFrom}
 use Rattle.meaning.specs.Questions.{asked, byLedger}
 
@@ -37,8 +37,8 @@ query = 0 ∷ 0 ∷ 0 ∷ 0 ∷ []
 
 unfoldable pub twoPages : List Event
 twoPages =
-    accepted (join 5 1)
-    ∷ accepted (grant 1 3)
+    accepted (change (join 5 1))
+    ∷ accepted (change (grant 1 3))
     ∷ adds 2 0 ((1 ∷ 1 ∷ 1 ∷ 1 ∷ []) ∷ (1 ∷ 0 ∷ 1 ∷ 1 ∷ []) ∷ [])
 
 pub record MarkedSums : Type 0 where
@@ -65,5 +65,5 @@ pub record MarkedSums : Type 0 where
   pub not-listed : listed (ledger twoPages) 5 3 query ≡ 0 ∷ []
   -- radius m lists every open page; radius 65 gives 7
   pub radius-m : (L : Ledger) (reader : ℕ) (x : List ℕ)
-      → calledFor L reader (length x) x ≡ keep (λ r. openTo (L .members) (L .grants) reader (r .class)) (L .rows)
-  pub radius-65 : (L : Ledger) (F : List Tree) (reader : ℕ) (x output : List ℕ) → firstNo (asked (byLedger L F) (search reader 65 x output)) ≡ 7
+      → calledFor L reader (length x) x ≡ keep (λ r. openTo (L .register) reader (r .class)) (L .rows)
+  pub radius-65 : (L : Ledger) (F : List Tree) (reader : ℕ) (x output : List ℕ) → firstNo (asked (byLedger L F) (reading (search reader 65 x output))) ≡ 7

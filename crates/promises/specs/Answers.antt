@@ -7,13 +7,12 @@ use lib.ListN.{length, replicate}
 use Rattle.meaning.specs.Lists.{onto, from, upto}
 use Rattle.meaning.specs.Refusal.{Question, ask, firstNo}
 use Rattle.meaning.specs.Trie.{Tree}
-use Rattle.meaning.specs.Ledger.{Settings, Call, opening, add, drop, join, leave, grant, revoke, search, show, check}
+use Rattle.meaning.specs.Ledger.{Settings, Call, ifOpening}
 use Rattle.meaning.specs.Questions.{inLimits, asked}
 use Rattle.layout.specs.Settings.{settingsLength, header, settingsOf, showsOpening}
 use Rattle.layout.specs.Nodes.{chainWord, freeState, leafState}
 use Rattle.layout.specs.Lengths.{nodesLength, pagesLength, sketchesLength, workingLength}
-use Rattle.rights.specs.Register.{withMember, withGrant}
-use Rattle.promises.specs.Tables.{Tables, withSettings, given, byTables}
+use Rattle.promises.specs.Tables.{Tables, takes, given, byTables}
 
 -- is each table that a call takes, but the settings table and the output, long enough for the settings and capacities?
 unfoldable pub longNodes : Settings → Tables → Bool
@@ -25,17 +24,13 @@ longPages s T = leb (pagesLength s) (length (T .pages)) && leb (sketchesLength s
 unfoldable pub longWorking : Settings → Tables → Bool
 longWorking s T = leb (workingLength s) (length (T .working))
 
+-- a test more, where it is asked
+abbrev andIf : Bool → Bool → Bool → Bool
+andIf asked tests test = cond asked (tests && test) tests
+
 unfoldable pub longFor : Settings → Tables → Call → Bool
-longFor s T (opening s′) = longNodes s T && longPages s T && longWorking s T
-longFor s T (add p c x) = longNodes s T && longPages s T
-longFor s T (drop p) = longNodes s T && longPages s T
-longFor s T (join r g) = true
-longFor s T (leave r g) = true
-longFor s T (grant g c) = true
-longFor s T (revoke g c) = true
-longFor s T (search r d x o) = longNodes s T && longPages s T && longWorking s T
-longFor s T (show r p) = longPages s T
-longFor s T check = longNodes s T && longPages s T && longWorking s T
+longFor s T c =
+    andIf (takes c .working) (andIf (takes c .pages) (andIf (takes c .nodes) true (longNodes s T)) (longPages s T)) (longWorking s T)
 
 -- 5: is the settings table long enough?
 unfoldable pub longSettings : Tables → Bool
@@ -47,16 +42,7 @@ shown56 T c = ask 5 (longSettings T) ∷ ask 6 (showsOpening (T .settings) && lo
 
 -- 4 to 6
 unfoldable pub entered : Tables → Call → List Question
-entered T (opening s) = ask 4 (inLimits s) ∷ ask 5 (longSettings T && longFor s T (opening s)) ∷ []
-entered T (add p c x) = shown56 T (add p c x)
-entered T (drop p) = shown56 T (drop p)
-entered T (join r g) = shown56 T (join r g)
-entered T (leave r g) = shown56 T (leave r g)
-entered T (grant g c) = shown56 T (grant g c)
-entered T (revoke g c) = shown56 T (revoke g c)
-entered T (search r d x o) = shown56 T (search r d x o)
-entered T (show r p) = shown56 T (show r p)
-entered T check = shown56 T check
+entered T c = ifOpening c (λ s. ask 4 (inLimits s) ∷ ask 5 (longSettings T && longFor s T c) ∷ []) (shown56 T c)
 
 -- the number of the first "no", from the tables and the tries that they hold; 0 where there is none
 unfoldable pub number : Tables → List Tree → Call → ℕ
@@ -84,8 +70,6 @@ freshNodes s = map (freshChain s) (upto (s .nodes)) ++ (map (freshState s) (upto
 unfoldable pub freshPages : Settings → List ℕ
 freshPages s = replicate (pagesLength s) 0
 
--- ---- what an accepted call leaves, of the calls whose tables the questions settle
-
 unfoldable pub opened : Settings → Tables → Tables
 opened s T = record {
   settings = onto (freshSettings s) (T .settings);
@@ -94,15 +78,3 @@ opened s T = record {
   sketches = T .sketches;
   working = T .working;
 }
-
-unfoldable pub registered : Call → List ℕ → List ℕ
-registered (opening s) ws = ws
-registered (add p c x) ws = ws
-registered (drop p) ws = ws
-registered (join r g) ws = withMember ws r g true
-registered (leave r g) ws = withMember ws r g false
-registered (grant g c) ws = withGrant ws g c true
-registered (revoke g c) ws = withGrant ws g c false
-registered (search r d x o) ws = ws
-registered (show r p) ws = ws
-registered check ws = ws

@@ -4,9 +4,11 @@ use mathlib.Core.Path.{_≡_}
 use mathlib.Core.Bool.{cond}
 use mathlib.Core.List.{List, []}
 use lib.Dec.{eqb}
-use Rattle.meaning.specs.Ledger.{Settings, Call, opening, show}
+use Rattle.meaning.specs.Rights.{Change}
+use Rattle.meaning.specs.Ledger.{Settings, show, opening, change, reading}
+use Rattle.rights.specs.Register.{registered}
 use Rattle.promises.specs.Tables.{Tables, settingsAlone, given, pageRow}
-use Rattle.promises.specs.Answers.{number, opened, registered}
+use Rattle.promises.specs.Answers.{number, opened}
 
 -- the settings and capacities of an opening, by its arguments
 abbrev pub settingsGiven : ℕ → ℕ → ℕ → ℕ → ℕ → List ℕ → Settings
@@ -20,18 +22,18 @@ pub record OpenPromise (s : Settings) (T : Tables) (n : ℕ) (settings nodes pag
   pub nodes-left : nodes ≡ cond (eqb (number T [] (opening s)) 0) (opened s T .nodes) (T .nodes)
   pub pages-left : pages ≡ cond (eqb (number T [] (opening s)) 0) (opened s T .pages) (T .pages)
 
--- a join, leave, grant or revoke, lent the settings table ws
-pub record RightsPromise (c : Call) (ws : List ℕ) (n : ℕ) (settings : List ℕ) : Type 0 where
-  pub answers : n ≡ number (settingsAlone ws) [] c
-  pub settings-left : settings ≡ cond (eqb (number (settingsAlone ws) [] c) 0) (registered c ws) ws
+-- a change of the register, lent the settings table ws
+pub record RightsPromise (c : Change) (ws : List ℕ) (n : ℕ) (settings : List ℕ) : Type 0 where
+  pub answers : n ≡ number (settingsAlone ws) [] (change c)
+  pub settings-left : settings ≡ cond (eqb (number (settingsAlone ws) [] (change c)) 0) (registered c ws) ws
 
 -- a show, by where in the sketch table the part that it gives begins, and how long it is: the page's row, or no bytes at the table's start
 unfoldable pub startShown : Tables → ℕ → ℕ → ℕ
-startShown T reader p = cond (eqb (number T [] (show reader p)) 0) (p * given T .symbols) 0
+startShown T reader p = cond (eqb (number T [] (reading (show reader p))) 0) (p * given T .symbols) 0
 
 unfoldable pub lengthShown : Tables → ℕ → ℕ → ℕ
-lengthShown T reader p = cond (eqb (number T [] (show reader p)) 0) (given T .symbols) 0
+lengthShown T reader p = cond (eqb (number T [] (reading (show reader p))) 0) (given T .symbols) 0
 
 -- and by what the part holds
 unfoldable pub rowShown : Tables → ℕ → ℕ → List ℕ
-rowShown T reader p = cond (eqb (number T [] (show reader p)) 0) (pageRow T p) []
+rowShown T reader p = cond (eqb (number T [] (reading (show reader p))) 0) (pageRow T p) []

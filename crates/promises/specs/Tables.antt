@@ -7,7 +7,7 @@ use lib.ListN.{length}
 use Rattle.meaning.specs.Lists.{keep, upto}
 use Rattle.meaning.specs.Sketch.{distance}
 use Rattle.meaning.specs.Trie.{Tree}
-use Rattle.meaning.specs.Ledger.{Settings, Row, Call, opening, add, drop, join, leave, grant, revoke, search, show, check}
+use Rattle.meaning.specs.Ledger.{Settings, Row, Reading, search, show, check, Call, opening, add, drop, change, reading}
 use Rattle.meaning.specs.Forest.{forestAfter, totalNodes}
 use Rattle.meaning.specs.Questions.{View}
 use Rattle.layout.specs.Settings.{settingsOf}
@@ -40,6 +40,36 @@ showTables ws pages sketches = record { settings = ws; nodes = []; pages = pages
 
 abbrev pub withSettings : Tables → List ℕ → Tables
 withSettings T ws = record { settings = ws; nodes = T .nodes; pages = T .pages; sketches = T .sketches; working = T .working }
+
+-- the tables that a call takes beside the settings table and the output: the nodes, the pages with the sketches, the working table
+pub record Takes : Type 0 where
+  pub nodes : Bool
+  pub pages : Bool
+  pub working : Bool
+
+abbrev takesAll : Takes
+takesAll = record { nodes = true; pages = true; working = true }
+
+abbrev takesStore : Takes
+takesStore = record { nodes = true; pages = true; working = false }
+
+abbrev takesPages : Takes
+takesPages = record { nodes = false; pages = true; working = false }
+
+abbrev takesNone : Takes
+takesNone = record { nodes = false; pages = false; working = false }
+
+abbrev pub takesOf : Reading → Takes
+takesOf (search r d x o) = takesAll
+takesOf (show r p) = takesPages
+takesOf check = takesAll
+
+abbrev pub takes : Call → Takes
+takes (opening s) = takesAll
+takes (add p c x) = takesStore
+takes (drop p) = takesStore
+takes (change c) = takesNone
+takes (reading q) = takesOf q
 
 -- what the settings table says that the opening was given
 abbrev pub given : Tables → Settings

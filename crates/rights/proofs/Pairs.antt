@@ -1,22 +1,23 @@
--- The register and the ledger's pairs: a flag is set exactly where its pair stands.
+-- The table and the ledger's register: a flag is set exactly where its pair stands, and every change keeps that.
 use mathlib.Core.Path.{_≡_, refl, sym, ap, _∙_}
 use mathlib.Core.Bool.{Bool, true, false, cond, _&&_, _||_, not, true≢false}
 use mathlib.Core.Logic.{_≢_}
 use mathlib.Core.List.{List, [], _∷_}
 use Prim.Native.Nat.{ℕ, _+_, _*_, _/_, _%_, _≤_, _<_}
 use native.Mathlib.Omega.{arith}
-use lib.Dec.{eqb}
+use lib.Dec.{ltb, eqb}
 use lib.ListN.{length, getD, take}
-use borrow.Author.Tests.{eqb-true, lt-ltb}
+use borrow.Author.Tests.{eqb-true, lt-ltb, ltb-true}
 use Rattle.meaning.specs.Lists.{any, keep}
-use Rattle.meaning.specs.Rights.{Pair, pair, samePair, stands, write, strike, openTo}
+use Rattle.meaning.specs.Rights.{Pair, pair, samePair, stands, write, strike, Register, noRights, openTo, Change, join, leave, grant, revoke, changeInRange, changed}
 use Rattle.words.specs.Bits.{flag, withFlag}
 use Rattle.words.proofs.Bits.{bit-zero}
 use Rattle.words.proofs.Flags.{flag-take, flag-with-apart}
 use Rattle.layout.specs.Settings.{settingsLength, membersAt, grantsAt, freeAt}
-use Rattle.rights.specs.Register.{isMember, isGranted, withMember, withGrant, opens}
+use Rattle.layout.proofs.Tests.{and-left, and-right}
+use Rattle.rights.specs.Register.{isMember, isGranted, withMember, withGrant, registered, opens}
 use Rattle.rights.proofs.Any.{any-upto}
-use Rattle.rights.proofs.Register.{flag-put}
+use Rattle.rights.proofs.Register.{flag-put, member-length, member-header, member-free, grant-length, grant-header, grant-free}
 
 -- ---- pairs
 
@@ -81,66 +82,85 @@ module _ (ws : List ℕ) (base rows w : ℕ) (ps : List Pair) (f : Flags ws base
   flags-same m ws′ e h c d hc hd =
       sym (flag-take m ws′ base (c * w + d) (h c d hc hd)) ∙ rw e (flag-take m ws base (c * w + d) (h c d hc hd)) ∙ f c d hc hd
 
--- ---- the register holds the pairs of readers and groups, and those of groups and classes
+-- ---- the table holds a register
 
-pub record Holds (ws : List ℕ) (M G : List Pair) : Type 0 where
-  pub members : Flags ws membersAt 256 32 M
-  pub grants : Flags ws grantsAt 32 64 G
+pub record Holds (ws : List ℕ) (R : Register) : Type 0 where
+  pub members : Flags ws membersAt 256 32 (R .members)
+  pub grants : Flags ws grantsAt 32 64 (R .grants)
 
-pub holds-none : (ws : List ℕ) → ((i : ℕ) → membersAt ≤ i → i < freeAt → getD ws i 0 ≡ 0) → Holds ws [] []
+pub holds-none : (ws : List ℕ) → ((i : ℕ) → membersAt ≤ i → i < freeAt → getD ws i 0 ≡ 0) → Holds ws noRights
 unfolding flag stands any
 holds-none ws zeros = record {
   members = λ a b ha hb. rw (zeros (membersAt + (a * 32 + b) / 32) (omega arith) (omega arith)) (bit-zero ((a * 32 + b) % 32));
   grants = λ a b ha hb. rw (zeros (grantsAt + (a * 64 + b) / 32) (omega arith) (omega arith)) (bit-zero ((a * 64 + b) % 32));
 }
 
-module _ (ws : List ℕ) (M G : List Pair) (h : Holds ws M G) where
-  pub member-stands : (r g : ℕ) → r < 256 → g < 32 → isMember ws r g ≡ stands (pair r g) M
+-- a table with another register: all else that is read of the settings table is as it was
+pub record Changed (ws ws′ : List ℕ) (R : Register) : Type 0 where
+  pub holds : Holds ws′ R
+  pub long : length ws′ ≡ length ws
+  pub header : take membersAt ws′ ≡ take membersAt ws
+  pub free : getD ws′ freeAt 0 ≡ getD ws freeAt 0
+
+module _ (ws : List ℕ) (R : Register) (h : Holds ws R) where
+  pub member-stands : (r g : ℕ) → r < 256 → g < 32 → isMember ws r g ≡ stands (pair r g) (R .members)
   unfolding isMember
   member-stands r g hr hg = h .members r g hr hg
 
-  pub grant-stands : (g c : ℕ) → g < 32 → c < 64 → isGranted ws g c ≡ stands (pair g c) G
+  pub grant-stands : (g c : ℕ) → g < 32 → c < 64 → isGranted ws g c ≡ stands (pair g c) (R .grants)
   unfolding isGranted
   grant-stands g c hg hc = h .grants g c hg hc
 
-  pub holds-opens : (r c : ℕ) → r < 256 → c < 64 → opens ws r c ≡ openTo M G r c
+  pub holds-opens : (r c : ℕ) → r < 256 → c < 64 → opens ws r c ≡ openTo R r c
   unfolding opens openTo
   holds-opens r c hr hc =
       rw (lt-ltb c 64 hc)
-      (any-upto (λ g. isMember ws r g && isGranted ws g c) (λ g. stands (pair r g) M && stands (pair g c) G) 32
+      (any-upto (λ g. isMember ws r g && isGranted ws g c) (λ g. stands (pair r g) (R .members) && stands (pair g c) (R .grants)) 32
       (λ g l. rw (member-stands r g hr l, grant-stands g c l hc)))
 
   -- the words from the free link on are no part of it
-  pub holds-same : (ws′ : List ℕ) → take freeAt ws′ ≡ take freeAt ws → Holds ws′ M G
+  pub holds-same : (ws′ : List ℕ) → take freeAt ws′ ≡ take freeAt ws → Holds ws′ R
   holds-same ws′ e = record {
-    members = flags-same ws membersAt 256 32 M (h .members) freeAt ws′ e (λ a b ha hb. omega arith);
-    grants = flags-same ws grantsAt 32 64 G (h .grants) freeAt ws′ e (λ a b ha hb. omega arith);
+    members = flags-same ws membersAt 256 32 (R .members) (h .members) freeAt ws′ e (λ a b ha hb. omega arith);
+    grants = flags-same ws grantsAt 32 64 (R .grants) (h .grants) freeAt ws′ e (λ a b ha hb. omega arith);
   }
 
-  -- a membership or a grant is written or struck
   module _ (l : settingsLength ≤ length ws) where
-    with-member : (M′ : List Pair) (r g : ℕ) (v : Bool) → r < 256 → g < 32
-        → ((p : Pair) → stands p M′ ≡ cond (samePair p (pair r g)) v (stands p M)) → Holds (withMember ws r g v) M′ G
-    with-member M′ r g v hr hg e = record {
-      members = flags-put ws membersAt 256 32 M (h .members) M′ r g v hg (omega arith) e;
-      grants = flags-keep ws grantsAt 32 64 G (h .grants) membersAt (r * 32 + g) v (λ a b ha hb q. omega arith);
-    }
+    -- a membership or a grant is written or struck
+    with-member : (M : List Pair) (r g : ℕ) (v : Bool) → ((p : Pair) → stands p M ≡ cond (samePair p (pair r g)) v (stands p (R .members)))
+        → ltb r 256 && ltb g 32 ≡ true → Changed ws (withMember ws r g v) (record { members = M; grants = R .grants })
+    with-member M r g v e i =
+        let hr = ltb-true r 256 (and-left (ltb r 256) (ltb g 32) i) in
+        let hg = ltb-true g 32 (and-right (ltb r 256) (ltb g 32) i) in
+        record {
+          holds = record {
+            members = flags-put ws membersAt 256 32 (R .members) (h .members) M r g v hg (omega arith) e;
+            grants = flags-keep ws grantsAt 32 64 (R .grants) (h .grants) membersAt (r * 32 + g) v (λ a b ha hb q. omega arith);
+          };
+          long = member-length ws r g v;
+          header = member-header ws r g v;
+          free = member-free ws r g v hr hg;
+        }
 
-    with-grant : (G′ : List Pair) (g c : ℕ) (v : Bool) → g < 32 → c < 64
-        → ((p : Pair) → stands p G′ ≡ cond (samePair p (pair g c)) v (stands p G)) → Holds (withGrant ws g c v) M G′
-    with-grant G′ g c v hg hc e = record {
-      members = flags-keep ws membersAt 256 32 M (h .members) grantsAt (g * 64 + c) v (λ a b ha hb q. omega arith);
-      grants = flags-put ws grantsAt 32 64 G (h .grants) G′ g c v hc (omega arith) e;
-    }
+    with-grant : (G : List Pair) (g c : ℕ) (v : Bool) → ((p : Pair) → stands p G ≡ cond (samePair p (pair g c)) v (stands p (R .grants)))
+        → ltb g 32 && ltb c 64 ≡ true → Changed ws (withGrant ws g c v) (record { members = R .members; grants = G })
+    with-grant G g c v e i =
+        let hg = ltb-true g 32 (and-left (ltb g 32) (ltb c 64) i) in
+        let hc = ltb-true c 64 (and-right (ltb g 32) (ltb c 64) i) in
+        record {
+          holds = record {
+            members = flags-keep ws membersAt 256 32 (R .members) (h .members) grantsAt (g * 64 + c) v (λ a b ha hb q. omega arith);
+            grants = flags-put ws grantsAt 32 64 (R .grants) (h .grants) G g c v hc (omega arith) e;
+          };
+          long = grant-length ws g c v;
+          header = grant-header ws g c v;
+          free = grant-free ws g c v hg hc;
+        }
 
-    pub holds-join : (r g : ℕ) → r < 256 → g < 32 → Holds (withMember ws r g true) (write (pair r g) M) G
-    holds-join r g hr hg = with-member (write (pair r g) M) r g true hr hg (stands-write (pair r g) M)
-
-    pub holds-leave : (r g : ℕ) → r < 256 → g < 32 → Holds (withMember ws r g false) (strike (pair r g) M) G
-    holds-leave r g hr hg = with-member (strike (pair r g) M) r g false hr hg (stands-strike (pair r g) M)
-
-    pub holds-grant : (g c : ℕ) → g < 32 → c < 64 → Holds (withGrant ws g c true) M (write (pair g c) G)
-    holds-grant g c hg hc = with-grant (write (pair g c) G) g c true hg hc (stands-write (pair g c) G)
-
-    pub holds-revoke : (g c : ℕ) → g < 32 → c < 64 → Holds (withGrant ws g c false) M (strike (pair g c) G)
-    holds-revoke g c hg hc = with-grant (strike (pair g c) G) g c false hg hc (stands-strike (pair g c) G)
+    -- a change whose numbers are in range
+    pub made : (c : Change) → changeInRange c ≡ true → Changed ws (registered c ws) (changed c R)
+    unfolding registered changed
+    made (join r g) = with-member _ r g true (stands-write (pair r g) (R .members))
+    made (leave r g) = with-member _ r g false (stands-strike (pair r g) (R .members))
+    made (grant g c) = with-grant _ g c true (stands-write (pair g c) (R .grants))
+    made (revoke g c) = with-grant _ g c false (stands-strike (pair g c) (R .grants))

@@ -1,9 +1,10 @@
 -- The rights register in the settings table: a flag for each reader and group, and for each group and class.
 use Prim.Native.Nat.{ℕ, _+_, _*_}
-use mathlib.Core.Bool.{Bool, _&&_}
+use mathlib.Core.Bool.{Bool, true, false, _&&_}
 use mathlib.Core.List.{List}
 use lib.Dec.{ltb}
 use Rattle.meaning.specs.Lists.{any, upto}
+use Rattle.meaning.specs.Rights.{Change, join, leave, grant, revoke}
 use Rattle.words.specs.Bits.{flag, withFlag}
 use Rattle.layout.specs.Settings.{membersAt, grantsAt}
 
@@ -19,6 +20,13 @@ withMember ws reader group v = withFlag ws membersAt (reader * 32 + group) v
 
 abbrev pub withGrant : List ℕ → ℕ → ℕ → Bool → List ℕ
 withGrant ws group class v = withFlag ws grantsAt (group * 64 + class) v
+
+-- the table after a change of the register
+unfoldable pub registered : Change → List ℕ → List ℕ
+registered (join r g) ws = withMember ws r g true
+registered (leave r g) ws = withMember ws r g false
+registered (grant g c) ws = withGrant ws g c true
+registered (revoke g c) ws = withGrant ws g c false
 
 -- is there a group that has the reader as a member and is granted the class? A class above 63 is open to no one
 unfoldable pub opens : List ℕ → ℕ → ℕ → Bool

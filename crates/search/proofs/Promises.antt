@@ -13,7 +13,7 @@ use Rattle.meaning.specs.Lists.{onto}
 use Rattle.meaning.specs.Refusal.{Question, ask, firstNo}
 use Rattle.meaning.specs.Sketch.{inRange}
 use Rattle.meaning.specs.Trie.{Tree}
-use Rattle.meaning.specs.Ledger.{search}
+use Rattle.meaning.specs.Ledger.{search, reading}
 use Rattle.meaning.specs.Questions.{asked}
 use Rattle.words.specs.Bits.{flag, zeroed}
 use Rattle.layout.specs.declared.Header.{Header}
@@ -88,7 +88,7 @@ module _ (T : Tables) (reader radius : ℕ) (x before : List ℕ) where
   early = earlyNumber T reader radius x
 
   -- an output as long as the list leaves 13 out
-  query-first : firstNo (asked (byTables T []) (search reader radius x (scan T reader radius x))) ≡ firstNo (queryAsked (headerOf (given T)) reader radius x)
+  query-first : firstNo (asked (byTables T []) (reading (search reader radius x (scan T reader radius x)))) ≡ firstNo (queryAsked (headerOf (given T)) reader radius x)
   unfolding asked byTables queryAsked firstNo
   query-first = rw (le-leb (length (scan T reader radius x)) (length (scan T reader radius x)) (omega arith)) refl
 
@@ -96,7 +96,7 @@ module _ (T : Tables) (reader radius : ℕ) (x before : List ℕ) where
   unfolding number entered shown56 longSettings longFor tablesAsked
   early-split =
       two-first (leb settingsLength (length (T .settings))) (showsOpening (T .settings) && (longNodes (given T) T && longPages (given T) T && longWorking (given T) T))
-      (asked (byTables T []) (search reader radius x (scan T reader radius x)))
+      (asked (byTables T []) (reading (search reader radius x (scan T reader radius x))))
       ∙ ap (λ n. cond (eqb (firstNo (tablesAsked T)) 0) n (firstNo (tablesAsked T))) query-first
 
   left-split : (after : List ℕ) → workingLeft T (search reader radius x after)

@@ -18,7 +18,7 @@ use Rattle.meaning.specs.Sketch.{distance}
 use Rattle.meaning.specs.SketchCalls.{lengthGiven, outputLeft}
 use Rattle.meaning.specs.Refusal.{firstNo}
 use Rattle.meaning.specs.Trie.{Tree}
-use Rattle.meaning.specs.Ledger.{Call, add, drop, search, check}
+use Rattle.meaning.specs.Ledger.{Reading, search, check, add, drop, reading}
 use Rattle.meaning.specs.Forest.{forestAfter}
 use Rattle.layout.specs.Settings.{freeAt}
 use Rattle.layout.specs.Pages.{withRow, withPage, withoutPage}
@@ -104,8 +104,8 @@ pub record DropPromise (T : Tables) (p n : ℕ) (T′ : Tables) : Type 0 where
 -- ---- search
 
 -- the working table afterwards: past 6 its needed part holds zeros only
-unfoldable pub workingLeft : Tables → Call → List ℕ
-workingLeft T c = cond (eqb (firstNo (entered T c)) 0) (onto (replicate (workingLength (given T)) 0) (T .working)) (T .working)
+unfoldable pub workingLeft : Tables → Reading → List ℕ
+workingLeft T q = cond (eqb (firstNo (entered T (reading q))) 0) (onto (replicate (workingLength (given T)) 0) (T .working)) (T .working)
 
 -- what a search may list on any tables: pages marked live, open to the reader and within the radius of their rows, once each and
 -- rising; `met` says which of them it met
@@ -121,7 +121,7 @@ pub record Lists (found : List ℕ) (before : List ℕ) (n count : ℕ) (after :
 
 -- 5, 6, 7, 10 and 11 are asked of any tables: 13 is left out by an output that is long enough
 abbrev pub earlyNumber : Tables → ℕ → ℕ → List ℕ → ℕ
-earlyNumber T reader radius x = number T [] (search reader radius x (scan T reader radius x))
+earlyNumber T reader radius x = number T [] (reading (search reader radius x (scan T reader radius x)))
 
 pub record SearchPromise (T : Tables) (reader radius : ℕ) (x before : List ℕ) (n count : ℕ) (after working : List ℕ) : Type 0 where
   pub early : earlyNumber T reader radius x ≢ 0 → n ≡ earlyNumber T reader radius x
@@ -134,7 +134,7 @@ pub record SearchPromise (T : Tables) (reader radius : ℕ) (x before : List ℕ
 -- ---- check
 
 pub record CheckPromise (T : Tables) (n : ℕ) (yes : Bool) (working : List ℕ) : Type 0 where
-  pub answers : n ≡ number T [] check
+  pub answers : n ≡ number T [] (reading check)
   -- refused, it says no
   pub refused : n ≢ 0 → yes ≡ false
   pub right : n ≡ 0 → yes ≡ true → (F : List Tree) × Sound T F

@@ -4,7 +4,8 @@ use Prim.Native.Nat.{ℕ}
 use mathlib.Core.Path.{_≡_}
 use mathlib.Core.Bool.{Bool, false}
 use mathlib.Core.List.{List, []}
-use Rattle.meaning.specs.Ledger.{Call, opening, add, drop, join, leave, grant, revoke, search, show, check}
+use Rattle.meaning.specs.Rights.{Change}
+use Rattle.meaning.specs.Ledger.{Reading, search, show, check, Call, opening, add, drop, change, reading}
 use Rattle.promises.specs.Tables.{Tables, tables, withSettings}
 use Rattle.promises.specs.Answers.{number}
 use Rattle.promises.specs.Calls.{OpenPromise, RightsPromise, rowShown}
@@ -45,9 +46,12 @@ withOpening T settings nodes pages = record { settings = settings; nodes = nodes
 abbrev pub withWorking : Tables → List ℕ → Tables
 withWorking T ws = record { settings = T .settings; nodes = T .nodes; pages = T .pages; sketches = T .sketches; working = ws }
 
--- a join, leave, grant or revoke
-abbrev pub Registers : Call → Tables → Answer → Tables → Type 0
-Registers c T a T′ = RightsPromise c (T .settings) (a .number) (T′ .settings) × (T′ ≡ withSettings T (T′ .settings))
+-- a reading, lent the tables T, gives this answer and leaves this working table
+abbrev pub Reads : Reading → Tables → Answer → List ℕ → Type 0
+Reads (search r d x o) T a working = SearchPromise T r d x o (a .number) (a .count) (a .list) working
+Reads (show r p) T a working =
+    (a .number ≡ number (toShow T) [] (reading (show r p))) × (a .list ≡ rowShown (toShow T) r p) × (working ≡ T .working)
+Reads check T a working = CheckPromise T (a .number) (a .yes) working
 
 -- the call, lent the tables T, gives this answer and leaves the tables T′
 abbrev pub Promised : Call → Tables → Answer → Tables → Type 0
@@ -56,23 +60,16 @@ Promised (opening s) T a T′ =
 Promised (add p c x) T a T′ = AddPromise (toStore T) p c x (a .number) (toStore T′) × (T′ .working ≡ T .working)
 Promised (drop p) T a T′ =
     DropPromise (toStore T) p (a .number) (toStore T′) × (T′ .working ≡ T .working) × (T′ .sketches ≡ T .sketches)
-Promised (join r g) T a T′ = Registers (join r g) T a T′
-Promised (leave r g) T a T′ = Registers (leave r g) T a T′
-Promised (grant g c) T a T′ = Registers (grant g c) T a T′
-Promised (revoke g c) T a T′ = Registers (revoke g c) T a T′
-Promised (search r d x o) T a T′ =
-    SearchPromise T r d x o (a .number) (a .count) (a .list) (T′ .working) × (T′ ≡ withWorking T (T′ .working))
-Promised (show r p) T a T′ =
-    (a .number ≡ number (toShow T) [] (show r p)) × (a .list ≡ rowShown (toShow T) r p) × (T′ ≡ T)
-Promised check T a T′ = CheckPromise T (a .number) (a .yes) (T′ .working) × (T′ ≡ withWorking T (T′ .working))
+Promised (change c) T a T′ = RightsPromise c (T .settings) (a .number) (T′ .settings) × (T′ ≡ withSettings T (T′ .settings))
+Promised (reading q) T a T′ = Reads q T a (T′ .working) × (T′ ≡ withWorking T (T′ .working))
 
 -- ---- a call that takes some of the tables: whatever the others hold
 
--- a join, leave, grant or revoke, which takes the settings table
-abbrev pub OnSettings : Call → List ℕ → ℕ → List ℕ → Type 0
+-- a change of the register, which takes the settings table
+abbrev pub OnSettings : Change → List ℕ → ℕ → List ℕ → Type 0
 OnSettings c settings n settings′ =
     (nodes pages sketches working : List ℕ)
-    → Promised c (tables settings nodes pages sketches working) (numberAlone n) (tables settings′ nodes pages sketches working)
+    → Promised (change c) (tables settings nodes pages sketches working) (numberAlone n) (tables settings′ nodes pages sketches working)
 
 -- an add or a drop, which takes all but the working table
 abbrev pub OnStore : Call → Tables → ℕ → Tables → Type 0
@@ -82,4 +79,4 @@ OnStore c T n T′ = (working : List ℕ) → Promised c (withWorking T working)
 abbrev pub OnShow : ℕ → ℕ → Tables → ℕ → List ℕ → Type 0
 OnShow reader page T n row =
     (nodes working : List ℕ)
-    → let U = tables (T .settings) nodes (T .pages) (T .sketches) working in Promised (show reader page) U (withList n 0 row) U
+    → let U = tables (T .settings) nodes (T .pages) (T .sketches) working in Promised (reading (show reader page)) U (withList n 0 row) U

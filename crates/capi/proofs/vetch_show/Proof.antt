@@ -12,7 +12,7 @@ find-row-requires c κs = search needs
 returns : tie.Need-returns
 unfolding placeOf
 returns c =
-    rw (c .find-row .ensures) ((λ nodes working. (refl, sym (part-shown _ _ _ _ _), refl)), (refl, refl))
+    rw (c .find-row .ensures) ((λ nodes working. ((refl, sym (part-shown _ _ _ _ _), refl), refl)), (refl, refl))
 
 pub vetch-show-spec : {M : Type 1} → statement M
 vetch-show-spec = tie.close (tie.spec find-row-requires returns)

@@ -30,7 +30,7 @@ part-result-end c = rw (c .before .before .find-row .ensures) (place-inside _ _ 
 
 returns : tie.Need-returns
 unfolding placeOf
-returns c = rw (c .before .before .before .find-row .ensures, add-sub-cancel-left) ((λ nodes working. (refl, sym (part-shown _ _ _ _ _), refl)), (refl, add-comm _ _))
+returns c = rw (c .before .before .before .find-row .ensures, add-sub-cancel-left) ((λ nodes working. ((refl, sym (part-shown _ _ _ _ _), refl), refl)), (refl, add-comm _ _))
 
 pub show-spec : {M : Type 1} → statement M
 show-spec =

@@ -10,7 +10,7 @@ find-row-requires c κs = search needs
 
 returns : tie.Need-returns
 unfolding placeOf
-returns c = λ nodes working. (rw (c .find-row .ensures), refl, refl)
+returns c = λ nodes working. ((rw (c .find-row .ensures), refl, refl), refl)
 
 pub show-number-spec : {M : Type 1} → statement M
 show-number-spec = tie.close (tie.spec find-row-requires returns)

@@ -1,6 +1,7 @@
 -- `command_at` is `commandAt`: each return is one letter's command.
-use mathlib.Core.Path.{_∙_}
-use Rattle.journal.proofs.Steps.{open-at, add-at, drop-at, search-at, pair-at}
+use mathlib.Core.Path.{ap, _∙_}
+use Rattle.journal.proofs.Steps.{open-at, add-at, drop-at, search-at, change-at}
+use Rattle.journal.specs.declared.commands.Command.the-variants.{Register}
 use borrow.Author.Needs.{needs}
 use Rattle.journal.proofs.commands.command_at.Statement.{statement}
 use Rattle.journal.proofs.commands.command_at.Tie as tie
@@ -77,11 +78,11 @@ add-t24 c = search needs
 returns-4 : tie.Need-returns-4
 returns-4 c = search-at (c .before .before .before .before .before .before .before .before .before .before .before .args .at) (c .before .before .before .before .before .before .before .before .before .before .before .args .bytes .now) (c .before .before .before .before .before .before .before .before .byte-at .ensures) (c .if4 .taken) (c .before .before .before .before .before .before .wide .ensures ∙ c .before .before .before .before .before .before .before .byte-at2 .ensures) (c .before .before .before .before .wide2 .ensures ∙ c .before .before .before .before .before .byte-at3 .ensures)
 
-pair-command-requires : tie.Need-pair-command-requires
-pair-command-requires c κs = search needs
+change-of-requires : tie.Need-change-of-requires
+change-of-requires c κs = search needs
 
 returns-5 : tie.Need-returns-5
-returns-5 c = c .pair-command .ensures ∙ pair-at (c .before .before .before .before .before .before .before .before .before .before .before .before .args .at) (c .before .before .before .before .before .before .before .before .before .before .before .before .args .bytes .now) (c .before .before .before .before .before .before .before .before .before .byte-at .ensures) (c .before .before .before .before .if1 .left) (c .before .before .before .if2 .left) (c .before .before .if3 .left) (c .before .if4 .left) (c .before .before .before .before .before .before .before .wide .ensures ∙ c .before .before .before .before .before .before .before .before .byte-at2 .ensures) (c .before .before .before .before .before .wide2 .ensures ∙ c .before .before .before .before .before .before .byte-at3 .ensures)
+returns-5 c = ap Register (c .change-of .ensures) ∙ change-at (c .before .before .before .before .before .before .before .before .before .before .before .before .args .at) (c .before .before .before .before .before .before .before .before .before .before .before .before .args .bytes .now) (c .before .before .before .before .before .before .before .before .before .byte-at .ensures) (c .before .before .before .before .if1 .left) (c .before .before .before .if2 .left) (c .before .before .if3 .left) (c .before .if4 .left) (c .before .before .before .before .before .before .before .wide .ensures ∙ c .before .before .before .before .before .before .before .before .byte-at2 .ensures) (c .before .before .before .before .before .wide2 .ensures ∙ c .before .before .before .before .before .before .byte-at3 .ensures)
 
 pub command-at-spec : {M : Type 1} → statement M
 command-at-spec =
@@ -111,5 +112,5 @@ command-at-spec =
     returns-3
     add-t24
     returns-4
-    pair-command-requires
+    change-of-requires
     returns-5)

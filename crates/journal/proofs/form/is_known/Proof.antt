@@ -1,44 +1,44 @@
--- `is_known` is `known`: each test is one of the letters.
+-- `is_known` is `known`: each test is one of the table's letters.
 use borrow.Author.Tests.{ne-eqb}
 use Rattle.meaning.specs.Lists.{any}
-use Rattle.meaning.specs.Journal.{known, letters}
+use Rattle.meaning.specs.Journal.{entries, known}
 use Rattle.journal.proofs.form.is_known.Statement.{statement}
 use Rattle.journal.proofs.form.is_known.Tie as tie
 
 returns : tie.Need-returns
-unfolding known letters any
+unfolding entries known any
 returns c = rw (c .if1 .taken)
 
 returns-2 : tie.Need-returns-2
-unfolding known letters any
+unfolding entries known any
 returns-2 c = rw (c .if2 .taken)
 
 returns-3 : tie.Need-returns-3
-unfolding known letters any
+unfolding entries known any
 returns-3 c = rw (c .if3 .taken)
 
 returns-4 : tie.Need-returns-4
-unfolding known letters any
+unfolding entries known any
 returns-4 c = rw (c .if4 .taken)
 
 returns-5 : tie.Need-returns-5
-unfolding known letters any
+unfolding entries known any
 returns-5 c = rw (c .if5 .taken)
 
 returns-6 : tie.Need-returns-6
-unfolding known letters any
+unfolding entries known any
 returns-6 c = rw (c .if6 .taken)
 
 returns-7 : tie.Need-returns-7
-unfolding known letters any
+unfolding entries known any
 returns-7 c = rw (c .if7 .taken)
 
 returns-8 : tie.Need-returns-8
-unfolding known letters any
+unfolding entries known any
 returns-8 c = rw (c .if8 .taken)
 
 returns-9 : tie.Need-returns-9
-unfolding known letters any
+unfolding entries known any
 returns-9 c =
     rw (
       ne-eqb _ _ (c .before .before .before .before .before .before .before .if1 .left),

@@ -3,7 +3,7 @@ use mathlib.Core.Path.{ap}
 use native.Mathlib.Omega.{arith}
 use borrow.Author.Needs.{needs}
 use Rattle.journal.specs.Steps.{meant, symbolsEnd}
-use Rattle.journal_calls.proofs.Executes.{open-executed, add-executed, drop-executed, join-executed, leave-executed, grant-executed, revoke-executed, search-executed}
+use Rattle.journal_calls.proofs.Executes.{open-executed, add-executed, drop-executed, change-executed, search-executed}
 use Rattle.journal_calls.proofs.commands.execute.Statement.{statement}
 use Rattle.journal_calls.proofs.commands.execute.Tie as tie
 
@@ -43,8 +43,8 @@ numbered-requires-3 c κs = search needs
 enum-known-command-4 : tie.Need-enum-known-command-4
 enum-known-command-4 c = search needs
 
-join-requires : tie.Need-join-requires
-join-requires c κs = search needs
+change-register-requires : tie.Need-change-register-requires
+change-register-requires c κs = search needs
 
 numbered-requires-4 : tie.Need-numbered-requires-4
 numbered-requires-4 c κs = search needs
@@ -52,38 +52,11 @@ numbered-requires-4 c κs = search needs
 enum-known-command-5 : tie.Need-enum-known-command-5
 enum-known-command-5 c = search needs
 
-leave-requires : tie.Need-leave-requires
-leave-requires c κs = search needs
-
-numbered-requires-5 : tie.Need-numbered-requires-5
-numbered-requires-5 c κs = search needs
-
-enum-known-command-6 : tie.Need-enum-known-command-6
-enum-known-command-6 c = search needs
-
-grant-requires : tie.Need-grant-requires
-grant-requires c κs = search needs
-
-numbered-requires-6 : tie.Need-numbered-requires-6
-numbered-requires-6 c κs = search needs
-
-enum-known-command-7 : tie.Need-enum-known-command-7
-enum-known-command-7 c = search needs
-
-revoke-requires : tie.Need-revoke-requires
-revoke-requires c κs = search needs
-
-numbered-requires-7 : tie.Need-numbered-requires-7
-numbered-requires-7 c κs = search needs
-
-enum-known-command-8 : tie.Need-enum-known-command-8
-enum-known-command-8 c = search needs
-
 symbols-at-requires-2 : tie.Need-symbols-at-requires-2
 unfolding symbolsEnd
 symbols-at-requires-2 c κs =
     let start = c .before .before .before .before .before .before .before .before .before .before in
-    omega (arith, start .pre, ap (symbolsEnd (start .args .m)) (c .before .command8 .given .1))
+    omega (arith, start .pre, ap (symbolsEnd (start .args .m)) (c .before .command5 .given .1))
 
 search-for-requires : tie.Need-search-for-requires
 search-for-requires c κs = search needs
@@ -156,37 +129,16 @@ unfolding meant
 returns-4 c =
     let call = c .before .before .before in
     rw (call .before .before .before .command4 .given .1)
-    (join-executed _ _ _ (c .numbered4 .ensures .0) (c .numbered4 .ensures .1) _ _ _ (call .join .ensures))
+    (change-executed _ _ _ (c .numbered4 .ensures .0) (c .numbered4 .ensures .1) _ _ (call .change-register .ensures))
 
 same-length-15 : tie.Need-same-length-15
 same-length-15 c = search needs
 
-returns-5 : tie.Need-returns-5
-unfolding meant
-returns-5 c =
-    let call = c .before .before .before in
-    rw (call .before .before .before .command5 .given .1)
-    (leave-executed _ _ _ (c .numbered5 .ensures .0) (c .numbered5 .ensures .1) _ _ _ (call .leave .ensures))
-
 same-length-16 : tie.Need-same-length-16
 same-length-16 c = search needs
 
-returns-6 : tie.Need-returns-6
-unfolding meant
-returns-6 c =
-    let call = c .before .before .before in
-    rw (call .before .before .before .command6 .given .1)
-    (grant-executed _ _ _ (c .numbered6 .ensures .0) (c .numbered6 .ensures .1) _ _ _ (call .grant .ensures))
-
 same-length-17 : tie.Need-same-length-17
 same-length-17 c = search needs
-
-returns-7 : tie.Need-returns-7
-unfolding meant
-returns-7 c =
-    let call = c .before .before .before in
-    rw (call .before .before .before .command7 .given .1)
-    (revoke-executed _ _ _ (c .numbered7 .ensures .0) (c .numbered7 .ensures .1) _ _ _ (call .revoke .ensures))
 
 same-length-18 : tie.Need-same-length-18
 same-length-18 c = search needs
@@ -197,20 +149,11 @@ same-length-19 c = search needs
 same-length-20 : tie.Need-same-length-20
 same-length-20 c = search needs
 
-same-length-21 : tie.Need-same-length-21
-same-length-21 c = search needs
-
-same-length-22 : tie.Need-same-length-22
-same-length-22 c = search needs
-
-same-length-23 : tie.Need-same-length-23
-same-length-23 c = search needs
-
-returns-8 : tie.Need-returns-8
+returns-5 : tie.Need-returns-5
 unfolding meant
-returns-8 c =
+returns-5 c =
     let call = c .before .before .before .before in
-    rw (call .before .before .before .before .before .before .before .before .before .command8 .given .1, ← call .before .before .before .before .before .before .before .symbols-at2 .ensures)
+    rw (call .before .before .before .before .before .before .before .before .before .command5 .given .1, ← call .before .before .before .before .before .before .before .symbols-at2 .ensures)
     (search-executed _ _ _ _ _ _ _ _ _ (call .search-for .ensures) (call .search-for .kept .1 .1 .1 .1 .1 .1 .1 .1 .0))
 
 pub execute-spec : {M : Type 1} → statement M
@@ -228,18 +171,9 @@ execute-spec =
     drop-page-requires
     numbered-requires-3
     enum-known-command-4
-    join-requires
+    change-register-requires
     numbered-requires-4
     enum-known-command-5
-    leave-requires
-    numbered-requires-5
-    enum-known-command-6
-    grant-requires
-    numbered-requires-6
-    enum-known-command-7
-    revoke-requires
-    numbered-requires-7
-    enum-known-command-8
     symbols-at-requires-2
     search-for-requires
     same-length
@@ -261,15 +195,9 @@ execute-spec =
     same-length-14
     returns-4
     same-length-15
-    returns-5
     same-length-16
-    returns-6
     same-length-17
-    returns-7
     same-length-18
     same-length-19
     same-length-20
-    same-length-21
-    same-length-22
-    same-length-23
-    returns-8)
+    returns-5)

@@ -1,5 +1,6 @@
 -- `symbols_after` gives m: I's, or as it was.
 use borrow.Author.Needs.{needs}
+use Rattle.meaning.specs.Journal.{callOf}
 use Rattle.journal.specs.Steps.{meant}
 use Rattle.journal_calls.specs.Turns.{symbolsAfter}
 use Rattle.journal_calls.proofs.Same.{symbols-kept}
@@ -10,7 +11,7 @@ enum-known-command : tie.Need-enum-known-command
 enum-known-command c = search needs
 
 returns : tie.Need-returns
-unfolding meant symbolsAfter
+unfolding meant symbolsAfter callOf
 returns c = rw (c .before .command .given .1)
 
 returns-2 : tie.Need-returns-2
