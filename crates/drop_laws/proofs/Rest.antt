@@ -36,7 +36,7 @@ module _ (T : Tables) (N P : List ℕ) (nodes : Within 0 (10 * given T .nodes) (
     dropped-rest = record {
       settings = length-set (T .settings) freeAt free;
       nodes = nodes .long;
-      pages = length-set P p 0 ∙ pages .long;
+      pages = length-set P p _ ∙ pages .long;
       sketches = refl;
       working = refl;
       header = take-set-le freeAt (T .settings) freeAt free (omega arith);
