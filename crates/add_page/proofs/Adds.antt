@@ -29,7 +29,7 @@ use Rattle.store.specs.Sound.{Sound}
 use Rattle.store.specs.Calls.{SameRest, Outcome, outcome, Unfinished, AddPromise}
 use Rattle.add_page.specs.declared.insert.Inserted.{Inserted}
 use Rattle.add_page.specs.declared.insert.Inserted.the-variants.{Free}
-use Rattle.add_page.specs.declared.insert.Inserted.the-variants as inserted
+use Rattle.add_page.specs.declared.insert.Inserted.the-variants as insertion
 use Rattle.add_page.specs.Admission.{admission}
 use Rattle.add_page.specs.Room.{roomOf}
 use Rattle.add_page.specs.Insert.{Filled, filled, insertAll}
@@ -182,7 +182,7 @@ module _ (T : Tables) (p c : ℕ) (x : List ℕ) where
         pages-rest = q .back;
       }
 
-      pub promise-stopped : i ≡ inserted.Broken → AddPromise T p c x 14 (tables (T .settings) N P (rowAdded T p c x) (T .working))
+      pub promise-stopped : i ≡ insertion.Broken → AddPromise T p c x 14 (tables (T .settings) N P (rowAdded T p c x) (T .working))
       promise-stopped m = record {
         early = λ g. absurd (g z);
         sound = λ F s. absurd (never-stopped T F p c x s (none F s) N P (f ∙ ap (filled N P) m));
@@ -221,7 +221,7 @@ module _ (T : Tables) (p c : ℕ) (x : List ℕ) where
     where
       go : (r : Filled) → allInserted T p c x ≡ r → Keeps (onFilled T p c x r)
       go (filled N P (Free l)) f = promise-done z (passed T p c x [] z) e N P (Free l) f l refl
-      go (filled N P inserted.Broken) f = promise-stopped z (passed T p c x [] z) e N P inserted.Broken f refl
+      go (filled N P insertion.Broken) f = promise-stopped z (passed T p c x [] z) e N P insertion.Broken f refl
 
   place-keeps : (z : number T [] (add p c x) ≡ 0) → Keeps (placePage T p c x)
   unfolding placePage

@@ -18,7 +18,7 @@ use Rattle.trie_insert.specs.Pages.{after}
 use Rattle.trie_insert.specs.Insert.{insertPage}
 use Rattle.trie_room.specs.RowBytes.{rowsOf}
 use Rattle.add_page.specs.declared.insert.Inserted.the-variants.{Free}
-use Rattle.add_page.specs.declared.insert.Inserted.the-variants as inserted
+use Rattle.add_page.specs.declared.insert.Inserted.the-variants as insertion
 use Rattle.add_page.specs.Blocks.{blockOf}
 use Rattle.add_page.specs.Insert.{Filled, filled, onInsert, insertBlock, insertFrom, insertAll}
 
@@ -49,8 +49,8 @@ module _ (s : Settings) (S x : List ℕ) (p j : ℕ) (N P : List ℕ) (free : �
     pub insert-more : (n next : ℕ) → g ≡ Node n next → insertFrom s S x p (s .blocks - (j + 1)) (j + 1) N' P' next ≡ R
     insert-more n next m = rw m at step
 
-    pub insert-full : g ≡ Full → filled N' P' inserted.Broken ≡ R
+    pub insert-full : g ≡ Full → filled N' P' insertion.Broken ≡ R
     insert-full m = rw m at step
 
-    pub insert-failed : g ≡ got.Broken → filled N' P' inserted.Broken ≡ R
+    pub insert-failed : g ≡ got.Broken → filled N' P' insertion.Broken ≡ R
     insert-failed m = rw m at step

@@ -29,7 +29,7 @@ use Rattle.promises.specs.Tables.{Tables, tables, given, pageClass, pageRow, ro
 use Rattle.promises.specs.Answers.{number}
 use Rattle.store.specs.Sound.{Holding, Sound, SoundPage, livePage, pageBytes}
 use Rattle.add_page.specs.declared.insert.Inserted.the-variants.{Free}
-use Rattle.add_page.specs.declared.insert.Inserted.the-variants as inserted
+use Rattle.add_page.specs.declared.insert.Inserted.the-variants as insertion
 use Rattle.add_page.specs.Insert.{filled, insertAll}
 use Rattle.add_page.proofs.Grows.{Inserts}
 use Rattle.add_page.proofs.KeepsAsked.{Accepted, accepted}
@@ -168,10 +168,10 @@ module _ (T : Tables) (F : List Tree) (p c : ℕ) (x : List ℕ) (sound : Sound 
       let l : I .link ≡ link = cc in
       rw (n, q, l) at (I .sound)
 
-  pub never-stopped : insertAll (given T) (sketchesAfter T p x) x p (T .nodes) (T .pages) (getD (T .settings) freeAt 0) ≡ filled N P inserted.Broken → ⊥
+  pub never-stopped : insertAll (given T) (sketchesAfter T p x) x p (T .nodes) (T .pages) (getD (T .settings) freeAt 0) ≡ filled N P insertion.Broken → ⊥
   never-stopped f =
       let I = insert-sound T F p c x sound e in
-      let same : filled (I .nodes) (I .pages) (Free (I .link)) ≡ filled N P inserted.Broken = sym (I .is) ∙ f in
-      let r : Free (I .link) ≡ inserted.Broken = cc in
+      let same : filled (I .nodes) (I .pages) (Free (I .link)) ≡ filled N P insertion.Broken = sym (I .is) ∙ f in
+      let r : Free (I .link) ≡ insertion.Broken = cc in
       let z : _≡_ {A = ℕ} 0 1 = cc in
       omega arith

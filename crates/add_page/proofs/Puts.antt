@@ -17,7 +17,7 @@ use Rattle.promises.specs.Tables.{Tables, tables, given}
 use Rattle.store.specs.Calls.{outcome}
 use Rattle.add_page.specs.declared.insert.Inserted.{Inserted}
 use Rattle.add_page.specs.declared.insert.Inserted.the-variants.{Free}
-use Rattle.add_page.specs.declared.insert.Inserted.the-variants as inserted
+use Rattle.add_page.specs.declared.insert.Inserted.the-variants as insertion
 use Rattle.add_page.specs.Admission.{admission}
 use Rattle.add_page.specs.Room.{roomOf}
 use Rattle.add_page.specs.Insert.{filled, insertAll}
@@ -51,8 +51,8 @@ module _ (T : Tables) (h : Header) (header : headerOf (given T) ≡ h) (p c : �
     unfolding putPage
     inserted = ap (onFilled T p c x) (rw (same-settings T h τ header levels, rowed, link) at e)
 
-    pub put-stopped : i ≡ inserted.Broken → outcome 14 (tables (T .settings) N P S (T .working)) ≡ putPage T p c x
-    put-stopped m = rw rowed (rw m at inserted)
+    pub put-broken : i ≡ insertion.Broken → outcome 14 (tables (T .settings) N P S (T .working)) ≡ putPage T p c x
+    put-broken m = rw rowed (rw m at inserted)
 
     pub put-free : (l : ℕ) → i ≡ Free l → (ws : List ℕ) → ws ≡ set (T .settings) freeAt l → (P' : List ℕ) → P' ≡ withPage (h .pages) P p c →
         outcome 0 (tables ws N P' S (T .working)) ≡ putPage T p c x

@@ -13,7 +13,7 @@ use Rattle.trie.specs.declared.span.Span.the-variants as spans
 use Rattle.promises.specs.Tables.{Tables, tables, given}
 use Rattle.store.specs.Calls.{Outcome, outcome}
 use Rattle.add_page.specs.declared.insert.Inserted.the-variants.{Free}
-use Rattle.add_page.specs.declared.insert.Inserted.the-variants as inserted
+use Rattle.add_page.specs.declared.insert.Inserted.the-variants as insertion
 use Rattle.add_page.specs.Admission.{admission}
 use Rattle.add_page.specs.Room.{roomOf}
 use Rattle.add_page.specs.Insert.{Filled, filled, insertAll}
@@ -30,7 +30,7 @@ module _ (T : Tables) (p c : ℕ) (x : List ℕ) where
   -- 14 where a link led outside
   abbrev pub onFilled : Filled → Outcome
   onFilled (filled N P (Free link)) = outcome 0 (pageAdded N P link)
-  onFilled (filled N P inserted.Broken) = outcome 14 (tables (T .settings) N P rowAdded (T .working))
+  onFilled (filled N P insertion.Broken) = outcome 14 (tables (T .settings) N P rowAdded (T .working))
 
   unfoldable pub putPage : Outcome
   putPage = onFilled (insertAll (given T) rowAdded x p (T .nodes) (T .pages) (getD (T .settings) freeAt 0))

@@ -11,7 +11,7 @@ use Rattle.trie_insert.specs.Insert.{insertPage}
 use Rattle.trie_room.specs.RowBytes.{rowsOf}
 use Rattle.add_page.specs.declared.insert.Inserted.{Inserted}
 use Rattle.add_page.specs.declared.insert.Inserted.the-variants.{Free}
-use Rattle.add_page.specs.declared.insert.Inserted.the-variants as inserted
+use Rattle.add_page.specs.declared.insert.Inserted.the-variants as insertion
 
 -- both tables and the answer
 pub data Filled : Type 0 where
@@ -19,8 +19,8 @@ pub data Filled : Type 0 where
 
 abbrev pub onInsert : (List ℕ → List ℕ → ℕ → Filled) → After → Filled
 onInsert go (after N P (Node n free)) = go N P free
-onInsert go (after N P Full) = filled N P inserted.Broken
-onInsert go (after N P got.Broken) = filled N P inserted.Broken
+onInsert go (after N P Full) = filled N P insertion.Broken
+onInsert go (after N P got.Broken) = filled N P insertion.Broken
 
 module _ (s : Settings) (S x : List ℕ) (p : ℕ) where
   -- block j

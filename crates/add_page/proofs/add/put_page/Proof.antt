@@ -3,7 +3,7 @@ use mathlib.Core.List.{[]}
 use borrow.Author.Needs.{needs}
 use Rattle.promises.specs.Tables.{Tables, tables}
 use Rattle.add_page.proofs.Passed.{Passed, told-shown, row-fits, lent-row, class-fits}
-use Rattle.add_page.proofs.Puts.{put-free, put-stopped}
+use Rattle.add_page.proofs.Puts.{put-free, put-broken}
 use Rattle.add_page.proofs.add.put_page.Statement.{statement}
 use Rattle.add_page.proofs.add.put_page.Tie as tie
 
@@ -83,7 +83,7 @@ returns-2 : tie.Need-returns-2
 returns-2 c =
     let i = c .before .before .before .before .before .before in
     let t = i .before .before .before .before in
-    put-stopped (lent (entry (c .before .before .before .before .before .before .before .before .before .before .before .before .before .before .before .before .before))) _ (passed (entry (c .before .before .before .before .before .before .before .before .before .before .before .before .before .before .before .before .before)) .header) _ _ _ _ (t .thresholds .ensures) _ (t .before .before .free-link .ensures)
+    put-broken (lent (entry (c .before .before .before .before .before .before .before .before .before .before .before .before .before .before .before .before .before))) _ (passed (entry (c .before .before .before .before .before .before .before .before .before .before .before .before .before .before .before .before .before)) .header) _ _ _ _ (t .thresholds .ensures) _ (t .before .before .free-link .ensures)
     _ (t .before .before .before .before .before .before .write-row .ensures) _ _ _ (i .insert-all .ensures) (c .enum-told .given .1)
 
 pub put-page-spec : {M : Type 1} → statement M
