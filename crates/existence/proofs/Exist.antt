@@ -1,30 +1,24 @@
 -- Histories exist: for every list of calls behind an accepted opening there is one with just these calls.
 use Prim.Native.Nat.{ℕ}
 use mathlib.Core.Path.{_≡_, refl, sym, ap, subst, _∙_}
-use mathlib.Core.Bool.{Bool, true, false, cond}
+use mathlib.Core.Bool.{Bool, cond}
 use mathlib.Core.List.{List, [], _∷_, _++_, map}
 use lib.Dec.{eqb}
-use lib.ListN.{getD}
-use borrow.Author.Tests.{eqb-true, eqb-false}
 use Rattle.meaning.specs.Trie.{Tree}
 use Rattle.meaning.specs.Rights.{Change}
 use Rattle.meaning.specs.Ledger.{Settings, Event, Reading, Call, opening, add, drop, change, reading, ledger}
 use Rattle.meaning.specs.Forest.{forest}
-use Rattle.layout.specs.Settings.{freeAt}
-use Rattle.promises.specs.Tables.{Tables, settingsAlone, given, withSettings}
+use Rattle.promises.specs.Tables.{Tables, settingsAlone, withSettings}
 use Rattle.rights.specs.Register.{registered}
 use Rattle.promises.specs.Answers.{number, opened}
 use Rattle.store.specs.Sound.{Sound}
-use Rattle.store.specs.Calls.{AddPromise}
+use Rattle.store.specs.Calls.{Outcome, outcome, AddPromise, DropPromise}
 use Rattle.store.specs.Relation.{Answer, numberAlone, toStore, withOpening, withWorking, Promised}
 use Rattle.store.proofs.Readings.{law}
-use Rattle.trie_remove.specs.declared.Removed.the-variants.{Done, Broken}
-use Rattle.trie_remove.specs.Remove.{Gone, gone}
-use Rattle.add_page.specs.Add.{Added, added, addPage}
+use Rattle.add_page.specs.Add.{addPage}
 use Rattle.add_page.proofs.Adds.{add-promise}
-use Rattle.drop_laws.specs.Removal.{removeAll}
-use Rattle.drop_laws.specs.After.{withTries, dropped}
-use Rattle.drop_laws.proofs.Promise.{drop-refused, drop-done, drop-broken}
+use Rattle.drop_laws.specs.After.{dropPage}
+use Rattle.drop_laws.proofs.Promise.{drop-promise}
 use Rattle.history.specs.History.{event, History, begun, called, judged}
 use Rattle.history.proofs.Main.{represents, theorem}
 
@@ -56,9 +50,9 @@ module _ (T : Tables) where
   adds : (p c : ℕ) (x : List ℕ) → Carried (add p c x) T
   adds p c x = go (addPage (toStore T) p c x) refl
     where
-      go : (r : Added) → addPage (toStore T) p c x ≡ r → Carried (add p c x) T
-      go (added n U) e =
-          let h = add-promise (toStore T) p c x n U (sym e) in
+      go : (r : Outcome) → addPage (toStore T) p c x ≡ r → Carried (add p c x) T
+      go (outcome n U) e =
+          let h = add-promise (toStore T) p c x n U (sym e) .0 in
           let same : U ≡ withWorking U [] = λ i. withWorking U (h .rest .working i) in
           record {
             answer = numberAlone n;
@@ -66,34 +60,19 @@ module _ (T : Tables) where
             promised = (subst (AddPromise (toStore T) p c x n) same h, refl);
           }
 
-  -- a drop by the model of its removal
+  -- a drop likewise
   drops : (p : ℕ) → Carried (drop p) T
-  drops p = by (eqb n 0) refl
+  drops p = go (dropPage (toStore T) p) refl
     where
-      S : Tables
-      S = toStore T
-
-      n : ℕ
-      n = number S [] (drop p)
-
-      removed : Gone
-      removed = removeAll (given S) (S .sketches) p (S .nodes) (S .pages) (getD (S .settings) freeAt 0)
-
-      go : n ≡ 0 → (r : Gone) → removed ≡ r → Carried (drop p) T
-      go z (gone N P (Done free)) e = record {
-        answer = numberAlone 0;
-        tables = withWorking (dropped S p N P free) (T .working);
-        promised = (drop-done S p z N P (Done free) e free refl, refl, refl);
-      }
-      go z (gone N P Broken) e = record {
-        answer = numberAlone 14;
-        tables = withWorking (withTries S N P) (T .working);
-        promised = (drop-broken S p z N P Broken e refl, refl, refl);
-      }
-
-      by : (t : Bool) → eqb n 0 ≡ t → Carried (drop p) T
-      by true e = go (eqb-true n 0 e) removed refl
-      by false e = record { answer = numberAlone n; tables = T; promised = (drop-refused S p n refl (eqb-false n 0 e), refl, refl) }
+      go : (r : Outcome) → dropPage (toStore T) p ≡ r → Carried (drop p) T
+      go (outcome n U) e =
+          let h = drop-promise (toStore T) p n U (sym e) .0 in
+          let same : U ≡ withWorking U [] = λ i. withWorking U (h .rest .working i) in
+          record {
+            answer = numberAlone n;
+            tables = withWorking U (T .working);
+            promised = (subst (DropPromise (toStore T) p n) same h, refl, h .sketches);
+          }
 
   module _ (F : List Tree) (sound : Sound T F) where
     reads : (q : Reading) → Carried (reading q) T

@@ -4,7 +4,7 @@ use mathlib.Core.Bool.{Bool, true, false}
 use mir.Val.{boolByte}
 use lib.Dec.{eqb}
 use borrow.Author.Needs.{needs}
-use Rattle.meaning.specs.Ledger.{check}
+use Rattle.meaning.specs.Ledger.{check, reading}
 use Rattle.promises.specs.Tables.{Tables}
 use Rattle.store.specs.Relation.{withVerdict, Promised}
 use Rattle.trie_room.proofs.Count.{flag-most}
@@ -21,8 +21,8 @@ same-length : tie.Need-same-length
 same-length c = search needs
 
 -- 1 is yes
-verdict : (T : Tables) (number : ℕ) (yes : Bool) (T′ : Tables) → Promised check T (withVerdict number yes) T′
-    → Promised check T (withVerdict number (eqb (boolByte yes) 1)) T′
+verdict : (T : Tables) (number : ℕ) (yes : Bool) (T′ : Tables) → Promised (reading check) T (withVerdict number yes) T′
+    → Promised (reading check) T (withVerdict number (eqb (boolByte yes) 1)) T′
 verdict T number true T′ h = h
 verdict T number false T′ h = h
 
