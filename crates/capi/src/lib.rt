@@ -14,6 +14,7 @@ ghost use Rattle.store.specs.Calls.{outcome};
 ghost use Rattle.store.specs.Relation.{numberAlone, withList, withVerdict, Promised, OnSettings, OnStore, OnShow};
 ghost use Rattle.add_page.specs.Add.{addPage};
 ghost use Rattle.drop_laws.specs.After.{dropPage};
+ghost use Rattle.search_laws.specs.Answer.{AnsweredBy};
 ghost use Rattle.index.specs.Lengths.{lengthsOf};
 
 #[no_mangle]
@@ -120,6 +121,7 @@ pub extern "C" fn vetch_search(
     count: &mut u32,
 ) -> u32
     ensures { λ r. ⌜ Promised (reading (search reader radius (now (sketch .entry)) (now (output .entry)))) (tables (now (settings .entry)) (now (nodes .entry)) (now (pages .entry)) (now (sketches .entry)) (now (working .entry))) (withList r (now (count .exit)) (now (output .exit))) (tables (now (settings .entry)) (now (nodes .entry)) (now (pages .entry)) (now (sketches .entry)) (now (working .exit))) ⌝ }
+    ensures model { λ r. ⌜ AnsweredBy (tables (now (settings .entry)) (now (nodes .entry)) (now (pages .entry)) (now (sketches .entry)) (now (working .entry))) reader radius (now (sketch .entry)) (now (output .entry)) r (now (count .exit)) (now (output .exit)) ⌝ }
 {
     let found = search::search::search(
         settings,

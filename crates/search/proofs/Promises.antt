@@ -34,9 +34,9 @@ use Rattle.store.specs.Sound.{Sound}
 use Rattle.store.specs.Calls.{workingLeft, listedOf, Lists, earlyNumber, SearchPromise}
 use Rattle.walk.specs.Mark.{Marks, marks, broken}
 use Rattle.search_laws.specs.Marks.{markBlocks}
-use Rattle.search_laws.specs.Answer.{Answered}
+use Rattle.search_laws.specs.Answer.{Answered, words, cleared as blank, walks, AnsweredBy}
 use Rattle.search_laws.proofs.Marks.{zeroed-onto}
-use Rattle.search_laws.proofs.Lists.{words, cleared as blank, walks, foundIn, list-met, walks-whole, list-all}
+use Rattle.search_laws.proofs.Lists.{foundIn, list-met, walks-whole, list-all}
 use Rattle.search.specs.Ready.{Fits}
 use Rattle.index.specs.Entry.{tablesAsked, entry}
 use Rattle.index.proofs.Enters.{entry-refused, Entered, entry-shown}
@@ -105,17 +105,20 @@ module _ (T : Tables) (reader radius : ℕ) (x before : List ℕ) where
   left-split after = refl
 
   -- 5 or 6
-  pub promise-tables : (n : ℕ) → entry T ≡ Refused n → SearchPromise T reader radius x before n 0 before (T .working)
+  pub promise-tables : (n : ℕ) → entry T ≡ Refused n
+      → SearchPromise T reader radius x before n 0 before (T .working) × AnsweredBy T reader radius x before n 0 before
   promise-tables n e =
       let r = entry-refused T n e in
-      let same : early ≡ n = early-split ∙ rw (r .0, ne-eqb n 0 (r .1)) refl in
-      record {
-        early = λ h. sym same;
-        sound = λ F s z. absurd (r .1 (sym same ∙ z));
-        open-list = λ z. absurd (r .1 (sym same ∙ z));
-        refused = λ h g. (refl, refl);
-        working-left = sym (left-split before ∙ rw (r .0, ne-eqb n 0 (r .1)) refl);
-      }
+      let same : early ≡ n = early-split ∙ rw (r .0, ne-eqb n 0 (r .1)) refl in (
+        record {
+          early = λ h. sym same;
+          sound = λ F s z. absurd (r .1 (sym same ∙ z));
+          open-list = λ z. absurd (r .1 (sym same ∙ z));
+          refused = λ h g. (refl, refl);
+          working-left = sym (left-split before ∙ rw (r .0, ne-eqb n 0 (r .1)) refl);
+        },
+        λ z. absurd (r .1 (sym same ∙ z)),
+      )
 
   -- past 5 and 6 the needed part of the working table is cleared
   module _ (h : Header) (e : entry T ≡ Shown h) where
@@ -134,16 +137,19 @@ module _ (T : Tables) (reader radius : ℕ) (x before : List ℕ) where
 
     module _ (w : ℕ) (f : w ≡ mapWords (bare h)) (cleared : List ℕ) (g : cleared ≡ zeroed (T .working) 0 (w + summaryOf w)) where
       -- 7, 10 or 11
-      pub promise-query : (n : ℕ) → n ≡ firstNo (queryAsked h reader radius x) → n ≢ 0 → SearchPromise T reader radius x before n 0 before cleared
+      pub promise-query : (n : ℕ) → n ≡ firstNo (queryAsked h reader radius x) → n ≢ 0
+          → SearchPromise T reader radius x before n 0 before cleared × AnsweredBy T reader radius x before n 0 before
       promise-query n q some =
-          let same : early ≡ n = early-query ∙ sym q in
-          record {
-            early = λ k. sym same;
-            sound = λ F s z. absurd (some (sym same ∙ z));
-            open-list = λ z. absurd (some (sym same ∙ z));
-            refused = λ k l. (refl, refl);
-            working-left = g ∙ ap (λ v. zeroed (T .working) 0 (v + summaryOf v)) f ∙ left-cleared;
-          }
+          let same : early ≡ n = early-query ∙ sym q in (
+            record {
+              early = λ k. sym same;
+              sound = λ F s z. absurd (some (sym same ∙ z));
+              open-list = λ z. absurd (some (sym same ∙ z));
+              refused = λ k l. (refl, refl);
+              working-left = g ∙ ap (λ v. zeroed (T .working) 0 (v + summaryOf v)) f ∙ left-cleared;
+            },
+            λ z. absurd (some (sym same ∙ z)),
+          )
 
       -- past 11: the walks are lent the needed part alone
       abbrev needed : ℕ
@@ -176,7 +182,8 @@ module _ (T : Tables) (reader radius : ℕ) (x before : List ℕ) where
 
       pub promise-found : firstNo (queryAsked h reader radius x) ≡ 0 → (k : ℕ) → k ≡ workingLength (bare h) → (n count : ℕ) (after last : List ℕ)
           → Answered (markBlocks h (T .nodes) (T .pages) x radius (take k cleared)) (isHit (test (T .pages) (T .sketches) h (openClasses (T .settings) reader) x radius)) w before n count after
-          → last ≡ zeroed (take k cleared) 0 needed → SearchPromise T reader radius x before n count after (last ++ drop k cleared)
+          → last ≡ zeroed (take k cleared) 0 needed
+          → SearchPromise T reader radius x before n count after (last ++ drop k cleared) × AnsweredBy T reader radius x before n count after
       unfolding workingLength summaryWords blank zeros
       promise-found q k e n count after last a z =
           let i = rw (← in-order .header) at in-order in
@@ -185,16 +192,18 @@ module _ (T : Tables) (reader radius : ℕ) (x before : List ℕ) where
           let b : Answered (walks T reader radius x) (isHit (testOf T reader radius x)) (words T reader radius x) before n count after =
           rw (size, part-clear, f, ← in-order .header) at a in
           let rows : sketchesLength (given T) ≤ length (T .sketches) = rw (same-lengths (given T) h (in-order .header) .sketches) at (in-order .sketches-long) in
-          let room = lent-room (headerOf (given T)) (T .nodes) (T .pages) (T .working) (lends T (headerOf (given T)) i) (words T reader radius x) refl in
-          record {
-            early = λ k. absurd (k (early-query ∙ q));
-            sound = λ F s y. answer-sound T reader radius x before n count after b room (i .limits) rows (fits .count) (fits .range) F s;
-            open-list = λ y. answer-open T reader radius x before n count after b room;
-            refused = answer-refused T reader radius x before n count after b;
-            working-left =
-                ap (λ m. m ++ drop k cleared) z
-                ∙ ap (λ j. zeroed (take j cleared) 0 needed ++ drop j cleared) size
-                ∙ put-back
-                ∙ ap (λ v. zeroed (T .working) 0 (v + summaryOf v)) f
-                ∙ left-cleared;
-          }
+          let room = lent-room (headerOf (given T)) (T .nodes) (T .pages) (T .working) (lends T (headerOf (given T)) i) (words T reader radius x) refl in (
+            record {
+              early = λ k. absurd (k (early-query ∙ q));
+              sound = λ F s y. answer-sound T reader radius x before n count after b room (i .limits) rows (fits .count) (fits .range) F s;
+              open-list = λ y. answer-open T reader radius x before n count after b room;
+              refused = answer-refused T reader radius x before n count after b;
+              working-left =
+                  ap (λ m. m ++ drop k cleared) z
+                  ∙ ap (λ j. zeroed (take j cleared) 0 needed ++ drop j cleared) size
+                  ∙ put-back
+                  ∙ ap (λ v. zeroed (T .working) 0 (v + summaryOf v)) f
+                  ∙ left-cleared;
+            },
+            λ y. b,
+          )

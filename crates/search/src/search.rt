@@ -13,7 +13,7 @@ ghost use Rattle.store.specs.Calls.{SearchPromise};
 ghost use Rattle.hits.specs.Hit.{test, isHit};
 ghost use Rattle.hits.specs.Marks.{summaryOf, Summarised};
 ghost use Rattle.search_laws.specs.Marks.{markBlocks};
-ghost use Rattle.search_laws.specs.Answer.{Answered};
+ghost use Rattle.search_laws.specs.Answer.{Answered, AnsweredBy};
 ghost use Rattle.search.specs.Ready.{Fits, Lent};
 use crate::list;
 use crate::marks;
@@ -88,6 +88,7 @@ pub fn search(
     output: &mut [u16],
 ) -> Found
     ensures { λ r. ⌜ SearchPromise (tables (now (settings .entry)) (now (nodes .entry)) (now (pages .entry)) (now (sketches .entry)) (now (working .entry))) reader radius (now (sketch .entry)) (now (output .entry)) (r .number) (r .count) (now (output .exit)) (now (working .exit)) ⌝ }
+    ensures model { λ r. ⌜ AnsweredBy (tables (now (settings .entry)) (now (nodes .entry)) (now (pages .entry)) (now (sketches .entry)) (now (working .entry))) reader radius (now (sketch .entry)) (now (output .entry)) (r .number) (r .count) (now (output .exit)) ⌝ }
 {
     let h = match index::tables::enter(settings, nodes, pages, sketches, working) {
         Opening::Refused(number) => {

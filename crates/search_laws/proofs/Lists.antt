@@ -28,21 +28,20 @@ use Rattle.store.specs.Sound.{Sound, livePage, pageBytes}
 use Rattle.store.specs.Calls.{listedOf}
 use Rattle.walk.specs.Mark.{Marks, marks, markAll}
 use Rattle.walk_laws.proofs.Marks.{flag-marks}
-use Rattle.search_laws.specs.Marks.{markBlocks}
+use Rattle.search_laws.specs.Answer.{words as wordsOf, cleared as clearedOf, walks as walksOf}
 use Rattle.search_laws.proofs.Marks.{blocks-marking, marking-length}
 use Rattle.search_laws.proofs.Sound.{from-small, Whole, blocks-right}
 use Rattle.search_laws.proofs.Complete.{met-wanted}
 
 module _ (T : Tables) (reader radius : ℕ) (x : List ℕ) where
-  abbrev pub words : ℕ
-  words = mapWords (bare (headerOf (given T)))
+  abbrev words : ℕ
+  words = wordsOf T reader radius x
 
-  -- the maps before the first walk
-  unfoldable pub cleared : List ℕ
-  cleared = replicate (words + summaryOf words) 0
+  abbrev cleared : List ℕ
+  cleared = clearedOf T reader radius x
 
-  abbrev pub walks : Marks
-  walks = markBlocks (headerOf (given T)) (T .nodes) (T .pages) x radius cleared
+  abbrev walks : Marks
+  walks = walksOf T reader radius x
 
   -- what is listed then
   abbrev pub foundIn : List ℕ → List ℕ
@@ -50,7 +49,7 @@ module _ (T : Tables) (reader radius : ℕ) (x : List ℕ) where
 
   module _ (room : Room (T .working) words) where
     cleared-room : Room cleared words
-    unfolding cleared
+    unfolding clearedOf
     cleared-room = record { most = room .most; long = omega (arith, length-replicate {A = ℕ} (words + summaryOf words) 0) }
 
     -- where the walks leave a map

@@ -14,7 +14,7 @@ same-length-2 : tie.Need-same-length-2
 same-length-2 c = search needs
 
 returns : tie.Need-returns
-returns c = (c .before .before .before .before .search .ensures, refl)
+returns c = ((c .before .before .before .before .search .ensures .0, refl), c .before .before .before .before .search .ensures .1)
 
 pub vetch-search-spec : {M : Type 1} → statement M
 vetch-search-spec = tie.close (tie.spec search-requires same-length same-length-2 returns)
