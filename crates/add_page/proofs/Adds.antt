@@ -14,7 +14,7 @@ use Rattle.layout.specs.declared.Opening.the-variants.{Shown, Refused}
 use Rattle.layout.specs.Settings.{freeAt}
 use Rattle.layout.specs.Header.{headerOf}
 use Rattle.layout.specs.Lengths.{nodesLength, pagesLength, sketchesLength}
-use Rattle.layout.specs.Pages.{withPage}
+use Rattle.layout.specs.Pages.{withPage, linksAt}
 use Rattle.layout.proofs.Rows.{length-with-row}
 use Rattle.layout.proofs.Words.{live-inside, class-inside}
 use Rattle.trie.specs.declared.span.Span.{Span}
@@ -25,8 +25,8 @@ use Rattle.trie_room.specs.RowBytes.{rowsOf as blockRows}
 use Rattle.trie_room.proofs.RowBytes.{rows-table}
 use Rattle.promises.specs.Tables.{Tables, tables, given}
 use Rattle.promises.specs.Answers.{number}
-use Rattle.store.specs.Sound.{Sound}
-use Rattle.store.specs.Calls.{SameRest, Outcome, outcome, Unfinished, AddPromise}
+use Rattle.promises.specs.Sound.{Sound}
+use Rattle.promises.specs.Store.{SameRest, Outcome, outcome, Unfinished, AddPromise}
 use Rattle.add_page.specs.declared.insert.Inserted.{Inserted}
 use Rattle.add_page.specs.declared.insert.Inserted.the-variants.{Free}
 use Rattle.add_page.specs.declared.insert.Inserted.the-variants as insertion
@@ -161,9 +161,9 @@ module _ (T : Tables) (p c : ℕ) (x : List ℕ) where
           rows-table (given T) j l (given T .pages) (rowAdded T p c x) (omega (arith, ok .lent .limits)) (ok .lent .limits .symbols-most)
           (lent-row T (headerOf (given T)) p x ok (rowAdded T p c x) refl .sketches-long)
 
-      kept : KeptF (given T .nodes) (2 * given T .pages) (pagesLength (given T)) (T .nodes) (T .pages) (filled N P i)
+      kept : KeptF (given T .nodes) (linksAt (given T .pages)) (pagesLength (given T)) (T .nodes) (T .pages) (filled N P i)
       kept =
-          subst (KeptF (given T .nodes) (2 * given T .pages) (pagesLength (given T)) (T .nodes) (T .pages)) f
+          subst (KeptF (given T .nodes) (linksAt (given T .pages)) (pagesLength (given T)) (T .nodes) (T .pages)) f
           (all-kept (given T) (rowAdded T p c x) x p (ok .page) (octets (given T) x (ok .fits .count) (ok .fits .range)) rows
           (ok .lent .limits .nodes-least) (T .nodes) (T .pages) (getD (T .settings) freeAt 0))
 

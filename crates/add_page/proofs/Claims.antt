@@ -19,7 +19,7 @@ use Rattle.trie.proofs.Frame.{hit-other}
 use Rattle.trie_laws.specs.Sound.{Stands}
 use Rattle.trie_laws.specs.Block.{EachFrom}
 use Rattle.meaning.proofs.Lists.{count-append}
-use Rattle.store.specs.Sound.{triesCells, Rooted}
+use Rattle.promises.specs.Sound.{triesCells, Rooted}
 
 -- the same page, or the same link
 hit-page : (base p x : ℕ) → hit (base + p) (base + x) ≡ cond (eqb x p) 1 0

@@ -20,11 +20,11 @@ use Rattle.trie.proofs.Frame.{Less, less}
 use Rattle.trie_laws.specs.Block.{SoundBlock, EachFrom}
 use Rattle.trie_laws.specs.Needed.{needed, sumFrom}
 use Rattle.trie_laws.proofs.Pages.{stands-any}
-use Rattle.trie_path.proofs.Arrival.{Leads, sound-leads}
+use Rattle.trie.proofs.Arrival.{Leads, sound-leads}
 use Rattle.trie_room.specs.declared.needed.Needed.the-variants.{Nodes}
 use Rattle.trie_room.specs.RowBytes.{rowBytes}
 use Rattle.trie_room.proofs.Block.{needed-block}
-use Rattle.store.specs.Sound.{triesCells, Rooted}
+use Rattle.promises.specs.Sound.{triesCells, Rooted}
 use Rattle.add_page.specs.Room.{neededFrom, blockNeeds}
 use Rattle.add_page.proofs.Bytes.{bytes-length}
 

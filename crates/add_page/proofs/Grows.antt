@@ -10,8 +10,9 @@ use Rattle.meaning.specs.Sketch.{inRange}
 use Rattle.meaning.specs.Trie.{Tree, insert, nodes}
 use Rattle.meaning.specs.Ledger.{Settings}
 use Rattle.meaning.specs.Forest.{blockBytes, bytesOfSketch, eachFrom, totalNodes}
+use Rattle.layout.specs.Nodes.{mostNodes}
 use Rattle.layout.specs.Lengths.{pagesLength}
-use Rattle.layout.specs.Pages.{nextAt}
+use Rattle.layout.specs.Pages.{nextAt, linksAt}
 use Rattle.trie.specs.Heap.{Cells, Heap, nil, page, _⊕_}
 use Rattle.trie.specs.Tables.{RowTable}
 use Rattle.trie.specs.Phys.{Phys, root, tree, first, cells, freeCells, Below, State}
@@ -24,7 +25,7 @@ use Rattle.trie_insert.proofs.Grow.{Grown}
 use Rattle.trie_insert.proofs.Inserts.{insert-right}
 use Rattle.trie_room.specs.RowBytes.{rowBytes, rowsOf}
 use Rattle.trie_room.proofs.RowBytes.{level-byte}
-use Rattle.store.specs.Sound.{triesCells, Rooted}
+use Rattle.promises.specs.Sound.{triesCells, Rooted}
 use Rattle.add_page.specs.declared.insert.Inserted.the-variants.{Free}
 use Rattle.add_page.specs.Insert.{Filled, onInsert, insertBlock, insertFrom}
 use Rattle.add_page.specs.Insert.{filled as done}
@@ -75,7 +76,7 @@ module _ (s : Settings) (S x : List ℕ) (count : length x ≡ s .symbols) (rang
   inserted-nodes : (j : ℕ) (t : Tree) → nodes (Inserts s bytes p j t) ≡ nodes t + Needs s bytes p j t
   inserted-nodes j t = insert-nodes (bytes j) (blockBytes s j) (s .thresholds) 0 p t
 
-  one : (j : ℕ) (t : Phys) {N P : List ℕ} {free : ℕ} {fs : List ℕ} (G : Cells) → j < s .blocks → s .nodes ≤ 262144 →
+  one : (j : ℕ) (t : Phys) {N P : List ℕ} {free : ℕ} {fs : List ℕ} (G : Cells) → j < s .blocks → s .nodes ≤ mostNodes →
       State (s .nodes) (s .pages) (nextAt (s .pages) j) N P free t fs (page (nextAt (s .pages) j + p) (held j) ⊕ G) → root t ≡ j →
       SoundBlock s bytes live j (tree t) → Needs s bytes p j (tree t) ≤ length fs →
       Grown (s .nodes) (s .pages) (nextAt (s .pages) j) j (nodes (tree t) + length fs) (Inserts s bytes p j (tree t)) G (insertBlock s S x p j N P free)
@@ -123,7 +124,7 @@ module _ (s : Settings) (S x : List ℕ) (count : length x ≡ s .symbols) (rang
       let A = one j t (T ⊕ W ⊕ G) (omega arith) (roomy .nodes .small) st (r .0) (k .0) (omega arith) in
       let X : Cells = cells (s .nodes) (nextAt (s .pages) j) (A .to) in
       let root = root-below (s .nodes) (s .pages) (nextAt (s .pages) j) (roomy .nodes .small) t (r .1) in
-      let same = subst (Kept (s .nodes) (2 * s .pages) (pagesLength s) N P) (A .is)
+      let same = subst (Kept (s .nodes) (linksAt (s .pages)) (pagesLength s) N P) (A .is)
       (block-kept s S x p lp (octets s x count range) rows j (omega arith) (omega (arith, r .0)) N P free) in
       let E = insert-from ts (suc j) (record { nodes = nodes-kept (same .0 .same) (roomy .nodes); pages = λ i li. pages-kept (same .1 .same) (roomy .pages i li) })
       (A .freesTo) (A .state .chain) (A .state .below) (X ⊕ G) (omega arith) (less (past X T (freeCells (s .nodes) (A .freesTo)) W G) (A .state .heap)) (r .2) (k .1)

@@ -27,7 +27,7 @@ use Rattle.trie_laws.proofs.Lists.{holds, fails, truth}
 use Rattle.trie_laws.proofs.Forest.{each-length}
 use Rattle.promises.specs.Tables.{Tables, tables, given, pageClass, pageRow, rowsOf}
 use Rattle.promises.specs.Answers.{number}
-use Rattle.store.specs.Sound.{Holding, Sound, SoundPage, livePage, pageBytes}
+use Rattle.promises.specs.Sound.{Holding, Sound, SoundPage, livePage, pageBytes}
 use Rattle.add_page.specs.declared.insert.Inserted.the-variants.{Free}
 use Rattle.add_page.specs.declared.insert.Inserted.the-variants as insertion
 use Rattle.add_page.specs.Insert.{filled, insertAll}

@@ -22,8 +22,8 @@ use Rattle.layout.proofs.Tests.{and-left, and-right}
 use Rattle.layout.proofs.Limits.{bounds}
 use Rattle.promises.specs.Tables.{Tables, given, rowsOf, byTables}
 use Rattle.promises.specs.Answers.{number, entered, shown56, longSettings, longFor, longNodes, longPages}
-use Rattle.store.specs.Sound.{livePage}
-use Rattle.index.proofs.Questions.{all-yes}
+use Rattle.promises.specs.Sound.{livePage}
+use Rattle.entry.proofs.Questions.{all-yes}
 use Rattle.add_page.specs.Lent.{Lent}
 
 pub record Accepted (T : Tables) (F : List Tree) (p c : ℕ) (x : List ℕ) : Type 0 where

@@ -26,7 +26,7 @@ use Rattle.trie_laws.proofs.Block.{agree-forest, insert-forest, insert-same}
 use Rattle.trie_room.specs.RowBytes.{rowBytes}
 use Rattle.trie_room.proofs.RowBytes.{row-same}
 use Rattle.promises.specs.Tables.{Tables, given, pageRow, rowsOf}
-use Rattle.store.specs.Sound.{Sound, livePage, pageBytes}
+use Rattle.promises.specs.Sound.{Sound, livePage, pageBytes}
 use Rattle.add_page.proofs.Bytes.{block-length}
 use Rattle.add_page.proofs.NewBytes.{newBytes, new-mine, new-live}
 use Rattle.add_page.proofs.Grows.{Inserts}

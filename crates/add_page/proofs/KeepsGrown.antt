@@ -10,7 +10,7 @@ use Rattle.meaning.specs.Forest.{blockBytes, eachFrom, forestAfter, totalNodes}
 use Rattle.layout.specs.Settings.{freeAt}
 use Rattle.layout.specs.Lengths.{nodesLength, sketchesLength}
 use Rattle.layout.specs.Header.{headerOf, bare}
-use Rattle.layout.specs.Pages.{withRow, withPage}
+use Rattle.layout.specs.Pages.{withRow, withPage, linksAt}
 use Rattle.layout.proofs.Rows.{row-inside, length-with-row}
 use Rattle.trie.specs.Heap.{Heap, _⊕_}
 use Rattle.trie.specs.Tables.{RowTable}
@@ -23,7 +23,7 @@ use Rattle.trie_laws.proofs.Forest.{total-insert}
 use Rattle.trie_room.specs.RowBytes.{rowBytes, rowsOf as rowsIn}
 use Rattle.trie_room.proofs.RowBytes.{rows-table}
 use Rattle.promises.specs.Tables.{Tables, given, rowsOf}
-use Rattle.store.specs.Sound.{Sound, livePage, triesCells, Rooted}
+use Rattle.promises.specs.Sound.{Sound, livePage, triesCells, Rooted}
 use Rattle.add_page.specs.declared.insert.Inserted.the-variants.{Free}
 use Rattle.add_page.specs.Blocks.{blockOf}
 use Rattle.add_page.specs.Insert.{filled, insertFrom, insertAll}
@@ -55,7 +55,7 @@ pub record Placed (T : Tables) (F : List Tree) (p c : ℕ) (x : List ℕ) : Type
   pub forest : map tree to ≡ forestAfter (given T) (rowsOf T) (add p c x) F
   -- the live words and classes before page p is written
   pub long : given T .pages + p < length pagesTo
-  pub kept : (i : ℕ) → i < 2 * given T .pages → getD pagesTo i 0 ≡ getD (T .pages) i 0
+  pub kept : (i : ℕ) → i < linksAt (given T .pages) → getD pagesTo i 0 ≡ getD (T .pages) i 0
 
 module _ (T : Tables) (F : List Tree) (sound : Sound T F) (p c : ℕ) (x : List ℕ) (a : Accepted T F p c x) where
   abbrev s : Settings
@@ -103,12 +103,12 @@ module _ (T : Tables) (F : List Tree) (sound : Sound T F) (p c : ℕ) (x : List 
       (read-blocks T p x F sound bytes reads))
 
   grown : GrownFrom s 0 (totalNodes (map tree (sound .tries)) + length (sound .free)) (eachFrom (Inserts s bytes p) 0 (map tree (sound .tries)))
-      (wordCells (T .pages) (2 * s .pages))
+      (wordCells (T .pages) (linksAt (s .pages)))
       (insertFrom s S′ x p (length (sound .tries)) 0 (T .nodes) (T .pages) (getD (T .settings) freeAt 0))
   grown =
       let H = sound .holding in
       insert-from s S′ x (a .count) (a .range) p (a .page) (livePage T) (λ j l. reads .mine j) rows (heldBy (s .pages) (T .pages) p)
-      (sound .tries) 0 roomy (sound .free) (H .chain) (H .below) (wordCells (T .pages) (2 * s .pages)) (omega (arith, H .blocks))
+      (sound .tries) 0 roomy (sound .free) (H .chain) (H .below) (wordCells (T .pages) (linksAt (s .pages))) (omega (arith, H .blocks))
       (words-heap (s .nodes) (s .pages) p (heldBy (s .pages) (T .pages) p) (sound .tries) (sound .free) (H .roots)
       (spare-heap (s .nodes) (s .pages) p (livePage T) (a .page) (a .dead) (sound .tries) (sound .free) (H .roots) stands (H .words)))
       (H .roots) (rw (sound .forest) (read-blocks T p x F sound bytes reads)) enough
@@ -136,5 +136,5 @@ module _ (T : Tables) (F : List Tree) (sound : Sound T F) (p c : ℕ) (x : List 
         forest =
             E .grown ∙ ap (eachFrom (Inserts s bytes p) 0) (sound .forest) ∙ forest-read T p x F sound c (a .dead) bytes reads;
         long = long;
-        kept = λ i l. words-kept (T .pages) (E .nodesTo) (E .pagesTo) (2 * s .pages) i l (E .heap .holds .1 .1);
+        kept = λ i l. words-kept (T .pages) (E .nodesTo) (E .pagesTo) (linksAt (s .pages)) i l (E .heap .holds .1 .1);
       }

@@ -11,7 +11,7 @@ use Rattle.layout.proofs.Words.{behind-written, link-behind}
 use Rattle.trie.specs.Heap.{Cells, Heap, Holds, nodeClaims, pageClaims, nil, node, page, _⊕_}
 use Rattle.trie.specs.Phys.{Phys, freeCells}
 use Rattle.trie.proofs.Frame.{hit-other, hit-same}
-use Rattle.store.specs.Sound.{triesCells, Rooted}
+use Rattle.promises.specs.Sound.{triesCells, Rooted}
 use Rattle.add_page.proofs.Claims.{trie-none}
 use Rattle.add_page.proofs.Grows.{spareCells}
 use Rattle.add_page.proofs.Spares.{free-none}

@@ -13,8 +13,8 @@ use lib.Seq.{take-set-le, drop-set-lt}
 use Rattle.meaning.specs.Ledger.{Settings}
 use Rattle.meaning.specs.Forest.{bytesOfSketch}
 use Rattle.layout.specs.Lengths.{pagesLength}
-use Rattle.layout.specs.Pages.{nextAt}
-use Rattle.layout.specs.Nodes.{stateAt}
+use Rattle.layout.specs.Pages.{nextAt, linksAt}
+use Rattle.layout.specs.Nodes.{stateAt, nodeWords}
 use Rattle.trie.specs.declared.Level.{Level}
 use Rattle.trie.specs.declared.Rows.{Rows}
 use Rattle.trie.specs.declared.leaf.Got.the-variants.{Node, Full}
@@ -28,11 +28,11 @@ use Rattle.trie.specs.Tables.{RowTable}
 use Rattle.trie.specs.Model.{Inside, Made, made, findPlace, linkLeaf, nodeIn, freshLeaf, madeAt, childLeaf, pageByte, levelAt}
 use Rattle.trie.proofs.Places.{find-inside}
 use Rattle.trie.proofs.Bytes.{level-table, byte-small}
-use Rattle.trie_path.specs.declared.Reach.{Reach}
-use Rattle.trie_path.specs.declared.Reach.the-variants.{Leaf, Gap}
-use Rattle.trie_path.specs.declared.Reach.the-variants as reach
-use Rattle.trie_path.specs.Descend.{descendTo, Inside as ReachInside}
-use Rattle.trie_path.proofs.Inside.{descend-inside}
+use Rattle.trie.specs.declared.path.Reach.{Reach}
+use Rattle.trie.specs.declared.path.Reach.the-variants.{Leaf, Gap}
+use Rattle.trie.specs.declared.path.Reach.the-variants as reach
+use Rattle.trie.specs.Descend.{descendTo, Inside as ReachInside}
+use Rattle.trie.proofs.Inside.{descend-inside}
 use Rattle.trie_insert.specs.declared.insert.Target.the-variants.{Ready, NoRoom}
 use Rattle.trie_insert.specs.declared.insert.Target.the-variants as target
 use Rattle.trie_insert.specs.Pages.{Pushed, pushed, pushNodes, pushPages, pushPage, After, after, putDone, putInto, putLeafM}
@@ -59,22 +59,22 @@ within-set {lo} {hi} A i v l h =
 
 -- ---- the node table
 module _ (cap : ℕ) where
-  node-set : (N : List ℕ) (i v : ℕ) → i < 10 * cap → Within 0 (10 * cap) N (set N i v)
+  node-set : (N : List ℕ) (i v : ℕ) → i < nodeWords cap → Within 0 (nodeWords cap) N (set N i v)
   node-set N i v h = within-set N i v (omega arith) h
 
   -- and the node given lies in it
   abbrev KeptM : List ℕ → Made → Type 0
-  KeptM N (made N' g) = Within 0 (10 * cap) N N' × (nodeIn g ≤ cap)
+  KeptM N (made N' g) = Within 0 (nodeWords cap) N N' × (nodeIn g ≤ cap)
 
   abbrev KeptA : List ℕ → Aimed → Type 0
-  KeptA N (aimed N' t) = Within 0 (10 * cap) N N' × (targetIn t ≤ cap)
+  KeptA N (aimed N' t) = Within 0 (nodeWords cap) N N' × (targetIn t ≤ cap)
 
-  link-kept : (N : List ℕ) (s f b : ℕ) → s < 10 * cap → f < cap → Within 0 (10 * cap) N (linkLeaf N cap s f b)
+  link-kept : (N : List ℕ) (s f b : ℕ) → s < nodeWords cap → f < cap → Within 0 (nodeWords cap) N (linkLeaf N cap s f b)
   unfolding linkLeaf
   link-kept N s f b ls lf =
       within-both (within-both (node-set N f _ (omega arith)) (node-set _ (stateAt cap f) _ (omega arith))) (node-set _ s _ ls)
 
-  fresh-kept : (N : List ℕ) (s b free : ℕ) → s < 10 * cap → KeptM N (freshLeaf N cap s b free)
+  fresh-kept : (N : List ℕ) (s b free : ℕ) → s < nodeWords cap → KeptM N (freshLeaf N cap s b free)
   unfolding freshLeaf
   fresh-kept N s b free ls = go (eqb free 0) refl (ltb cap free) refl
     where
@@ -113,7 +113,7 @@ module _ (cap : ℕ) where
 -- ---- both tables, of cap nodes, and pages inside lo .. hi
 module _ (cap lo hi : ℕ) where
   abbrev Both : List ℕ → List ℕ → List ℕ → List ℕ → Type 0
-  Both N P N' P' = Within 0 (10 * cap) N N' × Within lo hi P P'
+  Both N P N' P' = Within 0 (nodeWords cap) N N' × Within lo hi P P'
 
   abbrev KeptP : List ℕ → List ℕ → Pushed → Type 0
   KeptP N P (pushed N' P' t) = Both N P N' P'
@@ -138,7 +138,7 @@ module _ (cap pcap base lo hi : ℕ) (low : lo ≤ base) (high : base + pcap ≤
   unfolding putLeafM
   put-kept N P n b p free ln lb lp = go (childLeaf N cap n b free) (child-kept cap N n b free ln lb)
     where
-      into : (N' : List ℕ) (c next : ℕ) → Within 0 (10 * cap) N N' → (q : Pushed) → KeptP cap lo hi N' P q → Kept cap lo hi N P (putDone c next q)
+      into : (N' : List ℕ) (c next : ℕ) → Within 0 (nodeWords cap) N N' → (q : Pushed) → KeptP cap lo hi N' P q → Kept cap lo hi N P (putDone c next q)
       into N' c next e (pushed N'' P'' true) h = (within-both e (h .0), h .1)
       into N' c next e (pushed N'' P'' false) h = (within-both e (h .0), h .1)
 
@@ -148,7 +148,7 @@ module _ (cap pcap base lo hi : ℕ) (low : lo ≤ base) (high : base + pcap ≤
       go (made N' got.Broken) e = (e .0, within-none)
 
   -- one change after another
-  onto : (N P N' P' : List ℕ) → Within 0 (10 * cap) N N' → Within lo hi P P' → (a : After) → Kept cap lo hi N' P' a → Kept cap lo hi N P a
+  onto : (N P N' P' : List ℕ) → Within 0 (nodeWords cap) N N' → Within lo hi P P' → (a : After) → Kept cap lo hi N' P' a → Kept cap lo hi N P a
   onto N P N' P' e f (after N'' P'' g) h = (within-both e (h .0), within-both f (h .1))
 
   module _ (S : List ℕ) where
@@ -208,7 +208,7 @@ module _ (cap pcap base lo hi : ℕ) (low : lo ≤ base) (high : base + pcap ≤
 module _ (s : Settings) (S x : List ℕ) (p : ℕ) (page : p < s .pages)
     (octets : (j k : ℕ) → getD (bytesOfSketch s j x) k 0 < 256)
     (rows : (j : ℕ) → j < s .blocks → RowTable (s .pages) (rowsOf s j) S) where
-  links-low : (j : ℕ) → 2 * s .pages ≤ nextAt (s .pages) j
+  links-low : (j : ℕ) → linksAt (s .pages) ≤ nextAt (s .pages) j
   links-low j = let l : 2 ≤ 2 + j = omega arith in mul-le-mul-right (s .pages) l
 
   links-high : (j : ℕ) → j < s .blocks → nextAt (s .pages) j + s .pages ≤ pagesLength s
@@ -216,12 +216,12 @@ module _ (s : Settings) (S x : List ℕ) (p : ℕ) (page : p < s .pages)
   links-high j l = let m : 2 + j < 2 + s .blocks = omega arith in omega (arith, rw suc-mul at (mul-le-mul-right (s .pages) m))
 
   abbrev KeptAll : List ℕ → List ℕ → Filled → Type 0
-  KeptAll = KeptF (s .nodes) (2 * s .pages) (pagesLength s)
+  KeptAll = KeptF (s .nodes) (linksAt (s .pages)) (pagesLength s)
 
-  pub block-kept : (j : ℕ) → j < s .blocks → j < s .nodes → (N P : List ℕ) (free : ℕ) → Kept (s .nodes) (2 * s .pages) (pagesLength s) N P (insertBlock s S x p j N P free)
+  pub block-kept : (j : ℕ) → j < s .blocks → j < s .nodes → (N P : List ℕ) (free : ℕ) → Kept (s .nodes) (linksAt (s .pages)) (pagesLength s) N P (insertBlock s S x p j N P free)
   unfolding insertBlock
   block-kept j l root N P free =
-      insert-kept (s .nodes) (s .pages) (nextAt (s .pages) j) (2 * s .pages) (pagesLength s) (links-low j) (links-high j l)
+      insert-kept (s .nodes) (s .pages) (nextAt (s .pages) j) (linksAt (s .pages)) (pagesLength s) (links-low j) (links-high j l)
       S (s .thresholds) (rowsOf s j) (rows j l) N P (bytesOfSketch s j x) (octets j) j p free root page
 
   from-kept : s .blocks ≤ s .nodes → (k j : ℕ) → j + k ≤ s .blocks → (N P : List ℕ) (free : ℕ) → KeptAll N P (insertFrom s S x p k j N P free)
@@ -230,10 +230,10 @@ module _ (s : Settings) (S x : List ℕ) (p : ℕ) (page : p < s .pages)
   from-kept roots (suc k) j l N P free =
       go (insertBlock s S x p j N P free) (block-kept j (omega arith) (omega arith) N P free) (λ N' P' free'. from-kept roots k (suc j) (omega arith) N' P' free')
     where
-      more : (N' P' : List ℕ) → Both (s .nodes) (2 * s .pages) (pagesLength s) N P N' P' → (a : Filled) → KeptAll N' P' a → KeptAll N P a
+      more : (N' P' : List ℕ) → Both (s .nodes) (linksAt (s .pages)) (pagesLength s) N P N' P' → (a : Filled) → KeptAll N' P' a → KeptAll N P a
       more N' P' e (filled N'' P'' i) h = (within-both (e .0) (h .0), within-both (e .1) (h .1))
 
-      go : (a : After) → Kept (s .nodes) (2 * s .pages) (pagesLength s) N P a
+      go : (a : After) → Kept (s .nodes) (linksAt (s .pages)) (pagesLength s) N P a
           → ((N' P' : List ℕ) (free' : ℕ) → KeptAll N' P' (insertFrom s S x p k (suc j) N' P' free'))
           → KeptAll N P (onInsert (λ N' P' free'. insertFrom s S x p k (suc j) N' P' free') a)
       go (after N' P' (Node n free')) h ih = more N' P' h (insertFrom s S x p k (suc j) N' P' free') (ih N' P' free')

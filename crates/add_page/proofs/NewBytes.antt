@@ -15,7 +15,7 @@ use Rattle.trie_laws.proofs.Forest.{bytes-put}
 use Rattle.trie_room.specs.RowBytes.{rowBytes}
 use Rattle.trie_room.proofs.RowBytes.{row-same}
 use Rattle.promises.specs.Tables.{Tables, given, pageClass, pageRow, rowsFrom, rowsOf}
-use Rattle.store.specs.Sound.{livePage, pageBytes, SoundPage}
+use Rattle.promises.specs.Sound.{livePage, pageBytes, SoundPage}
 
 module _ (s : Settings) (j : ℕ) (l : ℕ → Bool) (h : ℕ → Row) (own : (i : ℕ) → h i .page ≡ i) where
   rows-bytes : (q k n : ℕ) → k ≤ q → q < k + n → l q ≡ true → bytesIn s (rowsFrom l h k n) j q ≡ bytesOfSketch s j (h q .sketch)

@@ -24,8 +24,8 @@ use Rattle.layout.proofs.Rows.{row-inside, length-with-row}
 use Rattle.layout.proofs.Words.{class-inside}
 use Rattle.promises.specs.Tables.{Tables, given}
 use Rattle.promises.specs.Answers.{number}
-use Rattle.store.specs.Sound.{livePage}
-use Rattle.index.proofs.Questions.{last-asked}
+use Rattle.promises.specs.Sound.{livePage}
+use Rattle.entry.proofs.Questions.{last-asked}
 use Rattle.add_page.specs.Admission.{admission}
 use Rattle.add_page.specs.Lent.{Fits, Lent}
 use Rattle.add_page.proofs.KeepsAsked.{accepted, ahead, room12, number-by}

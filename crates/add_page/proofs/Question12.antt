@@ -22,7 +22,7 @@ use Rattle.trie_laws.proofs.Forest.{total-add}
 use Rattle.trie_laws.proofs.Block.{agree-forest}
 use Rattle.trie_room.specs.declared.needed.Needed.the-variants.{Nodes}
 use Rattle.promises.specs.Tables.{Tables, given, rowsOf}
-use Rattle.store.specs.Sound.{Sound, livePage, pageBytes}
+use Rattle.promises.specs.Sound.{Sound, livePage, pageBytes}
 use Rattle.add_page.specs.Room.{neededFrom, blockNeeds, allNeeded, roomOf}
 use Rattle.add_page.proofs.Enough.{Roomy, Needs, needed-from}
 use Rattle.add_page.proofs.NewBytes.{newBytes, new-mine, new-live, new-rows}

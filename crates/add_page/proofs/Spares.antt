@@ -13,7 +13,7 @@ use Rattle.trie.specs.Phys.{Phys, tree, freeCells}
 use Rattle.trie.proofs.Frame.{hit-other, hit-same}
 use Rattle.trie_laws.specs.Sound.{Stands}
 use Rattle.trie_laws.specs.Block.{EachFrom}
-use Rattle.store.specs.Sound.{triesCells, Rooted}
+use Rattle.promises.specs.Sound.{triesCells, Rooted}
 use Rattle.add_page.proofs.Claims.{no-heads, blocks-apart, tries-none}
 use Rattle.add_page.proofs.Grows.{spareCells}
 

@@ -2,7 +2,7 @@
 use Prim.Native.Nat.{ℕ}
 use Rattle.meaning.specs.Ledger.{Settings}
 use Rattle.layout.specs.Pages.{nextAt}
-use Rattle.trie.specs.declared.Block.{Block}
+use Rattle.layout.specs.declared.Block.{Block}
 
 abbrev pub blockOf : Settings → ℕ → Block
 blockOf s j = record { nodes = s .nodes; pages = s .pages; base = nextAt (s .pages) j }

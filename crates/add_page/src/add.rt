@@ -4,7 +4,7 @@ ghost use mathlib.Core.List.{[]};
 ghost use Rattle.meaning.specs.Ledger.{add};
 ghost use Rattle.layout.specs.declared.Opening.the-variants.{Shown};
 ghost use Rattle.promises.specs.Tables.{tables};
-ghost use Rattle.store.specs.Calls.{outcome, AddPromise};
+ghost use Rattle.promises.specs.Store.{outcome, AddPromise};
 ghost use Rattle.add_page.specs.Admission.{admission};
 ghost use Rattle.add_page.specs.Add.{putPage, placePage, addPage};
 use crate::insert::Inserted;

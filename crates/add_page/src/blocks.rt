@@ -7,8 +7,8 @@ ghost use Rattle.layout.specs.Header.{bare};
 ghost use Rattle.layout.specs.Limits.{HeaderLimits};
 ghost use Rattle.add_page.specs.Lent.{Fits};
 ghost use Rattle.add_page.specs.Blocks.{blockOf};
+use layout::Block;
 use layout::Header;
-use trie::Block;
 
 pub fn block_of(h: Header, j: usize) -> Block
     requires { ⌜ HeaderLimits h ⌝ }

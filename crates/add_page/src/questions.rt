@@ -20,7 +20,7 @@ fn long_tables(h: Header, nodes: &[u32], pages: &[u32], sketches: &[u8]) -> bool
     requires { ⌜ HeaderLimits h ⌝ }
     ensures { λ r. ⌜ r ≡ leb (nodesLength (bare h)) (length (now (nodes .entry))) && (leb (pagesLength (bare h)) (length (now (pages .entry))) && leb (sketchesLength (bare h)) (length (now (sketches .entry)))) ⌝ }
 {
-    index::tables::long_nodes(h, nodes) & index::tables::long_pages(h, pages, sketches)
+    entry::long_nodes(h, nodes) & entry::long_pages(h, pages, sketches)
 }
 
 // The opening where none of them says no, else the number of the first that does.

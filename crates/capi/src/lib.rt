@@ -9,13 +9,14 @@ ghost use lib.ListN.{drop as skip};
 ghost use Rattle.meaning.specs.Rights.{join, leave, grant, revoke};
 ghost use Rattle.meaning.specs.Ledger.{search, check, opening, add, drop, reading};
 ghost use Rattle.promises.specs.Tables.{tables, showTables};
-ghost use Rattle.promises.specs.Calls.{settingsGiven, startShown, lengthShown};
-ghost use Rattle.store.specs.Calls.{outcome};
-ghost use Rattle.store.specs.Relation.{numberAlone, withList, withVerdict, Promised, OnSettings, OnStore, OnShow};
+ghost use Rattle.promises.specs.Calls.{settingsGiven};
+ghost use Rattle.promises.specs.Readings.{startShown, lengthShown};
+ghost use Rattle.promises.specs.Store.{outcome};
+ghost use Rattle.promises.specs.Relation.{numberAlone, withList, withVerdict, Promised, OnSettings, OnStore, OnShow};
 ghost use Rattle.add_page.specs.Add.{addPage};
 ghost use Rattle.drop_laws.specs.After.{dropPage};
 ghost use Rattle.search_laws.specs.Answer.{AnsweredBy};
-ghost use Rattle.index.specs.Lengths.{lengthsOf};
+ghost use Rattle.open.specs.Lengths.{lengthsOf};
 
 #[no_mangle]
 pub extern "C" fn vetch_lengths(
@@ -37,7 +38,7 @@ pub extern "C" fn vetch_lengths(
     ensures { λ r. ⌜ now (sketches .exit) ≡ lengthsOf (settingsGiven b m q «page_capacity» «node_capacity» []) .sketches ⌝ }
     ensures { λ r. ⌜ now (working .exit) ≡ lengthsOf (settingsGiven b m q «page_capacity» «node_capacity» []) .working ⌝ }
 {
-    let needed = index::lengths::needed(b, m, q, page_capacity, node_capacity);
+    let needed = open::lengths::needed(b, m, q, page_capacity, node_capacity);
     *settings = needed.settings;
     *nodes = needed.nodes;
     *pages = needed.pages;
@@ -62,7 +63,7 @@ pub extern "C" fn vetch_open(
 ) -> u32
     ensures { λ r. ⌜ Promised (opening (settingsGiven b m q «page_capacity» «node_capacity» (now (thresholds .entry)))) (tables (now (settings .entry)) (now (nodes .entry)) (now (pages .entry)) (now (sketches .entry)) (now (working .entry))) (numberAlone r) (tables (now (settings .exit)) (now (nodes .exit)) (now (pages .exit)) (now (sketches .entry)) (now (working .entry))) ⌝ }
 {
-    index::open::open(
+    open::open(
         settings,
         nodes,
         pages,
@@ -142,28 +143,28 @@ pub extern "C" fn vetch_search(
 pub extern "C" fn vetch_join(settings: &mut [u32], reader: u32, group: u32) -> u32
     ensures { λ r. ⌜ OnSettings (join reader group) (now (settings .entry)) r (now (settings .exit)) ⌝ }
 {
-    index::register::join(settings, reader, group)
+    register::join(settings, reader, group)
 }
 
 #[no_mangle]
 pub extern "C" fn vetch_leave(settings: &mut [u32], reader: u32, group: u32) -> u32
     ensures { λ r. ⌜ OnSettings (leave reader group) (now (settings .entry)) r (now (settings .exit)) ⌝ }
 {
-    index::register::leave(settings, reader, group)
+    register::leave(settings, reader, group)
 }
 
 #[no_mangle]
 pub extern "C" fn vetch_grant(settings: &mut [u32], group: u32, class: u32) -> u32
     ensures { λ r. ⌜ OnSettings (grant group class) (now (settings .entry)) r (now (settings .exit)) ⌝ }
 {
-    index::register::grant(settings, group, class)
+    register::grant(settings, group, class)
 }
 
 #[no_mangle]
 pub extern "C" fn vetch_revoke(settings: &mut [u32], group: u32, class: u32) -> u32
     ensures { λ r. ⌜ OnSettings (revoke group class) (now (settings .entry)) r (now (settings .exit)) ⌝ }
 {
-    index::register::revoke(settings, group, class)
+    register::revoke(settings, group, class)
 }
 
 // An exported function cannot return a part of a slice: the row is given by its start and length in the sketch table.
@@ -181,7 +182,7 @@ pub extern "C" fn vetch_show(
     ensures { λ r. ⌜ now (start .exit) ≡ startShown (showTables (now (settings .entry)) (now (pages .entry)) (now (sketches .entry))) reader page ⌝ }
     ensures { λ r. ⌜ now (length .exit) ≡ lengthShown (showTables (now (settings .entry)) (now (pages .entry)) (now (sketches .entry))) reader page ⌝ }
 {
-    let at = index::show::find_row(settings, pages, sketches, reader, page);
+    let at = register::show::find_row(settings, pages, sketches, reader, page);
     *start = at.start;
     *length = at.length;
     at.number

@@ -18,8 +18,8 @@ use Rattle.layout.specs.Working.{mapWords}
 use Rattle.layout.proofs.Sizes.{SameLengths, same-lengths, map-most}
 use Rattle.promises.specs.Tables.{Tables, given}
 use Rattle.promises.specs.Answers.{number, entered, shown56, longSettings, longFor}
-use Rattle.index.specs.Entry.{tablesAsked, entry}
-use Rattle.index.proofs.Enters.{Entered, entry-refused, entry-shown}
+use Rattle.entry.specs.Entry.{tablesAsked, entry}
+use Rattle.entry.proofs.Enters.{Entered, entry-refused, entry-shown}
 use Rattle.check_store.specs.Lent.{Lent}
 
 pub record Admitted (T : Tables) (h : Header) : Type 0 where

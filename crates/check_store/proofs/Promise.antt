@@ -21,9 +21,9 @@ use Rattle.layout.specs.Settings.{freeAt}
 use Rattle.layout.specs.Working.{mapWords}
 use Rattle.layout.proofs.Sizes.{same-lengths, nodes-mapped}
 use Rattle.promises.specs.Tables.{Tables, given}
-use Rattle.index.specs.Entry.{entry}
-use Rattle.store.specs.Sound.{Sound}
-use Rattle.store.specs.Calls.{workingLeft, CheckPromise}
+use Rattle.entry.specs.Entry.{entry}
+use Rattle.promises.specs.Sound.{Sound}
+use Rattle.promises.specs.Readings.{workingLeft, CheckPromise}
 use Rattle.trie_room.specs.RowBytes.{rowsOf}
 use Rattle.check_store.specs.Pages.{pageFits, testPages}
 use Rattle.check_store.specs.Free.{testFree}

@@ -30,7 +30,7 @@ use Rattle.node_check.specs.declared.leaf.Left.the-variants.{Some, Failed}
 use Rattle.trie_check_laws.proofs.Once.{pages-stand}
 use Rattle.trie_check_laws.proofs.Once.{pages-once as page-once}
 use Rattle.promises.specs.Tables.{Tables, given, pageClass, pageRow}
-use Rattle.store.specs.Sound.{triesCells, Rooted, livePage, pageBytes, SoundPage, Sound}
+use Rattle.promises.specs.Sound.{triesCells, Rooted, livePage, pageBytes, SoundPage, Sound}
 use Rattle.check_store.specs.Lent.{Lent}
 use Rattle.check_store.specs.Pages.{pageFits, testPages}
 use Rattle.check_store.specs.Free.{testFree}

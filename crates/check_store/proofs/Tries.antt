@@ -13,6 +13,7 @@ use Rattle.meaning.specs.Trie.{nodes as nodesOf}
 use Rattle.meaning.specs.Ledger.{Settings}
 use Rattle.meaning.specs.Forest.{blockBytes, totalNodes}
 use Rattle.words.specs.Bits.{flag}
+use Rattle.layout.specs.Nodes.{mostNodes}
 use Rattle.layout.specs.Pages.{nextAt, isLive}
 use Rattle.trie.specs.Heap.{Holds}
 use Rattle.trie.specs.Phys.{Phys, root, tree, cells}
@@ -146,7 +147,7 @@ module _ (s : Settings) (N P S : List ℕ) (live : ℕ) where
             }
 
   -- ---- the tables determine the tries
-  module _ (small : s .nodes ≤ 262144) where
+  module _ (small : s .nodes ≤ mostNodes) where
     pub same-tries : (j : ℕ) (ts us : List Phys) → length ts ≡ length us → Each InPlace j ts → Each InPlace j us → ts ≡ us
     same-tries j [] [] l a b = refl
     same-tries j [] (u ∷ us) l a b = absurd (omega arith)

@@ -30,7 +30,7 @@ use Rattle.trie_room.specs.RowBytes.{rowBytes}
 use Rattle.trie_room.proofs.RowBytes.{row-same}
 use Rattle.node_check.specs.declared.leaf.Left.the-variants.{Some}
 use Rattle.promises.specs.Tables.{Tables, given, pageClass, pageRow}
-use Rattle.store.specs.Sound.{triesCells, Rooted, livePage, pageBytes, Sound}
+use Rattle.promises.specs.Sound.{triesCells, Rooted, livePage, pageBytes, Sound}
 use Rattle.check_store.specs.Lent.{Lent}
 use Rattle.check_store.specs.Free.{testFree}
 use Rattle.check_store.specs.Windows.{passed, testWindows}

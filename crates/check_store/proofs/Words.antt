@@ -18,7 +18,7 @@ use Rattle.meaning.specs.Trie.{pagesIn}
 use Rattle.trie_check_laws.specs.Uses.{uses}
 use Rattle.trie_check_laws.proofs.Claims.{owner, trie-words, state-claims, free-words, uses-beyond, used-state, free-zero}
 use Rattle.add_page.proofs.Claims.{no-heads, trie-claims, trie-none}
-use Rattle.store.specs.Sound.{triesCells, Rooted}
+use Rattle.promises.specs.Sound.{triesCells, Rooted}
 use Rattle.check_store.proofs.Tries.{Each, usesAll}
 use Rattle.check_store.proofs.FreeChain.{free-once}
 

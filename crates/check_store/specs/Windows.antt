@@ -7,7 +7,7 @@ use lib.Dec.{ltb, eqb}
 use Rattle.meaning.specs.Ledger.{Settings}
 use Rattle.words.specs.Bits.{zeroed}
 use Rattle.layout.specs.Pages.{nextAt}
-use Rattle.trie.specs.declared.Block.{Block}
+use Rattle.layout.specs.declared.Block.{Block}
 use Rattle.trie_room.specs.RowBytes.{rowsOf}
 use Rattle.node_check.specs.declared.leaf.Left.{Left}
 use Rattle.node_check.specs.declared.leaf.Left.the-variants.{Some, Failed}

@@ -8,7 +8,7 @@ ghost use Rattle.promises.specs.Tables.{tables};
 ghost use Rattle.check_store.specs.Lent.{Lent};
 ghost use Rattle.check_store.specs.Windows.{passed};
 ghost use Rattle.check_store.specs.Store.{testStore};
-ghost use Rattle.store.specs.Relation.{withVerdict, Promised};
+ghost use Rattle.promises.specs.Relation.{withVerdict, Promised};
 use layout::Header;
 use layout::Opening;
 use node_check::leaf::Left;
@@ -57,7 +57,7 @@ pub fn check(
 ) -> Verdict
     ensures { λ r. ⌜ Promised (reading check) (tables (now (settings .entry)) (now (nodes .entry)) (now (pages .entry)) (now (sketches .entry)) (now (working .entry))) (withVerdict (r .number) (r .sound)) (tables (now (settings .entry)) (now (nodes .entry)) (now (pages .entry)) (now (sketches .entry)) (now (working .exit))) ⌝ }
 {
-    let h = match index::tables::enter(settings, nodes, pages, sketches, working) {
+    let h = match entry::enter(settings, nodes, pages, sketches, working) {
         Opening::Refused(number) => {
             return Verdict {
                 number,

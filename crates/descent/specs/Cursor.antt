@@ -5,7 +5,7 @@ use mathlib.Core.Bool.{cond}
 use mathlib.Core.List.{List, [], _∷_}
 use lib.Dec.{ltb, eqb}
 use lib.ListN.{length, getD, take}
-use Rattle.layout.specs.Nodes.{linkOf, byteOf, stateAt, headAt, freeState, innerState}
+use Rattle.layout.specs.Nodes.{linkOf, byteOf, stateAt, headAt, freeState, innerState, nodeWords, mostNodes}
 use Rattle.descent.specs.declared.Cursor.{Cursor}
 use Rattle.descent.specs.declared.Left.{Left}
 use Rattle.descent.specs.declared.Left.the-variants.{Some, Broken}
@@ -13,8 +13,8 @@ use Rattle.descent.specs.declared.Descents.{Descents}
 
 -- the node table is long enough for its capacity, and the bytes are at most those of eight blocks
 pub record Fits (nodes : List ℕ) (cap : ℕ) (bytes : List ℕ) : Type 0 where
-  pub long : 10 * cap ≤ length nodes
-  pub most : cap ≤ 262144
+  pub long : nodeWords cap ≤ length nodes
+  pub most : cap ≤ mostNodes
   pub few : length bytes ≤ 512
 
 -- the bytes that a descent is at lie in the table of bytes

@@ -5,6 +5,8 @@ ghost use Prim.Native.Nat.{_*_, _<_, _≤_};
 ghost use lib.ListN.{length};
 ghost use Rattle.descent.specs.Cursor.{Fits, Inside, AllInside, ended, arrive, advance, going, Descended, leafOf};
 
+pub mod leaves;
+
 // Where a descent stands: ahead of the child at `link`, which must have the byte at `at`; the block's last byte is at `last`.
 // At link 0 it has ended: `first` is the link of the leaf's first page, or 0 where no leaf is reached.
 pub struct Cursor {

@@ -25,7 +25,7 @@ use Rattle.layout.proofs.Tests.{and-left, and-right}
 use Rattle.layout.proofs.Words.{class-inside}
 use Rattle.promises.specs.Tables.{Tables, given, byTables}
 use Rattle.promises.specs.Answers.{number, entered, shown56, longSettings, longFor, longNodes, longPages}
-use Rattle.index.proofs.Questions.{all-yes}
+use Rattle.entry.proofs.Questions.{all-yes}
 use Rattle.add_page.specs.Admission.{admission}
 use Rattle.add_page.proofs.Enough.{Roomy}
 

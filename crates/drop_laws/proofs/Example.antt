@@ -23,7 +23,7 @@ use Rattle.trie.specs.Heap.{Cells, nil, _⊕_}
 use Rattle.trie.specs.Model.{placeFrom, findPlace}
 use Rattle.trie.specs.Phys.{Phys, Buckets, noHeads, leafP, innerP, end, bucket, stop, link}
 use Rattle.trie_laws.specs.Sound.{filled, soundTrie, Stands}
-use Rattle.trie_path.specs.Descend.{descend, descendTo}
+use Rattle.trie.specs.Descend.{descend, descendTo}
 use Rattle.trie_room.specs.RowBytes.{reduced, rowBytes}
 use Rattle.trie_remove.specs.declared.Removed.the-variants.{Done}
 use Rattle.trie_remove.specs.Take.{takePage}
@@ -31,7 +31,7 @@ use Rattle.trie_remove.specs.Remove.{freeChild, setFirst, removeAt, removePage,
 use Rattle.trie_remove.proofs.Example.{nodesOf, pagesOf, node-claims, page-claims, once-count}
 use Rattle.promises.specs.Tables.{Tables, tables, given, byTables, pageClass, pageRow, rowsOf}
 use Rattle.promises.specs.Answers.{number, entered, shown56, longSettings, longFor, longNodes, longPages}
-use Rattle.store.specs.Sound.{triesCells, livePage, pageBytes, SoundPage, Sound}
+use Rattle.promises.specs.Sound.{triesCells, livePage, pageBytes, SoundPage, Sound}
 use Rattle.drop_laws.specs.Removal.{removeBlock, removeFrom, removeAll}
 use Rattle.drop_laws.proofs.Admitted.{admitted}
 use Rattle.drop_laws.proofs.Sounds.{DropSound, drop-sound}

@@ -10,16 +10,16 @@ use lib.ListN.{length, getD, set, take, length-set}
 use lib.ListN.{drop as skip}
 use lib.Seq.{take-set-le, drop-set-lt}
 use Rattle.meaning.specs.Ledger.{Settings}
-use Rattle.layout.specs.Nodes.{stateAt, withLink, freeState, leafState}
-use Rattle.layout.specs.Pages.{nextAt}
+use Rattle.layout.specs.Nodes.{stateAt, withLink, freeState, leafState, nodeWords}
+use Rattle.layout.specs.Pages.{nextAt, linksAt}
 use Rattle.layout.proofs.Rows.{rows-apart}
 use Rattle.layout.proofs.Words.{link-behind}
 use Rattle.trie.specs.Model.{linkAt}
-use Rattle.trie_path.specs.declared.Reach.{Reach}
-use Rattle.trie_path.specs.declared.Reach.the-variants.{Leaf, Gap}
-use Rattle.trie_path.specs.declared.Reach.the-variants as reach
-use Rattle.trie_path.specs.Descend.{descendTo, Inside as ReachInside}
-use Rattle.trie_path.proofs.Inside.{descend-inside}
+use Rattle.trie.specs.declared.path.Reach.{Reach}
+use Rattle.trie.specs.declared.path.Reach.the-variants.{Leaf, Gap}
+use Rattle.trie.specs.declared.path.Reach.the-variants as reach
+use Rattle.trie.specs.Descend.{descendTo, Inside as ReachInside}
+use Rattle.trie.proofs.Inside.{descend-inside}
 use Rattle.trie_room.specs.RowBytes.{rowBytes}
 use Rattle.trie_remove.specs.declared.Taken.the-variants.{First}
 use Rattle.trie_remove.specs.declared.Taken.the-variants as taken
@@ -77,9 +77,9 @@ module _ (lo hi pcap base p : ℕ) (low : lo ≤ base) (high : base + pcap ≤ h
 -- ---- a leaf with another first page
 module _ (cap : ℕ) where
   abbrev FreedIn : List ℕ → Freed → Type 0
-  FreedIn N (freed N' free) = Within 0 (10 * cap) N N'
+  FreedIn N (freed N' free) = Within 0 (nodeWords cap) N N'
 
-  free-within : (N : List ℕ) (s c free : ℕ) → s < 10 * cap → c < cap → Within 0 (10 * cap) N (freeChild N cap s c free)
+  free-within : (N : List ℕ) (s c free : ℕ) → s < nodeWords cap → c < cap → Within 0 (nodeWords cap) N (freeChild N cap s c free)
   unfolding freeChild
   free-within N s c free ls lc =
       let M : List ℕ = set N s (withLink (getD N s 0) (linkAt N c)) in
@@ -87,14 +87,14 @@ module _ (cap : ℕ) where
       (within-then (within-set M (stateAt cap c) freeState (omega arith) (omega arith))
       (within-set (set M (stateAt cap c) freeState) c free (omega arith) (omega arith)))
 
-  first-within : (N : List ℕ) (n s k l free : ℕ) → n < cap → s < 10 * cap → FreedIn N (setFirst N cap n s k l free)
+  first-within : (N : List ℕ) (n s k l free : ℕ) → n < cap → s < nodeWords cap → FreedIn N (setFirst N cap n s k l free)
   unfolding setFirst
   first-within N n s k l free ln ls = go (ltb 0 l) (eqb k 0)
     where
       M : List ℕ
       M = set N (stateAt cap n) (leafState l)
 
-      put : Within 0 (10 * cap) N M
+      put : Within 0 (nodeWords cap) N M
       put = within-set N (stateAt cap n) (leafState l) (omega arith) (omega arith)
 
       go : (t u : Bool) → FreedIn N (cond t (freed M free) (cond u (freed M free) (freed (freeChild M cap s n free) (n + 1))))
@@ -104,10 +104,10 @@ module _ (cap : ℕ) where
 
 -- ---- both tables
 abbrev pub GoneIn : ℕ → ℕ → ℕ → List ℕ → List ℕ → Gone → Type 0
-GoneIn cap lo hi N P (gone N' P' r) = Within 0 (10 * cap) N N' × Within lo hi P P'
+GoneIn cap lo hi N P (gone N' P' r) = Within 0 (nodeWords cap) N N' × Within lo hi P P'
 
 module _ (cap lo hi pcap base p : ℕ) (low : lo ≤ base) (high : base + pcap ≤ hi) where
-  at-within : (N P : List ℕ) (n s k free : ℕ) → n < cap → s < 10 * cap → GoneIn cap lo hi N P (removeAt N P cap pcap base n s k p free)
+  at-within : (N P : List ℕ) (n s k free : ℕ) → n < cap → s < nodeWords cap → GoneIn cap lo hi N P (removeAt N P cap pcap base n s k p free)
   unfolding removeAt
   at-within N P n s k free ln ls =
       go (takePage P pcap base (getD N (stateAt cap n) 0 - 2) p) (take-within lo hi pcap base p low high P (getD N (stateAt cap n) 0 - 2))
@@ -133,13 +133,13 @@ module _ (cap lo hi pcap base p : ℕ) (low : lo ≤ base) (high : base + pcap �
 -- ---- all blocks
 module _ (s : Settings) (S : List ℕ) (p : ℕ) (enough : s .blocks ≤ s .nodes) (octets : (j k : ℕ) → getD (rowBytes s j S p) k 0 < 256) where
   abbrev pub InTries : List ℕ → List ℕ → Gone → Type 0
-  InTries = GoneIn (s .nodes) (2 * s .pages) ((2 + s .blocks) * s .pages)
+  InTries = GoneIn (s .nodes) (linksAt (s .pages)) ((2 + s .blocks) * s .pages)
 
   block-within : (j : ℕ) → j < s .blocks → (N P : List ℕ) (free : ℕ) → InTries N P (removeBlock s S p j N P free)
   unfolding removeBlock
   block-within j l N P free =
       let behind : 2 + j < 2 + s .blocks = omega arith in
-      page-within (s .nodes) (2 * s .pages) ((2 + s .blocks) * s .pages) (s .pages) (nextAt (s .pages) j) p
+      page-within (s .nodes) (linksAt (s .pages)) ((2 + s .blocks) * s .pages) (s .pages) (nextAt (s .pages) j) p
       (omega (arith, link-behind (s .pages) j 0)) (rows-apart (s .pages) behind) N P (rowBytes s j S p) j free (omega arith) (octets j)
 
   from-within : (k j : ℕ) → j + k ≤ s .blocks → (N P : List ℕ) (free : ℕ) → InTries N P (removeFrom s S p k j N P free)
@@ -148,7 +148,7 @@ module _ (s : Settings) (S : List ℕ) (p : ℕ) (enough : s .blocks ≤ s .node
   from-within (suc k) j l N P free =
       go (removeBlock s S p j N P free) (block-within j (omega arith) N P free) (from-within k (suc j) (omega arith))
     where
-      next : (N' P' : List ℕ) (r : Gone) → Within 0 (10 * s .nodes) N N' → Within (2 * s .pages) ((2 + s .blocks) * s .pages) P P' → InTries N' P' r → InTries N P r
+      next : (N' P' : List ℕ) (r : Gone) → Within 0 (nodeWords (s .nodes)) N N' → Within (linksAt (s .pages)) ((2 + s .blocks) * s .pages) P P' → InTries N' P' r → InTries N P r
       next N' P' (gone N'' P'' r) a b h = (within-then a (h .0), within-then b (h .1))
 
       go : (r : Gone) → InTries N P r → ((N' P' : List ℕ) (free' : ℕ) → InTries N' P' (removeFrom s S p k (suc j) N' P' free')) →

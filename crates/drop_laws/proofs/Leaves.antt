@@ -17,12 +17,12 @@ use Rattle.trie.proofs.Frame.{Less, less, nodes-kept, pages-kept}
 use Rattle.trie_laws.specs.Block.{SoundBlock, EachFrom}
 use Rattle.trie_laws.proofs.Nodes.{remove-nodes}
 use Rattle.trie_laws.proofs.Pages.{stands-any}
-use Rattle.trie_path.proofs.Arrival.{Leads, sound-leads}
+use Rattle.trie.proofs.Arrival.{Leads, sound-leads}
 use Rattle.trie_room.specs.RowBytes.{rowBytes}
 use Rattle.trie_remove.specs.declared.Removed.the-variants.{Done}
 use Rattle.trie_remove.specs.Remove.{Gone, gone}
 use Rattle.trie_remove.proofs.Removal.{RemoveDone, remove-right}
-use Rattle.store.specs.Sound.{triesCells, Rooted}
+use Rattle.promises.specs.Sound.{triesCells, Rooted}
 use Rattle.add_page.proofs.Enough.{Roomy, one-out}
 use Rattle.drop_laws.specs.Removal.{onRemoved, removeBlock, removeFrom}
 use Rattle.drop_laws.proofs.Bytes.{row-length, row-octets}

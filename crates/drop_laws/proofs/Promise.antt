@@ -8,6 +8,7 @@ use lib.ListN.{getD}
 use Rattle.meaning.specs.Trie.{Tree}
 use Rattle.meaning.specs.Ledger.{drop}
 use Rattle.meaning.specs.Forest.{forestAfter}
+use Rattle.layout.specs.Pages.{linksAt}
 use Rattle.layout.specs.declared.Opening.{Opening}
 use Rattle.layout.specs.declared.Opening.the-variants.{Shown, Refused}
 use Rattle.layout.specs.Settings.{freeAt}
@@ -16,8 +17,8 @@ use Rattle.trie_remove.specs.declared.Removed.the-variants.{Done, Broken}
 use Rattle.trie_remove.specs.Remove.{Gone, gone}
 use Rattle.promises.specs.Tables.{Tables, given, rowsOf}
 use Rattle.promises.specs.Answers.{number}
-use Rattle.store.specs.Sound.{Sound}
-use Rattle.store.specs.Calls.{Outcome, outcome, DropPromise}
+use Rattle.promises.specs.Sound.{Sound}
+use Rattle.promises.specs.Store.{Outcome, outcome, DropPromise}
 use Rattle.add_page.specs.Admission.{admission}
 use Rattle.add_page.proofs.Adds.{same-tables, same-stopped}
 use Rattle.drop_laws.specs.Removal.{removeAll}
@@ -56,9 +57,9 @@ module _ (T : Tables) (p : ℕ) (z : number T [] (drop p) ≡ 0) (N P : List ℕ
   known : Admitted T p
   known = admitted T p z
 
-  within : GoneIn (given T .nodes) (2 * given T .pages) ((2 + given T .blocks) * given T .pages) (T .nodes) (T .pages) (gone N P r)
+  within : GoneIn (given T .nodes) (linksAt (given T .pages)) ((2 + given T .blocks) * given T .pages) (T .nodes) (T .pages) (gone N P r)
   within =
-      subst (GoneIn (given T .nodes) (2 * given T .pages) ((2 + given T .blocks) * given T .pages) (T .nodes) (T .pages)) is
+      subst (GoneIn (given T .nodes) (linksAt (given T .pages)) ((2 + given T .blocks) * given T .pages) (T .nodes) (T .pages)) is
       (all-within (given T) (T .sketches) p (known .limits .nodes-least) (row-octets (given T) (T .sketches) p (row-in T p known)) (T .nodes) (T .pages) (getD (T .settings) freeAt 0))
 
   -- the page left every trie

@@ -6,16 +6,17 @@ use mathlib.Core.List.{List}
 use lib.ListN.{set, length-set}
 use lib.Seq.{take-set-le, drop-set-lt, take-set-lt}
 use Rattle.layout.specs.Settings.{freeAt}
+use Rattle.layout.specs.Nodes.{nodeWords}
 use Rattle.layout.specs.Lengths.{nodesLength, pagesLength}
-use Rattle.layout.specs.Pages.{withoutPage}
+use Rattle.layout.specs.Pages.{withoutPage, linksAt}
 use Rattle.layout.proofs.Words.{live-inside}
 use Rattle.promises.specs.Tables.{Tables, given}
-use Rattle.store.specs.Calls.{SameRest, pageWords}
+use Rattle.promises.specs.Store.{SameRest, pageWords}
 use Rattle.drop_laws.specs.After.{withTries, dropped}
 use Rattle.drop_laws.proofs.Inside.{Within}
 
-module _ (T : Tables) (N P : List ℕ) (nodes : Within 0 (10 * given T .nodes) (T .nodes) N)
-    (pages : Within (2 * given T .pages) ((2 + given T .blocks) * given T .pages) (T .pages) P) where
+module _ (T : Tables) (N P : List ℕ) (nodes : Within 0 (nodeWords (given T .nodes)) (T .nodes) N)
+    (pages : Within (linksAt (given T .pages)) ((2 + given T .blocks) * given T .pages) (T .pages) P) where
   pub tries-rest : SameRest T (withTries T N P)
   unfolding nodesLength pagesLength
   tries-rest = record {
@@ -48,7 +49,7 @@ module _ (T : Tables) (N P : List ℕ) (nodes : Within 0 (10 * given T .nodes) (
     pub dropped-page : pageWords T (withoutPage P p) ≡ pageWords T (withoutPage (T .pages) p)
     unfolding withoutPage
     dropped-page =
-        let inside : p < 2 * given T .pages = omega arith in
-        take-set-lt (2 * given T .pages) P p 0 inside
+        let inside : p < linksAt (given T .pages) = omega arith in
+        take-set-lt (linksAt (given T .pages)) P p 0 inside
         ∙ ap (λ (l : List ℕ). set l p 0) (pages .front)
-        ∙ sym (take-set-lt (2 * given T .pages) (T .pages) p 0 inside)
+        ∙ sym (take-set-lt (linksAt (given T .pages)) (T .pages) p 0 inside)

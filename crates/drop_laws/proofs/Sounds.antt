@@ -14,7 +14,7 @@ use Rattle.meaning.specs.Trie.{Tree}
 use Rattle.meaning.specs.Ledger.{Settings, drop}
 use Rattle.meaning.specs.Forest.{bytesOfSketch, bytesIn, eachFrom, forestAfter, totalNodes}
 use Rattle.layout.specs.Settings.{freeAt, settingsOf}
-use Rattle.layout.specs.Pages.{nextAt, isLive, rowOf, withoutPage}
+use Rattle.layout.specs.Pages.{nextAt, isLive, rowOf, withoutPage, linksAt}
 use Rattle.layout.proofs.Tests.{and-left}
 use Rattle.layout.proofs.Words.{live-struck, live-struck-other, class-struck, live-kept, class-kept, link-behind}
 use Rattle.layout.proofs.Written.{settings-set}
@@ -30,7 +30,7 @@ use Rattle.trie_room.proofs.RowBytes.{row-same}
 use Rattle.trie_remove.specs.declared.Removed.the-variants.{Done}
 use Rattle.trie_remove.specs.Remove.{gone}
 use Rattle.promises.specs.Tables.{Tables, given, pageClass, pageRow, rowsOf}
-use Rattle.store.specs.Sound.{triesCells, Rooted, livePage, pageBytes, SoundPage, Sound}
+use Rattle.promises.specs.Sound.{triesCells, Rooted, livePage, pageBytes, SoundPage, Sound}
 use Rattle.add_page.proofs.Claims.{trie-none}
 use Rattle.add_page.proofs.Spares.{free-none}
 use Rattle.add_page.proofs.NewBytes.{live-bytes}
@@ -69,7 +69,7 @@ each-same s s' b b' v v' F F' e f g h k = rw (e, f, g, h) k
 
 -- ---- the pages after a drop
 module _ (T : Tables) (p : ℕ) (a : Admitted T p) (N P : List ℕ) (free : ℕ)
-    (kept : Within (2 * given T .pages) ((2 + given T .blocks) * given T .pages) (T .pages) P) where
+    (kept : Within (linksAt (given T .pages)) ((2 + given T .blocks) * given T .pages) (T .pages) P) where
   abbrev T' : Tables
   T' = dropped T p N P free
 
@@ -150,9 +150,9 @@ module _ (T : Tables) (F : List Tree) (S : Sound T F) (p : ℕ) (a : Admitted T 
   left-is =
       ap (λ (k : ℕ). removeFrom (given T) (T .sketches) p k 0 (T .nodes) (T .pages) (getD (T .settings) freeAt 0)) (sym (S .holding .blocks)) ∙ left .is
 
-  kept : Within (2 * given T .pages) ((2 + given T .blocks) * given T .pages) (T .pages) (left .pagesTo)
+  kept : Within (linksAt (given T .pages)) ((2 + given T .blocks) * given T .pages) (T .pages) (left .pagesTo)
   kept =
-      subst (GoneIn (given T .nodes) (2 * given T .pages) ((2 + given T .blocks) * given T .pages) (T .nodes) (T .pages)) left-is
+      subst (GoneIn (given T .nodes) (linksAt (given T .pages)) ((2 + given T .blocks) * given T .pages) (T .nodes) (T .pages)) left-is
       (all-within (given T) (T .sketches) p (a .limits .nodes-least) (row-octets (given T) (T .sketches) p (row-in T p a)) (T .nodes) (T .pages) (getD (T .settings) freeAt 0)) .1
 
   forest-is : eachFrom (Removes (pageBytes T) p) 0 F ≡ forestAfter (given T) (rowsOf T) (drop p) F

@@ -8,7 +8,7 @@ use Rattle.layout.specs.declared.Opening.the-variants.{Shown, Refused}
 use Rattle.layout.specs.Settings.{freeAt}
 use Rattle.layout.specs.Pages.{withoutPage}
 use Rattle.promises.specs.Tables.{Tables, given}
-use Rattle.store.specs.Calls.{Outcome, outcome}
+use Rattle.promises.specs.Store.{Outcome, outcome}
 use Rattle.trie_remove.specs.declared.Removed.the-variants.{Done, Broken}
 use Rattle.trie_remove.specs.Remove.{Gone, gone}
 use Rattle.add_page.specs.Admission.{admission}

@@ -14,7 +14,7 @@ use Rattle.layout.specs.Settings.{settingsLength, freeAt}
 use Rattle.layout.proofs.Words.{live-inside}
 use Rattle.promises.specs.Tables.{Tables, tables, given}
 use Rattle.promises.specs.Answers.{number}
-use Rattle.store.specs.Calls.{outcome, DropPromise}
+use Rattle.promises.specs.Store.{outcome, DropPromise}
 use Rattle.trie_remove.specs.declared.Removed.{Removed}
 use Rattle.trie_remove.specs.declared.Removed.the-variants.{Done, Broken}
 use Rattle.trie_remove.specs.Remove.{gone}

@@ -10,8 +10,8 @@ ghost use Rattle.trie_room.specs.RowBytes.{rowBytes};
 ghost use Rattle.trie_remove.specs.Remove.{gone};
 ghost use Rattle.drop_laws.specs.Removal.{removeBlock, removeAll};
 ghost use Rattle.drop_page.specs.Lent.{Lent};
+use layout::Block;
 use layout::Header;
-use trie::Block;
 use trie_remove::Removed;
 use trie_room::rows::rows_of;
 

@@ -2,7 +2,7 @@
 ghost use mathlib.Core.Path.{_≡_};
 ghost use mathlib.Core.List.{[]};
 ghost use Rattle.promises.specs.Tables.{tables};
-ghost use Rattle.store.specs.Calls.{outcome, DropPromise};
+ghost use Rattle.promises.specs.Store.{outcome, DropPromise};
 ghost use Rattle.drop_laws.specs.After.{dropPage};
 use crate::blocks;
 use crate::questions;

@@ -14,10 +14,10 @@ pub fn admit(settings: &[u32], nodes: &[u32], pages: &[u32], sketches: &[u8], pa
         Opening::Refused(number) => return Opening::Refused(number),
         Opening::Shown(h) => h,
     };
-    if !index::tables::long_nodes(h, nodes) {
+    if !entry::long_nodes(h, nodes) {
         return Opening::Refused(6);
     }
-    if !index::tables::long_pages(h, pages, sketches) {
+    if !entry::long_pages(h, pages, sketches) {
         return Opening::Refused(6);
     }
     if h.pages <= page as usize {

@@ -11,10 +11,10 @@ use Rattle.meaning.specs.Forest.{forest}
 use Rattle.promises.specs.Tables.{Tables, settingsAlone, withSettings}
 use Rattle.rights.specs.Register.{registered}
 use Rattle.promises.specs.Answers.{number, opened}
-use Rattle.store.specs.Sound.{Sound}
-use Rattle.store.specs.Calls.{Outcome, outcome, AddPromise, DropPromise}
-use Rattle.store.specs.Relation.{Answer, numberAlone, toStore, withOpening, withWorking, Promised}
-use Rattle.store.proofs.Readings.{law}
+use Rattle.promises.specs.Sound.{Sound}
+use Rattle.promises.specs.Store.{Outcome, outcome, AddPromise, DropPromise}
+use Rattle.promises.specs.Relation.{Answer, numberAlone, toStore, withOpening, withWorking, Promised}
+use Rattle.promises.proofs.Readings.{law}
 use Rattle.add_page.specs.Add.{addPage}
 use Rattle.add_page.proofs.Adds.{add-promise}
 use Rattle.drop_laws.specs.After.{dropPage}

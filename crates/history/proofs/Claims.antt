@@ -12,7 +12,7 @@ use Rattle.meaning.specs.Lists.{from}
 use Rattle.trie.specs.Heap.{hit, nodeClaims, pageClaims}
 use Rattle.trie.specs.Phys.{Phys, leafP, noHeads, freeCells}
 use Rattle.layout.specs.Nodes.{headAt}
-use Rattle.store.specs.Sound.{triesCells}
+use Rattle.promises.specs.Sound.{triesCells}
 
 -- how often a word is among n from k on
 among : ℕ → ℕ → ℕ → ℕ

@@ -22,8 +22,8 @@ use Rattle.rights.specs.Register.{withMember, withGrant, registered}
 use Rattle.promises.specs.Tables.{Tables, withSettings}
 use Rattle.promises.specs.Answers.{longFor, longSettings, longNodes, longPages, longWorking, entered, shown56, number, freeLink, freshSettings, freshChain, freshState, freshNodes, freshPages, opened}
 use Rattle.promises.specs.Calls.{OpenPromise, RightsPromise}
-use Rattle.store.specs.Calls.{SameRest, PageAdded}
-use Rattle.store.specs.Relation.{toStore, numberAlone}
+use Rattle.promises.specs.Store.{SameRest, PageAdded}
+use Rattle.promises.specs.Relation.{toStore, numberAlone}
 use Rattle.history.specs.History.{event, History, begun, called, admitted, judged}
 use Rattle.history.proofs.Represents.{Represents}
 use Rattle.history.proofs.Steps.{adds}

@@ -6,8 +6,8 @@ use mathlib.Core.List.{List}
 use borrow.Author.Tests.{ne-eqb}
 use Rattle.meaning.specs.Ledger.{search, Call, opening, add, drop, change, reading}
 use Rattle.promises.specs.Tables.{Tables}
-use Rattle.store.specs.Relation.{Answer, Promised}
-use Rattle.store.proofs.Readings.{law}
+use Rattle.promises.specs.Relation.{Answer, Promised}
+use Rattle.promises.proofs.Readings.{law}
 use Rattle.history.proofs.Opening.{left-by}
 use Rattle.history.proofs.Keeps.{rejoin}
 

@@ -13,7 +13,7 @@ use Rattle.meaning.specs.Trie.{Tree, fresh}
 use Rattle.meaning.specs.Ledger.{Settings, opening}
 use Rattle.meaning.specs.Questions.{inLimits}
 use Rattle.layout.specs.Settings.{freeAt, header}
-use Rattle.layout.specs.Nodes.{headAt, stateAt, freeState}
+use Rattle.layout.specs.Nodes.{nodeWords, headAt, stateAt, freeState}
 use Rattle.layout.specs.Pages.{isLive}
 use Rattle.layout.specs.Lengths.{nodesLength}
 use Rattle.layout.proofs.Limits.{bounds}
@@ -23,7 +23,7 @@ use Rattle.trie_laws.proofs.Block.{fresh-forest}
 use Rattle.trie_laws.proofs.Forest.{total-fresh}
 use Rattle.promises.specs.Tables.{Tables, given}
 use Rattle.promises.specs.Answers.{longFor, longSettings, freeLink, freshSettings, freshChain, freshState, freshNodes, opened}
-use Rattle.store.specs.Sound.{triesCells, Rooted, Holding, livePage, pageBytes, Sound}
+use Rattle.promises.specs.Sound.{triesCells, Rooted, Holding, livePage, pageBytes, Sound}
 use Rattle.history.proofs.Represents.{settings-read}
 use Rattle.history.proofs.Opening.{onto-word, from-length, settings-length, nodes-length, no-page, beginning, header-length}
 use Rattle.history.proofs.Claims.{roots, tries-pages, free-pages, all-claims}
@@ -49,7 +49,7 @@ module _ (s : Settings) (limits : inLimits s ≡ true) (T : Tables) where
   abbrev ws : List ℕ
   ws = opened s T .nodes
 
-  word-at : (i : ℕ) → i < 10 * N → getD (opened s T .nodes) i 0 ≡ getD (freshNodes s) i 0
+  word-at : (i : ℕ) → i < nodeWords N → getD (opened s T .nodes) i 0 ≡ getD (freshNodes s) i 0
   unfolding opened nodesLength
   word-at i h = onto-word (freshNodes s) (T .nodes) i (omega (arith, nodes-length s limits))
 

@@ -19,11 +19,11 @@ use Rattle.layout.specs.Lengths.{workingLength}
 use Rattle.promises.specs.Tables.{Tables, takesOf, withSettings, pageClass, pageRow, rowsOf}
 use Rattle.rights.specs.Register.{registered}
 use Rattle.promises.specs.Answers.{entered}
-use Rattle.store.specs.Sound.{Sound}
-use Rattle.store.specs.Calls.{workingLeft}
-use Rattle.store.specs.Relation.{Answer, toStore, withWorking, Promised}
-use Rattle.store.proofs.Numbers.{number-in}
-use Rattle.store.proofs.Readings.{workingAfter, law}
+use Rattle.promises.specs.Sound.{Sound}
+use Rattle.promises.specs.Readings.{workingLeft}
+use Rattle.promises.specs.Relation.{Answer, toStore, withWorking, Promised}
+use Rattle.promises.proofs.Numbers.{number-in}
+use Rattle.promises.proofs.Readings.{workingAfter, law}
 use Rattle.history.specs.History.{event, admitted, judged, zeroed}
 use Rattle.history.proofs.Lists.{passed}
 use Rattle.history.proofs.Represents.{Represents, given-eq, long-working, past-6}

@@ -16,10 +16,10 @@ use Rattle.meaning.specs.Ledger.{Ledger, Event, search, show, check, reading, s
 use Rattle.meaning.specs.Forest.{forest, forestAfter}
 use Rattle.promises.specs.Tables.{Tables, pageRow, scan}
 use Rattle.promises.specs.Answers.{entered}
-use Rattle.promises.specs.Calls.{rowShown}
-use Rattle.store.specs.Calls.{earlyNumber}
-use Rattle.store.specs.Relation.{Answer, toShow, Promised}
-use Rattle.store.proofs.Readings.{number-show}
+use Rattle.promises.specs.Readings.{rowShown}
+use Rattle.promises.specs.Readings.{earlyNumber}
+use Rattle.promises.specs.Relation.{Answer, toShow, Promised}
+use Rattle.promises.proofs.Readings.{number-show}
 use Rattle.history.specs.History.{History, begun, called, foreign, admitted, judged, RightlyPut, Found, sketchIn, Claim, Agree}
 use Rattle.history.proofs.Lists.{passed}
 use Rattle.history.proofs.Represents.{found-eq, number-eq}

@@ -7,9 +7,9 @@ use Rattle.meaning.specs.Ledger.{Ledger, Call, opening, add, drop, change, read
 use Rattle.meaning.specs.Questions.{asked}
 use Rattle.promises.specs.Tables.{Tables, pageClass, pageRow, rowsOf, byTables}
 use Rattle.promises.specs.Answers.{longFor, longSettings, longNodes, longPages, shown56, entered, number}
-use Rattle.store.specs.Sound.{Sound}
-use Rattle.store.specs.Relation.{Answer, toStore, Promised}
-use Rattle.store.proofs.Readings.{law}
+use Rattle.promises.specs.Sound.{Sound}
+use Rattle.promises.specs.Relation.{Answer, toStore, Promised}
+use Rattle.promises.proofs.Readings.{law}
 use Rattle.history.specs.History.{judged}
 use Rattle.history.proofs.Represents.{Represents, number-eq}
 use Rattle.history.proofs.Store.{sound-working}

@@ -21,7 +21,7 @@ use Rattle.layout.proofs.Limits.{bounds}
 use Rattle.rights.proofs.Pairs.{holds-none}
 use Rattle.promises.specs.Tables.{Tables, given, rowsOf}
 use Rattle.promises.specs.Answers.{longFor, longSettings, longNodes, longPages, entered, number, freeLink, freshSettings, freshNodes, freshPages, opened}
-use Rattle.store.specs.Relation.{Answer, withOpening, Promised}
+use Rattle.promises.specs.Relation.{Answer, withOpening, Promised}
 use Rattle.history.proofs.Lists.{passed, rows-none}
 use Rattle.history.proofs.Represents.{Represents, AsLong, long-kept, settings-read}
 

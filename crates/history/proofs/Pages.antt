@@ -10,7 +10,7 @@ use lib.ListN.{length, take}
 use borrow.Author.Tests.{eqb-true, eqb-false}
 use Rattle.meaning.specs.Lists.{keep}
 use Rattle.meaning.specs.Ledger.{Row, putRow}
-use Rattle.layout.specs.Pages.{isLive, classOf, rowOf, withPage, withoutPage}
+use Rattle.layout.specs.Pages.{isLive, classOf, rowOf, withPage, withoutPage, linksAt}
 use Rattle.layout.specs.Settings.{membersAt}
 use Rattle.layout.proofs.Words.{live-kept, class-kept, live-written, live-written-other, class-written, class-written-other, live-struck, live-struck-other, class-struck}
 use Rattle.layout.proofs.Written.{settings-kept}
@@ -35,7 +35,7 @@ rows-same P m pages pages′ sketches sketches′ e rows =
 
 -- of all tables they read the header, these words and the rows of the sketch table
 pub rows-of : (T T′ : Tables) → take membersAt (T′ .settings) ≡ take membersAt (T .settings)
-    → take (2 * given T .pages) (T′ .pages) ≡ take (2 * given T .pages) (T .pages)
+    → take (linksAt (given T .pages)) (T′ .pages) ≡ take (linksAt (given T .pages)) (T .pages)
     → ((i : ℕ) → i < given T .pages → rowOf (given T .symbols) (T′ .sketches) i ≡ rowOf (given T .symbols) (T .sketches) i) → rowsOf T′ ≡ rowsOf T
 unfolding rowsOf pageClass pageRow
 rows-of T T′ h e rows =

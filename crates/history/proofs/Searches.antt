@@ -18,7 +18,7 @@ use Rattle.layout.specs.Pages.{isLive}
 use Rattle.layout.proofs.Tests.{and-left}
 use Rattle.promises.specs.Tables.{Tables, pageRow, isShown, scan}
 use Rattle.promises.specs.Answers.{number}
-use Rattle.store.specs.Calls.{Lists}
+use Rattle.promises.specs.Readings.{Lists}
 use Rattle.history.specs.History.{admitted, judged, RightlyPut, Found, sketchIn, rising, Agree}
 use Rattle.history.proofs.Lists.{passed, rows-sketch, rows-keep, rising-keep, rising-ext, any-map}
 use Rattle.history.proofs.Pages.{rowAt}

@@ -22,8 +22,8 @@ use Rattle.rights.specs.Register.{registered}
 use Rattle.rights.proofs.Pairs.{Holds, Changed, holds-same, made}
 use Rattle.promises.specs.Tables.{Tables, withSettings, pageClass, pageRow, rowsOf}
 use Rattle.promises.specs.Answers.{longSettings}
-use Rattle.store.specs.Calls.{SameRest, pageWords, PageAdded}
-use Rattle.store.specs.Relation.{toStore, withWorking}
+use Rattle.promises.specs.Store.{SameRest, pageWords, PageAdded}
+use Rattle.promises.specs.Relation.{toStore, withWorking}
 use Rattle.history.specs.History.{admitted, judged}
 use Rattle.history.proofs.Lists.{passed}
 use Rattle.history.proofs.Pages.{rowsIn, rows-add, rows-drop, live-add, live-drop, class-add, class-drop}

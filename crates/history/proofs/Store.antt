@@ -7,8 +7,8 @@ use Rattle.meaning.specs.Trie.{Tree}
 use Rattle.layout.specs.Settings.{membersAt, freeAt, settingsOf}
 use Rattle.layout.proofs.Written.{settings-kept}
 use Rattle.promises.specs.Tables.{Tables, pageClass, pageRow}
-use Rattle.store.specs.Sound.{livePage, pageBytes, SoundPage, Sound}
-use Rattle.store.specs.Relation.{toStore, withWorking}
+use Rattle.promises.specs.Sound.{livePage, pageBytes, SoundPage, Sound}
+use Rattle.promises.specs.Relation.{toStore, withWorking}
 
 -- another settings table and another working table
 abbrev others : Tables → List ℕ → List ℕ → Tables

@@ -14,8 +14,8 @@ use Rattle.meaning.specs.Questions.{asked, byLedger}
 use Rattle.layout.specs.Lengths.{workingLength}
 use Rattle.promises.specs.Tables.{Tables}
 use Rattle.promises.specs.Answers.{entered}
-use Rattle.store.specs.Sound.{Sound}
-use Rattle.store.specs.Relation.{Answer, Promised}
+use Rattle.promises.specs.Sound.{Sound}
+use Rattle.promises.specs.Relation.{Answer, Promised}
 
 -- a call that gave this number
 abbrev pub event : Call → ℕ → Event

@@ -12,8 +12,9 @@ use Rattle.meaning.specs.Rights.{Change}
 use Rattle.meaning.specs.Journal.{opens, adds, drops, changes, searches, callOf}
 use Rattle.promises.specs.Tables.{Tables, tables, withSettings}
 use Rattle.promises.specs.Calls.{OpenPromise, RightsPromise, settingsGiven}
-use Rattle.store.specs.Calls.{AddPromise, DropPromise, SearchPromise, Lists, earlyNumber, listedOf}
-use Rattle.store.specs.Relation.{toStore, withOpening, withWorking}
+use Rattle.promises.specs.Store.{AddPromise, DropPromise}
+use Rattle.promises.specs.Readings.{SearchPromise, Lists, earlyNumber, listedOf}
+use Rattle.promises.specs.Relation.{toStore, withOpening, withWorking}
 use Rattle.history.proofs.Lists.{passed}
 use Rattle.journal_calls.specs.Turns.{pageCapacity, nodeCapacity, foundAfter, Executed}
 

@@ -19,7 +19,7 @@ use Rattle.layout.proofs.Limits.{bounds}
 use Rattle.promises.specs.Tables.{Tables}
 use Rattle.promises.specs.Answers.{longNodes, longPages, longWorking, longFor, longSettings, entered, number}
 use Rattle.promises.specs.Calls.{settingsGiven}
-use Rattle.store.specs.Relation.{Answer, Promised}
+use Rattle.promises.specs.Relation.{Answer, Promised}
 use Rattle.journal_calls.specs.Turns.{pageCapacity, nodeCapacity, made}
 use Rattle.journal_calls.specs.Runs.{nodesLent, workingLent, Roomy}
 

@@ -12,7 +12,7 @@ use Rattle.meaning.specs.Ledger.{Event, ledger}
 use Rattle.meaning.specs.Forest.{forest}
 use Rattle.meaning.specs.Journal.{Command, opens, byteAt, wordAt, next, command-to}
 use Rattle.promises.specs.Tables.{Tables}
-use Rattle.store.specs.Relation.{Answer, Promised}
+use Rattle.promises.specs.Relation.{Answer, Promised}
 use Rattle.history.specs.History.{History, event, Claim}
 use Rattle.history.proofs.Main.{theorem}
 use Rattle.journal_calls.specs.Turns.{State, state, made, goesOn, Carried, ends, refuses, carries}

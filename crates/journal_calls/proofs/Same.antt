@@ -7,7 +7,7 @@ use lib.Dec.{eqb}
 use types.Run.{OneOf, miss}
 use denote.Enum.Declared.{tagOf}
 use Rattle.meaning.specs.Journal.{callOf, refusalLine}
-use Rattle.store.specs.Relation.{Answer}
+use Rattle.promises.specs.Relation.{Answer}
 use Rattle.journal.specs.Steps.{meant}
 use Rattle.journal.specs.declared.commands.Command.{Command}
 use Rattle.journal.proofs.commands.Command.{the-type}

@@ -7,7 +7,7 @@ use lib.ListN.{length}
 use Rattle.meaning.specs.Ledger.{Event}
 use Rattle.meaning.specs.Journal.{Command, opens, callOf}
 use Rattle.promises.specs.Tables.{Tables}
-use Rattle.store.specs.Relation.{Answer, Promised}
+use Rattle.promises.specs.Relation.{Answer, Promised}
 use Rattle.history.specs.History.{History, begun, called, event}
 use Rattle.journal_calls.specs.Turns.{State, made, goesOn, Stopped, Carried, Turned, ends, refuses, carries}
 use Rattle.journal_calls.proofs.Reading.{moves-on}

@@ -5,6 +5,7 @@ use mathlib.Core.List.{List, [], _∷_, _++_}
 use lib.ListN.{length}
 use Rattle.meaning.specs.Ledger.{Event, ledger}
 use Rattle.meaning.specs.Forest.{forest}
+use Rattle.layout.specs.Nodes.{nodeWords}
 use Rattle.layout.specs.Settings.{settingsLength}
 use Rattle.promises.specs.Tables.{Tables}
 use Rattle.history.specs.History.{event, History, Claim}
@@ -31,7 +32,7 @@ opened (e ∷ (e′ ∷ es)) = opened (e′ ∷ es)
 
 -- the lengths of the program's tables, which suffice for its capacities and any settings: at most 8 blocks, at most 64 symbols
 abbrev pub nodesLent : ℕ
-nodesLent = 10 * nodeCapacity
+nodesLent = nodeWords nodeCapacity
 
 abbrev pub pagesLent : ℕ
 pagesLent = (2 + 8) * pageCapacity

@@ -8,7 +8,7 @@ use lib.ListN.{length, take}
 use Rattle.meaning.specs.Journal.{Command, callOf, ifSearch, next, ended, refused, command-to, searchLine, refusalLine}
 use Rattle.meaning.specs.Ledger.{Call, ifOpening}
 use Rattle.promises.specs.Tables.{Tables}
-use Rattle.store.specs.Relation.{Answer, Promised}
+use Rattle.promises.specs.Relation.{Answer, Promised}
 
 -- the program's capacities
 abbrev pub pageCapacity : ℕ

@@ -4,12 +4,11 @@ ghost use mathlib.Core.Path.{_≡_};
 ghost use lib.ListN.{length, replicate};
 ghost use Rattle.promises.specs.Tables.{tables};
 ghost use Rattle.promises.specs.Calls.{OpenPromise, RightsPromise, settingsGiven};
-ghost use Rattle.store.specs.Calls.{SearchPromise};
+ghost use Rattle.promises.specs.Readings.{SearchPromise};
 ghost use Rattle.journal.specs.Steps.{changeMeant, meant, symbolsEnd};
 ghost use Rattle.journal_calls.specs.Turns.{pageCapacity, nodeCapacity, Executed};
 use add_page::add::add;
 use drop_page::drop::drop_page;
-use index::register;
 use journal::commands::Change;
 use journal::commands::Command;
 use journal::commands::symbols_at;
@@ -47,7 +46,7 @@ fn open_levels(
     ensures { λ r. ⌜ OpenPromise (settingsGiven b m q pageCapacity nodeCapacity (replicate 64 threshold)) (tables (now (settings .entry)) (now (nodes .entry)) (now (pages .entry)) (now (sketches .entry)) (now (working .entry))) r (now (settings .exit)) (now (nodes .exit)) (now (pages .exit)) ⌝ }
 {
     let thresholds = [threshold; 64];
-    index::open::open(
+    open::open(
         settings,
         nodes,
         pages,

@@ -8,6 +8,8 @@ use Rattle.meaning.specs.Ledger.{Settings}
 use Rattle.meaning.specs.SketchCalls.{sketchLimits}
 use Rattle.layout.specs.declared.Header.{Header}
 use Rattle.layout.specs.Header.{headerOf}
+use Rattle.layout.specs.Nodes.{mostNodes}
+use Rattle.layout.specs.Pages.{mostPages}
 
 -- 4 with the count of the thresholds: that each has 16 bits is left out
 unfoldable pub limitsOf : ℕ → ℕ → ℕ → ℕ → ℕ → ℕ → Bool
@@ -15,7 +17,7 @@ limitsOf b m q P N count =
     sketchLimits b m
     && (ltb 0 q && leb q 8 && leb q m)
     && (ltb 0 P && ltb P 65536)
-    && (leb q N && leb N 262144)
+    && (leb q N && leb N mostNodes)
     && eqb count 64
 
 -- a header that passes 4
@@ -28,9 +30,9 @@ pub record HeaderLimits (h : Header) : Type 0 where
   pub blocks-most : h .q ≤ 8
   pub blocks-fit : h .q ≤ h .m
   pub pages-least : 1 ≤ h .pages
-  pub pages-most : h .pages ≤ 65535
+  pub pages-most : h .pages ≤ mostPages
   pub nodes-least : h .q ≤ h .nodes
-  pub nodes-most : h .nodes ≤ 262144
+  pub nodes-most : h .nodes ≤ mostNodes
 
 -- settings that pass 4
 pub record Bounds (s : Settings) : Type 0 where

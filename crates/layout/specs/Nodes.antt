@@ -1,18 +1,35 @@
 -- The node table, of N nodes: N chain words, N state words, then eight heads a node. A link is 0 for none, else a number + 1.
 use Prim.Native.Nat.{ℕ, _+_, _*_, _/_, _%_}
-use mathlib.Core.List.{List}
-use lib.ListN.{getD}
+
+-- the limit of document 01 on the capacity
+abbrev pub mostNodes : ℕ
+mostNodes = 262144
+
+-- how many words a table of N nodes needs
+abbrev pub nodeWords : ℕ → ℕ
+nodeWords N = 10 * N
+
+-- links are below this
+abbrev pub linkBase : ℕ
+linkBase = 524288
+
+-- A walk over the nodes of a trie takes at most so many steps for each: one to it, one up, and one to each of its chains.
+abbrev pub nodeSteps : ℕ
+nodeSteps = 10
+
+abbrev pub stepsFor : ℕ → ℕ
+stepsFor N = nodeSteps * (N + 1)
 
 -- A chain word holds a link to the next sibling, or to the next free node, and the node's byte above it.
 -- A head holds a link to the first child of its range of 32 bytes. A word that holds a link is a slot.
 abbrev pub linkOf : ℕ → ℕ
-linkOf w = w % 524288
+linkOf w = w % linkBase
 
 abbrev pub byteOf : ℕ → ℕ
-byteOf w = w / 524288
+byteOf w = w / linkBase
 
 abbrev pub chainWord : ℕ → ℕ → ℕ
-chainWord byte link = link + byte * 524288
+chainWord byte link = link + byte * linkBase
 
 -- a slot's word with another link
 abbrev pub withLink : ℕ → ℕ → ℕ

@@ -6,6 +6,14 @@ use mathlib.Core.List.{List, _++_}
 use lib.Dec.{eqb}
 use lib.ListN.{getD, set, take, drop}
 
+-- the limit of document 01 on the capacity
+abbrev pub mostPages : ℕ
+mostPages = 65535
+
+-- where the links begin, behind the live words and the classes
+abbrev pub linksAt : ℕ → ℕ
+linksAt P = 2 * P
+
 -- where block j's links begin: page p's link is at nextAt P j + p
 abbrev pub nextAt : ℕ → ℕ → ℕ
 nextAt P j = (2 + j) * P

@@ -23,6 +23,10 @@ membersAt = 70
 abbrev pub grantsAt : ℕ
 grantsAt = 326
 
+-- how many words the memberships and grants take
+abbrev pub registerLength : ℕ
+registerLength = 320
+
 -- the word with the link to the first free node
 abbrev pub freeAt : ℕ
 freeAt = 390

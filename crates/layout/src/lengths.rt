@@ -10,7 +10,7 @@ pub fn nodes_length(h: Header) -> usize
     requires { ⌜ HeaderLimits h ⌝ }
     ensures { λ r. ⌜ r ≡ nodesLength (bare h) ⌝ }
 {
-    10 * h.nodes
+    crate::nodes::WORDS * h.nodes
 }
 
 pub fn pages_length(h: Header) -> usize

@@ -18,3 +18,10 @@ pub enum Opening {
     Shown(Header),
     Refused(u32),
 }
+
+// Where one block's trie lies: the capacities, and where the links of its pages begin in the page table.
+pub struct Block {
+    pub nodes: usize,
+    pub pages: usize,
+    pub base: usize,
+}

@@ -2,7 +2,7 @@
 ghost use mathlib.Core.Path.{_≡_};
 ghost use Prim.Native.Nat.{_+_, _*_, _≤_, _<_};
 ghost use lib.ListN.{length};
-ghost use Rattle.layout.specs.Pages.{isLive, classOf, nextAt, rowOf, withPage, withoutPage, withRow};
+ghost use Rattle.layout.specs.Pages.{mostPages, isLive, classOf, nextAt, rowOf, withPage, withoutPage, withRow};
 
 pub fn is_live(pages: &[u32], p: usize) -> bool
     requires { ⌜ p < length (now pages) ⌝ }
@@ -21,7 +21,7 @@ pub fn class_of(pages: &[u32], cap: usize, p: usize) -> u32
 
 // Where the links of block j begin.
 pub fn next_at(cap: usize, j: usize) -> usize
-    requires { ⌜ (cap ≤ 65535) × (j < 8) ⌝ }
+    requires { ⌜ (cap ≤ mostPages) × (j < 8) ⌝ }
     ensures { λ r. ⌜ r ≡ nextAt cap j ⌝ }
 {
     (2 + j) * cap

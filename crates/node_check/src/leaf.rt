@@ -4,7 +4,7 @@ ghost use Prim.Native.Nat.{_≤_, _<_};
 ghost use lib.ListN.{length};
 ghost use Rattle.trie.specs.Tables.{NodeTable, PageTable, RowTable};
 ghost use Rattle.node_check.specs.Leaf.{bare, kindOf, onPath, testLeaf};
-use trie::Block;
+use layout::Block;
 use trie::Rows;
 
 pub enum Kind {

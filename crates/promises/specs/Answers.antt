@@ -9,7 +9,7 @@ use Rattle.meaning.specs.Refusal.{Question, ask, firstNo}
 use Rattle.meaning.specs.Trie.{Tree}
 use Rattle.meaning.specs.Ledger.{Settings, Call, ifOpening}
 use Rattle.meaning.specs.Questions.{inLimits, asked}
-use Rattle.layout.specs.Settings.{settingsLength, header, settingsOf, showsOpening}
+use Rattle.layout.specs.Settings.{settingsLength, registerLength, header, settingsOf, showsOpening}
 use Rattle.layout.specs.Nodes.{chainWord, freeState, leafState}
 use Rattle.layout.specs.Lengths.{nodesLength, pagesLength, sketchesLength, workingLength}
 use Rattle.promises.specs.Tables.{Tables, takes, given, byTables}
@@ -55,7 +55,7 @@ unfoldable pub freeLink : ℕ → ℕ → ℕ
 freeLink N x = cond (ltb x N) (suc x) 0
 
 unfoldable pub freshSettings : Settings → List ℕ
-freshSettings s = header s ++ (replicate 320 0 ++ freeLink (s .nodes) (s .blocks) ∷ [])
+freshSettings s = header s ++ (replicate registerLength 0 ++ freeLink (s .nodes) (s .blocks) ∷ [])
 
 -- the chain words of the first x nodes, the state words, and no children
 unfoldable pub freshChain : Settings → ℕ → ℕ

@@ -26,14 +26,3 @@ pub record OpenPromise (s : Settings) (T : Tables) (n : ℕ) (settings nodes pag
 pub record RightsPromise (c : Change) (ws : List ℕ) (n : ℕ) (settings : List ℕ) : Type 0 where
   pub answers : n ≡ number (settingsAlone ws) [] (change c)
   pub settings-left : settings ≡ cond (eqb (number (settingsAlone ws) [] (change c)) 0) (registered c ws) ws
-
--- a show, by where in the sketch table the part that it gives begins, and how long it is: the page's row, or no bytes at the table's start
-unfoldable pub startShown : Tables → ℕ → ℕ → ℕ
-startShown T reader p = cond (eqb (number T [] (reading (show reader p))) 0) (p * given T .symbols) 0
-
-unfoldable pub lengthShown : Tables → ℕ → ℕ → ℕ
-lengthShown T reader p = cond (eqb (number T [] (reading (show reader p))) 0) (given T .symbols) 0
-
--- and by what the part holds
-unfoldable pub rowShown : Tables → ℕ → ℕ → List ℕ
-rowShown T reader p = cond (eqb (number T [] (reading (show reader p))) 0) (pageRow T p) []

@@ -10,13 +10,14 @@ use lib.Seq.{take-at}
 use Rattle.meaning.specs.Lists.{onto}
 use Rattle.meaning.specs.Sketch.{pack, packedLength, block, blockLength}
 use Rattle.meaning.specs.Forest.{bytesOfSketch}
+use Rattle.layout.specs.Nodes.{nodeWords}
 use Rattle.layout.specs.declared.Header.{Header}
 use Rattle.layout.specs.Header.{bare}
 use Rattle.layout.specs.Lengths.{nodesLength, pagesLength, workingLength}
-use Rattle.layout.specs.Pages.{nextAt}
+use Rattle.layout.specs.Pages.{nextAt, mostPages}
 use Rattle.layout.specs.Working.{mapWords, summaryWords}
 use Rattle.layout.proofs.Sizes.{map-most, pages-mapped}
-use Rattle.exact.proofs.Sizes.{bytes-length, size-most, size-some}
+use Rattle.descent.proofs.Sizes.{bytes-length, size-most, size-some}
 use Rattle.descent.specs.declared.Left.{Left}
 use Rattle.descent.specs.declared.Left.the-variants.{Some, Broken}
 use Rattle.walk.specs.Mark.{Marks, marks, broken, marksOf}
@@ -33,7 +34,7 @@ module _ (h : Header) (x : List ℕ) (fits : Fits h x) (j : ℕ) (l : j < h .q) 
   bytes-first n out e =
       take-at (pack (h .b) (block (h .m) (h .q) j x)) (drop (length (pack (h .b) (block (h .m) (h .q) j x))) out) n (bytes-length h x (fits .count) j l ∙ sym e)
 
-pub nodes-there : {h : Header} {N P M : List ℕ} → Lent h N P M → 10 * h .nodes ≤ length N
+pub nodes-there : {h : Header} {N P M : List ℕ} → Lent h N P M → nodeWords (h .nodes) ≤ length N
 unfolding nodesLength
 nodes-there lent = lent .nodes-long
 
@@ -63,7 +64,7 @@ module _ (h : Header) (N P M : List ℕ) (lent : Lent h N P M) (j : ℕ) (l : j 
   -- what marking a leaf of block j asks
   pub leaf-call : (next words : ℕ) → next ≡ nextAt (h .pages) j → words ≡ mapWords (bare h)
       → (next + h .pages ≤ length P)
-      × (((h .pages ≤ 65535) × (words ≤ 2048) × (h .pages ≤ 32 * words)) × (words + (words + 31) / 32 ≤ length M))
+      × (((h .pages ≤ mostPages) × (words ≤ 2048) × (h .pages ≤ 32 * words)) × (words + (words + 31) / 32 ≤ length M))
   unfolding workingLength summaryWords
   leaf-call next words e f =
       rw (e, f)

@@ -1,7 +1,7 @@
 -- The tables that pass 5 and 6, as the rest of a search takes them.
 use Rattle.layout.specs.declared.Header.{Header}
 use Rattle.promises.specs.Tables.{Tables}
-use Rattle.index.proofs.Enters.{Entered}
+use Rattle.entry.proofs.Enters.{Entered}
 use Rattle.search.specs.Ready.{Lent}
 
 pub lends : (T : Tables) (h : Header) → Entered T h → Lent h (T .nodes) (T .pages) (T .working)

@@ -15,8 +15,8 @@ use Rattle.layout.specs.Working.{mapWords}
 use Rattle.descent.specs.declared.Left.{Left}
 use Rattle.descent.specs.declared.Left.the-variants.{Some, Broken}
 use Rattle.descent.specs.Cursor.{leftOf}
-use Rattle.exact.specs.declared.Ends.{Ends}
-use Rattle.exact.specs.Leaves.{leafIn, drawnIn, drawnFrom, Leaves}
+use Rattle.descent.specs.declared.leaves.Ends.{Ends}
+use Rattle.descent.specs.Leaves.{leafIn, drawnIn, drawnFrom, Leaves}
 use Rattle.walk.specs.Mark.{Marks, marks, broken, marksOf, onMarks, spend, markLeaf}
 use Rattle.walk.proofs.Spend.{onMarks-same, spend-paid, spend-short, spend-same, spend-marks, spend-both}
 use Rattle.walk.proofs.Turns.{from-exact}

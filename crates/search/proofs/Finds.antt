@@ -14,7 +14,7 @@ use Rattle.words.proofs.Rising.{rising-length}
 use Rattle.hits.specs.Marks.{keptWord, summaryOf, Room, Summarised, listOf, changed, keptMap}
 use Rattle.hits.proofs.Changed.{length-changed}
 use Rattle.hits.proofs.Listed.{kept-summarised}
-use Rattle.store.specs.Calls.{Lists}
+use Rattle.promises.specs.Readings.{Lists}
 use Rattle.search_laws.proofs.Marks.{same-zeroed}
 
 -- ---- the map of the hits

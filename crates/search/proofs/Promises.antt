@@ -30,16 +30,16 @@ use Rattle.promises.specs.Answers.{number, entered, shown56, longSettings, long
 use Rattle.hits.specs.Hit.{test, isHit}
 use Rattle.hits.specs.Marks.{summaryOf, Room}
 use Rattle.hits.proofs.Listed.{testOf}
-use Rattle.store.specs.Sound.{Sound}
-use Rattle.store.specs.Calls.{workingLeft, listedOf, Lists, earlyNumber, SearchPromise}
+use Rattle.promises.specs.Sound.{Sound}
+use Rattle.promises.specs.Readings.{workingLeft, listedOf, Lists, earlyNumber, SearchPromise}
 use Rattle.walk.specs.Mark.{Marks, marks, broken}
 use Rattle.search_laws.specs.Marks.{markBlocks}
 use Rattle.search_laws.specs.Answer.{Answered, words, cleared as blank, walks, AnsweredBy}
 use Rattle.search_laws.proofs.Marks.{zeroed-onto}
 use Rattle.search_laws.proofs.Lists.{foundIn, list-met, walks-whole, list-all}
 use Rattle.search.specs.Ready.{Fits}
-use Rattle.index.specs.Entry.{tablesAsked, entry}
-use Rattle.index.proofs.Enters.{entry-refused, Entered, entry-shown}
+use Rattle.entry.specs.Entry.{tablesAsked, entry}
+use Rattle.entry.proofs.Enters.{entry-refused, Entered, entry-shown}
 use Rattle.search.specs.Questions.{queryAsked}
 use Rattle.search.proofs.Enters.{lends}
 use Rattle.search.proofs.Queries.{query-passed}

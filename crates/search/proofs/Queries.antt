@@ -12,7 +12,7 @@ use Rattle.meaning.specs.Refusal.{firstNo}
 use Rattle.meaning.specs.Sketch.{inRange}
 use Rattle.layout.specs.declared.Header.{Header}
 use Rattle.layout.proofs.Tests.{and-left}
-use Rattle.index.proofs.Questions.{all-yes}
+use Rattle.entry.proofs.Questions.{all-yes}
 use Rattle.search.specs.Ready.{Fits}
 use Rattle.search.specs.Questions.{queryAsked}
 

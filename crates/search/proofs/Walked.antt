@@ -16,7 +16,7 @@ use Rattle.layout.proofs.Sizes.{map-most, pages-mapped}
 use Rattle.rights.specs.declared.Classes.{Classes}
 use Rattle.hits.specs.Hit.{test, Fitting, isHit}
 use Rattle.hits.specs.Marks.{summaryOf, Room, Summarised, listOf, keptMap}
-use Rattle.store.specs.Calls.{Lists}
+use Rattle.promises.specs.Readings.{Lists}
 use Rattle.descent.specs.declared.Left.{Left}
 use Rattle.descent.specs.declared.Left.the-variants.{Some, Broken}
 use Rattle.walk.specs.Mark.{Marks, marks, broken, marksOf}

@@ -4,7 +4,7 @@ ghost use Prim.Native.Nat.{_+_};
 ghost use Rattle.words.specs.Bits.{zeroed};
 ghost use Rattle.hits.specs.Hit.{test, Fitting, isHit};
 ghost use Rattle.hits.specs.Marks.{summaryOf, Room, Summarised, listOf, keptMap};
-ghost use Rattle.store.specs.Calls.{Lists};
+ghost use Rattle.promises.specs.Readings.{Lists};
 use crate::search::Found;
 use layout::Header;
 use rights::Classes;

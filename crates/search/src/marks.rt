@@ -68,7 +68,7 @@ fn mark_exact(
     requires { ⌜ budget < h .nodes ⌝ }
     ensures { λ r. ⌜ marksOf (now (map .exit)) r ≡ markFrom h (now (nodes .entry)) (now (pages .entry)) (now (sketch .entry)) 0 (h .q) 0 budget (now (map .entry)) ⌝ }
 {
-    let ends = exact::leaves(nodes, h, sketch, budget);
+    let ends = descent::leaves::leaves(nodes, h, sketch, budget);
     let firsts = ends.firsts;
     let unread = ends.left;
     let Left::Some(over) = unread else {

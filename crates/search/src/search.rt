@@ -9,7 +9,7 @@ ghost use Rattle.layout.specs.Lengths.{sketchesLength};
 ghost use Rattle.layout.specs.Working.{mapWords};
 ghost use Rattle.rights.specs.Open.{openClasses};
 ghost use Rattle.promises.specs.Tables.{tables};
-ghost use Rattle.store.specs.Calls.{SearchPromise};
+ghost use Rattle.promises.specs.Readings.{SearchPromise};
 ghost use Rattle.hits.specs.Hit.{test, isHit};
 ghost use Rattle.hits.specs.Marks.{summaryOf, Summarised};
 ghost use Rattle.search_laws.specs.Marks.{markBlocks};
@@ -90,7 +90,7 @@ pub fn search(
     ensures { λ r. ⌜ SearchPromise (tables (now (settings .entry)) (now (nodes .entry)) (now (pages .entry)) (now (sketches .entry)) (now (working .entry))) reader radius (now (sketch .entry)) (now (output .entry)) (r .number) (r .count) (now (output .exit)) (now (working .exit)) ⌝ }
     ensures model { λ r. ⌜ AnsweredBy (tables (now (settings .entry)) (now (nodes .entry)) (now (pages .entry)) (now (sketches .entry)) (now (working .entry))) reader radius (now (sketch .entry)) (now (output .entry)) (r .number) (r .count) (now (output .exit)) ⌝ }
 {
-    let h = match index::tables::enter(settings, nodes, pages, sketches, working) {
+    let h = match entry::enter(settings, nodes, pages, sketches, working) {
         Opening::Refused(number) => {
             return Found {
                 number: number,

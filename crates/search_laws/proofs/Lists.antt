@@ -24,8 +24,8 @@ use Rattle.promises.specs.Tables.{Tables, given, scan}
 use Rattle.hits.specs.Hit.{isHit}
 use Rattle.hits.specs.Marks.{summaryOf, Room, listOf, keptMap}
 use Rattle.hits.proofs.Listed.{testOf, wanted, list-wanted, list-scan}
-use Rattle.store.specs.Sound.{Sound, livePage, pageBytes}
-use Rattle.store.specs.Calls.{listedOf}
+use Rattle.promises.specs.Sound.{Sound, livePage, pageBytes}
+use Rattle.promises.specs.Readings.{listedOf}
 use Rattle.walk.specs.Mark.{Marks, marks, markAll}
 use Rattle.walk_laws.proofs.Marks.{flag-marks}
 use Rattle.search_laws.specs.Answer.{words as wordsOf, cleared as clearedOf, walks as walksOf}

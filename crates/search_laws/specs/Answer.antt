@@ -11,7 +11,7 @@ use Rattle.promises.specs.Tables.{Tables, given}
 use Rattle.hits.specs.Hit.{test, isHit}
 use Rattle.hits.specs.Marks.{summaryOf, listOf, keptMap}
 use Rattle.walk.specs.Mark.{Marks, marks, broken}
-use Rattle.store.specs.Calls.{Lists, earlyNumber}
+use Rattle.promises.specs.Readings.{Lists, earlyNumber}
 use Rattle.search_laws.specs.Marks.{markBlocks}
 
 -- `hit` tests a page; `before` and `after` are the output

@@ -7,7 +7,7 @@ use native.Mathlib.Omega.{arith}
 use borrow.Author.Tests.{eqb-false}
 use lib.ListN.{getD, length-set}
 use Rattle.meaning.specs.Trie.{Children, nodes}
-use Rattle.layout.specs.Nodes.{chainWord, withLink, stateAt, freeState, innerState, leafState}
+use Rattle.layout.specs.Nodes.{chainWord, withLink, stateAt, freeState, innerState, leafState, mostNodes}
 use Rattle.trie.specs.declared.leaf.Got.the-variants.{Node}
 use Rattle.trie.specs.Heap.{Cells, Holds, Heap, nil, node, _⊕_}
 use Rattle.trie.specs.Model.{linkAt, linkLeaf, freshLeaf, made}
@@ -39,7 +39,7 @@ module _ (cap base : ℕ) where
         back = record { holds = λ N P h. h; nodes = λ a. omega arith; pages = λ a. omega arith };
       }
 
-module _ (cap pcap base : ℕ) (small : cap ≤ 262144) where
+module _ (cap pcap base : ℕ) (small : cap ≤ mostNodes) where
   pub link-below : (ch : Chain) (lo hi : ℕ) → SoundC cap pcap ch lo hi → linkC ch ≤ cap
   link-below stop lo hi g = omega arith
   link-below (link b t ch) lo hi g = omega (arith, root-below cap pcap base small t (g .2))

@@ -7,3 +7,9 @@ pub mod Context
 pub mod Fresh
 pub mod Bytes
 pub mod Spans
+pub mod Descends
+pub mod Inside
+pub mod Paths
+pub mod Spots
+pub mod Way
+pub mod Arrival

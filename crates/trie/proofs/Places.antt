@@ -6,19 +6,19 @@ use mathlib.Core.Bool.{Bool, true, false, cond}
 use mathlib.Core.List.{List}
 use borrow.Author.Tests.{eqb-false, ltb-false}
 use lib.Dec.{ltb, eqb}
-use Rattle.layout.specs.Nodes.{headAt}
+use Rattle.layout.specs.Nodes.{headAt, nodeWords}
 use Rattle.trie.specs.declared.place.Place.the-variants.{Found, Missing, Broken}
 use Rattle.trie.specs.Model.{Inside, linkAt, childAt, byteIn, placeFrom, findPlace}
 
 module _ (N : List ℕ) (cap b : ℕ) where
-  place-inside : (f s : ℕ) → s < 10 * cap → Inside cap (placeFrom N cap b s f)
+  place-inside : (f s : ℕ) → s < nodeWords cap → Inside cap (placeFrom N cap b s f)
   unfolding placeFrom
   place-inside zero s l = record { slot = omega arith; child = omega arith }
   place-inside (suc f) s l =
       go (eqb (linkAt N s) 0) refl (ltb cap (linkAt N s)) refl (ltb (byteIn N (childAt N s)) b) (eqb (byteIn N (childAt N s)) b) (place-inside f (childAt N s))
     where
       go : (z : Bool) → eqb (linkAt N s) 0 ≡ z → (w : Bool) → ltb cap (linkAt N s) ≡ w → (x y : Bool) →
-          (childAt N s < 10 * cap → Inside cap (placeFrom N cap b (childAt N s) f)) →
+          (childAt N s < nodeWords cap → Inside cap (placeFrom N cap b (childAt N s) f)) →
           Inside cap (cond z (Missing s) (cond w Broken (cond x (placeFrom N cap b (childAt N s) f) (cond y (Found s (childAt N s)) (Missing s)))))
       go true e w m x y ih = record { slot = l; child = omega arith }
       go false e true m x y ih = record { slot = omega arith; child = omega arith }

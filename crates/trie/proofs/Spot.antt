@@ -8,7 +8,7 @@ use borrow.Author.Tests.{ltb-true, ltb-false, eqb-true, eqb-false}
 use lib.Dec.{ltb, eqb}
 use lib.ListN.{getD}
 use Rattle.meaning.specs.Trie.{Tree, Children, child, nodes, nodesIn}
-use Rattle.layout.specs.Nodes.{byteOf, chainWord, headAt}
+use Rattle.layout.specs.Nodes.{byteOf, chainWord, headAt, nodeWords, mostNodes}
 use Rattle.trie.specs.declared.place.Place.{Place}
 use Rattle.trie.specs.declared.place.Place.the-variants.{Found, Missing}
 use Rattle.trie.specs.Heap.{Cells, Holds, nil, node, _⊕_}
@@ -50,7 +50,7 @@ leaves-chain : (ch : Chain) (cs : Children) → Leaves (childrenC ch cs) → Lea
 leaves-chain stop cs z = z
 leaves-chain (link c t ch) cs z = leaves-chain ch cs (leaves-next c (tree t) (childrenC ch cs) z)
 
-module _ (cap pcap base : ℕ) (small : cap ≤ 262144) where
+module _ (cap pcap base : ℕ) (small : cap ≤ mostNodes) where
   pub root-below : (t : Phys) → Sound cap pcap t → root t < cap
   root-below (leafP n ps) h = h .0
   root-below (innerP n bs) h = h .0
@@ -67,7 +67,7 @@ module _ (cap pcap base : ℕ) (small : cap ≤ 262144) where
     pub rest : Cells
     pub put : Chain → Chain
     pub before : Children → Children
-    pub within : s < 10 * cap → slot < 10 * cap
+    pub within : s < nodeWords cap → slot < nodeWords cap
     pub whole : put tail ≡ ch
     pub same : (x : Chain) → Same (cellsC cap base (put x) s y) (cellsC cap base x slot byte ⊕ rest)
     pub from : SoundC cap pcap tail b hi
@@ -184,7 +184,7 @@ module _ (cap pcap base : ℕ) (small : cap ≤ 262144) where
     pub put : Chain → Buckets
     pub before : Children → Children
     pub later : Children
-    pub within : n < cap → slot < 10 * cap
+    pub within : n < cap → slot < nodeWords cap
     pub whole : put tail ≡ bs
     pub same : (x : Chain) → Same (cellsB cap base (put x) n g) (cellsC cap base x slot byte ⊕ rest)
     pub from : SoundC cap pcap tail b (32 * (b / 32) + 32)

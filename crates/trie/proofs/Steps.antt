@@ -7,6 +7,7 @@ use native.Mathlib.Omega.{arith}
 use borrow.Author.Tests.{le-ltb, lt-ltb, eq-eqb, ne-eqb}
 use lib.Dec.{ltb, eqb}
 use lib.ListN.{getD}
+use Rattle.layout.specs.Nodes.{nodeWords}
 use Rattle.trie.specs.declared.leaf.Got.{Got}
 use Rattle.trie.specs.declared.leaf.Got.the-variants.{Node, Full}
 use Rattle.trie.specs.declared.leaf.Got.the-variants as got
@@ -72,10 +73,10 @@ module _ (N : List ℕ) (cap s b free : ℕ) where
 pub found-in : (cap : ℕ) (r : Place) (s c : ℕ) → r ≡ Found s c → Inside cap r → c < cap
 found-in cap r s c e h = rw e at (h .child)
 
-pub found-slot : (cap : ℕ) (r : Place) (s c : ℕ) → r ≡ Found s c → Inside cap r → s < 10 * cap
+pub found-slot : (cap : ℕ) (r : Place) (s c : ℕ) → r ≡ Found s c → Inside cap r → s < nodeWords cap
 found-slot cap r s c e h = rw e at (h .slot)
 
-pub missing-in : (cap : ℕ) (r : Place) (s : ℕ) → r ≡ Missing s → Inside cap r → s < 10 * cap
+pub missing-in : (cap : ℕ) (r : Place) (s : ℕ) → r ≡ Missing s → Inside cap r → s < nodeWords cap
 missing-in cap r s e h = rw e at (h .slot)
 
 pub got-in : (cap : ℕ) (r : Got) (n f : ℕ) → r ≡ Node n f → nodeIn r ≤ cap → n < cap

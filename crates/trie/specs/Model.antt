@@ -4,7 +4,7 @@ use mathlib.Core.List.{List}
 use mathlib.Core.Bool.{cond}
 use lib.Dec.{ltb, eqb}
 use lib.ListN.{getD, set}
-use Rattle.layout.specs.Nodes.{linkOf, byteOf, chainWord, withLink, stateAt, headAt, leafState}
+use Rattle.layout.specs.Nodes.{linkOf, byteOf, chainWord, withLink, stateAt, headAt, leafState, nodeWords}
 use Rattle.trie.specs.declared.Level.{Level}
 use Rattle.trie.specs.declared.Rows.{Rows}
 use Rattle.trie.specs.declared.leaf.Got.{Got}
@@ -28,7 +28,7 @@ childOf (Missing s) = 0
 childOf Broken = 0
 
 pub record Inside (cap : ℕ) (r : Place) : Type 0 where
-  pub slot : slotOf r < 10 * cap
+  pub slot : slotOf r < nodeWords cap
   pub child : childOf r < cap
 
 -- the link in a slot, the node that it links to, and the byte of a node

@@ -2,18 +2,20 @@
 use Prim.Native.Nat.{ℕ, _+_, _*_, _≤_}
 use mathlib.Core.List.{List}
 use lib.ListN.{length}
+use Rattle.layout.specs.Pages.{mostPages}
+use Rattle.layout.specs.Nodes.{nodeWords, mostNodes}
 use Rattle.trie.specs.declared.Level.{Level}
 use Rattle.trie.specs.declared.Rows.{Rows}
 
 -- a table of cap nodes
 pub record NodeTable (cap : ℕ) (N : List ℕ) : Type 0 where
-  pub long : 10 * cap ≤ length N
-  pub small : cap ≤ 262144
+  pub long : nodeWords cap ≤ length N
+  pub small : cap ≤ mostNodes
 
 -- a table with the links of pcap pages, from base on
 pub record PageTable (pcap base : ℕ) (P : List ℕ) : Type 0 where
   pub long : base + pcap ≤ length P
-  pub small : pcap ≤ 65535
+  pub small : pcap ≤ mostPages
 
 -- a table with a row of symbols for each page, in which a level's symbols lie and fit a byte
 pub record SketchTable (pcap : ℕ) (v : Level) (S : List ℕ) : Type 0 where

@@ -1,17 +1,18 @@
 // Empty leaves made of free nodes.
 ghost use mathlib.Core.Path.{_≡_};
 ghost use Prim.Native.Nat.{_*_, _<_, _≤_};
+ghost use Rattle.layout.specs.Nodes.{nodeWords};
 ghost use Rattle.trie.specs.Tables.{NodeTable};
 ghost use Rattle.trie.specs.Model.{linkLeaf, made, freshLeaf, childLeaf, nodeIn};
-use crate::place::LINKS;
 use crate::place::Place;
 use crate::place::find_place;
+use layout::nodes::LINKS;
 use layout::nodes::with_link;
 
 // Node f as an empty leaf with a byte, linked into a slot before what the slot linked to.
 fn link_leaf(nodes: &mut [u32], cap: usize, slot: usize, f: usize, byte: u32)
     requires { ⌜ NodeTable cap (now nodes) ⌝ }
-    requires { ⌜ slot < 10 * cap ⌝ }
+    requires { ⌜ slot < nodeWords cap ⌝ }
     requires { ⌜ f < cap ⌝ }
     requires { ⌜ byte < 256 ⌝ }
     ensures { λ r. ⌜ now (nodes .exit) ≡ linkLeaf (now (nodes .entry)) cap slot f byte ⌝ }
@@ -32,7 +33,7 @@ pub enum Got {
 // The first free node as an empty leaf with a byte, linked into a slot.
 pub fn fresh_leaf(nodes: &mut [u32], cap: usize, slot: usize, byte: u32, free: u32) -> Got
     requires { ⌜ NodeTable cap (now nodes) ⌝ }
-    requires { ⌜ slot < 10 * cap ⌝ }
+    requires { ⌜ slot < nodeWords cap ⌝ }
     requires { ⌜ byte < 256 ⌝ }
     ensures { λ r. ⌜ made (now (nodes .exit)) r ≡ freshLeaf (now (nodes .entry)) cap slot byte free ⌝ }
     ensures inside { λ r. ⌜ nodeIn r ≤ cap ⌝ }

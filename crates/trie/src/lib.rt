@@ -1,15 +1,9 @@
 // One block's trie in the node table and the page table: where things stand in it.
 pub mod leaf;
 pub mod packed;
+pub mod path;
 pub mod place;
 pub mod span;
-
-// Where one block's trie lies: the capacities, and where the links of its pages begin in the page table.
-pub struct Block {
-    pub nodes: usize,
-    pub pages: usize,
-    pub base: usize,
-}
 
 // Where the symbols of one block stand in a page's row of `symbols` symbols: `length` of them from place `start`, of `bits` bits each.
 // They are packed into `bytes` bytes, `per` to a byte.

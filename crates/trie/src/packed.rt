@@ -4,9 +4,9 @@ ghost use Prim.Native.Nat.{_+_, _*_, _<_, _≤_};
 ghost use lib.ListN.{length};
 ghost use Rattle.trie.specs.Tables.{SketchTable};
 ghost use Rattle.trie.specs.Model.{rowByte, pageByte, levelAt};
-use crate::Block;
 use crate::Level;
 use crate::Rows;
+use layout::Block;
 
 // The packed byte of `count` symbols of the sketch table from `at` on, each taken modulo 2^b, so that any table gives a byte.
 pub fn row_byte(b: u32, sketches: &[u8], at: usize, count: usize) -> u32

@@ -3,9 +3,7 @@ ghost use mathlib.Core.Path.{_≡_};
 ghost use Prim.Native.Nat.{_<_};
 ghost use Rattle.trie.specs.Tables.{NodeTable};
 ghost use Rattle.trie.specs.Model.{Inside, findPlace};
-
-// A chain word is a link and, times this, a byte.
-pub const LINKS: u32 = 524288;
+use layout::nodes::LINKS;
 
 // Where a byte belongs among a node's children: the slot that links to its child, with the child, or that is to.
 pub enum Place {

@@ -9,7 +9,7 @@ use Rattle.meaning.specs.Sketch.{perByte, packedLength, symbolsAt, packable}
 use Rattle.words.specs.Bits.{bit, withBit, flag, withFlag}
 use Rattle.layout.specs.Nodes.{chainWord, freeState, innerState, leafState, stateAt, headAt}
 use Rattle.layout.specs.Pages.{isLive}
-use Rattle.trie.specs.declared.Block.{Block}
+use Rattle.layout.specs.declared.Block.{Block}
 use Rattle.trie.specs.declared.Rows.{Rows}
 use Rattle.trie.specs.Model.{rowByte, pageByte, levelAt}
 use Rattle.node_check.specs.declared.leaf.Left.{Left}

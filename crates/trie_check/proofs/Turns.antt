@@ -8,6 +8,7 @@ use lib.Dec.{eqb}
 use lib.ListN.{length, getD, replicate, set}
 use borrow.Author.Tests.{eq-eqb, ne-eqb}
 use Rattle.meaning.proofs.Stacks.{suc-pred, length-none, above, above-length, above-put, above-take}
+use Rattle.layout.specs.Nodes.{stepsFor}
 use Rattle.node_check.specs.declared.frame.Frame.{Frame}
 use Rattle.node_check.specs.declared.leaf.Kind.{Kind}
 use Rattle.node_check.specs.declared.leaf.Kind.the-variants as kind
@@ -102,10 +103,10 @@ module _ (w : Given) (f : ℕ) (map path : List ℕ) (at : Place) (array : List 
 
 pub run-start : (w : Given) (root : ℕ) (map : List ℕ) (left pages : ℕ) (frame : Frame) (array : List Frame)
     → frame ≡ entered (w .nodes) (w .block .nodes) root
-    → runAt w (10 * (w .block .nodes + 1)) map (replicate 64 0) (placed 0 frame left pages) array ≡ testBelow w root map left pages
+    → runAt w (stepsFor (w .block .nodes)) map (replicate 64 0) (placed 0 frame left pages) array ≡ testBelow w root map left pages
 unfolding testBelow above
 run-start w root map left pages frame array e =
-    ap (λ f. run w (10 * (w .block .nodes + 1)) (state map (replicate 64 0) left pages f [])) e
+    ap (λ f. run w (stepsFor (w .block .nodes)) (state map (replicate 64 0) left pages f [])) e
 
 -- ---- from a root
 module _ (w : Given) (root : ℕ) (map : List ℕ) (left pages : ℕ) where

@@ -4,6 +4,7 @@ use mathlib.Core.Bool.{Bool, cond}
 use mathlib.Core.List.{List, [], _∷_}
 use lib.Dec.{eqb}
 use lib.ListN.{length, replicate}
+use Rattle.layout.specs.Nodes.{stepsFor}
 use Rattle.node_check.specs.declared.frame.Frame.{Frame}
 use Rattle.node_check.specs.declared.leaf.Kind.{Kind}
 use Rattle.node_check.specs.declared.leaf.Kind.the-variants as kind
@@ -70,7 +71,7 @@ module _ (w : Given) where
   -- below an inner root: for each node a step to it, at most seven to the next chain, and one up
   unfoldable pub testBelow : ℕ → List ℕ → ℕ → ℕ → Tested
   testBelow root map left pages =
-      run (10 * (w .block .nodes + 1)) (state map (replicate 64 0) left pages (entered (w .nodes) (w .block .nodes) root) [])
+      run (stepsFor (w .block .nodes)) (state map (replicate 64 0) left pages (entered (w .nodes) (w .block .nodes) root) [])
 
   abbrev pub testKind : ℕ → List ℕ → ℕ → ℕ → Kind → Tested
   testKind root map left pages kind.Damaged = tested map budget.Failed

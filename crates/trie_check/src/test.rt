@@ -68,7 +68,7 @@ fn test_below(
     };
     let mut stack = [frame; 64];
     let mut path = [0u8; 64];
-    let mut steps = 10 * (cap + 1);
+    let mut steps = layout::nodes::STEPS * (cap + 1);
     while steps > 0 {
         steps -= 1;
         match visit(nodes, pages, sketches, map, &mut path, scope, place) {

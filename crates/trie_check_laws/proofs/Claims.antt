@@ -13,7 +13,7 @@ use lib.ListN.{length, getD}
 use borrow.Author.Tests.{ltb-true, ltb-false, lt-ltb, le-ltb, eqb-true, ne-eqb}
 use Rattle.meaning.specs.Lists.{count}
 use Rattle.meaning.specs.Trie.{nodes}
-use Rattle.layout.specs.Nodes.{chainAt, stateAt, headAt, freeState}
+use Rattle.layout.specs.Nodes.{chainAt, stateAt, headAt, freeState, nodeWords}
 use Rattle.trie.specs.Heap.{hit, nodeClaims, Holds}
 use Rattle.trie.specs.Phys.{Phys, leafP, innerP, Buckets, end, bucket, Chain, stop, link, root, tree, noHeads, pageCells, freeCells, cells, cellsB, cellsC, Below, Sound, SoundB, SoundC}
 use Rattle.trie.proofs.Frame.{hit-same, hit-other}
@@ -26,7 +26,7 @@ use Rattle.trie_check_laws.proofs.WholeFit.{size, sizeB, sizeC, size-no
 
 -- the node of cap nodes that a word belongs to; cap for a word behind them
 unfoldable pub owner : ℕ → ℕ → ℕ
-owner cap a = cond (ltb a cap) a (cond (ltb a (2 * cap)) (a - cap) (cond (ltb a (10 * cap)) ((a - 2 * cap) / 8) cap))
+owner cap a = cond (ltb a cap) a (cond (ltb a (2 * cap)) (a - cap) (cond (ltb a (nodeWords cap)) ((a - 2 * cap) / 8) cap))
 
 -- how often a word is among n from k on
 among : ℕ → ℕ → ℕ → ℕ
@@ -92,20 +92,20 @@ module _ (cap a n : ℕ) (below : n < cap) where
           not-below : (a < headAt cap n 0 + 8 → ⊥) → headAt cap n 0 + 8 ≤ a
           not-below h = omega (arith, h)
 
-  in-none : 10 * cap ≤ a → Owned cap
+  in-none : nodeWords cap ≤ a → Owned cap
   in-none l =
       omega (arith, not-low (omega arith), heads cap n a, among-out (headAt cap n 0) 8 a (λ q. omega arith), hit-other {a = cap} {b = n} (λ e. omega arith))
 
   owned : Owned (owner cap a)
   unfolding owner
-  owned = go (ltb a cap) refl (ltb a (2 * cap)) refl (ltb a (10 * cap)) refl
+  owned = go (ltb a cap) refl (ltb a (2 * cap)) refl (ltb a (nodeWords cap)) refl
     where
-      go : (p : Bool) → ltb a cap ≡ p → (q : Bool) → ltb a (2 * cap) ≡ q → (r : Bool) → ltb a (10 * cap) ≡ r
+      go : (p : Bool) → ltb a cap ≡ p → (q : Bool) → ltb a (2 * cap) ≡ q → (r : Bool) → ltb a (nodeWords cap) ≡ r
           → Owned (cond p a (cond q (a - cap) (cond r ((a - 2 * cap) / 8) cap)))
       go true e q f r g = in-chain (ltb-true a cap e)
       go false e true f r g = in-state (ltb-false a cap e) (ltb-true a (2 * cap) f)
       go false e false f true g = in-head (ltb-false a (2 * cap) f)
-      go false e false f false g = in-none (ltb-false a (10 * cap) g)
+      go false e false f false g = in-none (ltb-false a (nodeWords cap) g)
 
 -- where the words of node x stand
 pub owner-chain : (cap x : ℕ) → x < cap → owner cap (chainAt x) ≡ x
@@ -122,13 +122,13 @@ owner-head cap x g l m =
     rw (
       le-ltb (2 * cap + 8 * x + g) cap (omega arith),
       le-ltb (2 * cap + 8 * x + g) (2 * cap) (omega arith),
-      lt-ltb (2 * cap + 8 * x + g) (10 * cap) (omega arith),
+      lt-ltb (2 * cap + 8 * x + g) (nodeWords cap) (omega arith),
     )
     (omega arith)
 
-pub owner-none : (cap a : ℕ) → 10 * cap ≤ a → owner cap a ≡ cap
+pub owner-none : (cap a : ℕ) → nodeWords cap ≤ a → owner cap a ≡ cap
 unfolding owner
-owner-none cap a l = rw (le-ltb a cap (omega arith), le-ltb a (2 * cap) (omega arith), le-ltb a (10 * cap) l) refl
+owner-none cap a l = rw (le-ltb a cap (omega arith), le-ltb a (2 * cap) (omega arith), le-ltb a (nodeWords cap) l) refl
 
 -- ---- claims by uses
 hit-count : (f x : ℕ) → hit f x ≡ cond (eqb x f) 1 0
@@ -207,7 +207,7 @@ module _ (cap pcap base : ℕ) (t : Phys) (s : Sound cap pcap t) where
   head-claims x g l m =
       omega (arith, trie-words cap pcap base (headAt cap x g) t s, apart (headAt cap x g) (omega arith), ap (λ n. uses t n) (owner-head cap x g l m))
 
-  pub past-claims : (a : ℕ) → 10 * cap ≤ a → nodeClaims (cells cap base t) a ≡ 0
+  pub past-claims : (a : ℕ) → nodeWords cap ≤ a → nodeClaims (cells cap base t) a ≡ 0
   past-claims a l =
       omega (arith, trie-words cap pcap base a t s, ap (λ n. uses t n) (owner-none cap a l), uses-beyond cap pcap cap (omega arith) t s)
 
@@ -221,7 +221,7 @@ module _ (cap : ℕ) (fs : List ℕ) (b : Below cap fs) where
   pub free-head : (x g : ℕ) → x < cap → g < 8 → nodeClaims (freeCells cap fs) (headAt cap x g) ≡ count (eqb x) fs
   free-head x g l m = free-words cap (headAt cap x g) fs b ∙ ap (λ n. count (eqb n) fs) (owner-head cap x g l m)
 
-  pub free-past : (a : ℕ) → 10 * cap ≤ a → nodeClaims (freeCells cap fs) a ≡ 0
+  pub free-past : (a : ℕ) → nodeWords cap ≤ a → nodeClaims (freeCells cap fs) a ≡ 0
   free-past a l = free-words cap a fs b ∙ ap (λ n. count (eqb n) fs) (owner-none cap a l) ∙ free-beyond cap cap fs (omega arith) b
 
 -- ---- a node that stands in a trie is not free

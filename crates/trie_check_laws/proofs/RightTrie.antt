@@ -12,7 +12,7 @@ use borrow.Author.Tests.{eqb-true, eqb-false, ltb-true}
 use Rattle.meaning.specs.Lists.{all}
 use Rattle.meaning.specs.Trie.{leaf, inner, nodes, nodesIn, pagesIn, pagesAmong}
 use Rattle.words.specs.Bits.{flag}
-use Rattle.layout.specs.Nodes.{leafState, innerState, stateAt}
+use Rattle.layout.specs.Nodes.{leafState, innerState, stateAt, stepsFor}
 use Rattle.trie.specs.Phys.{Phys, leafP, innerP, bucket, tree, first}
 use Rattle.trie_laws.specs.Sound.{filled}
 use Rattle.trie_laws.specs.Path.{follows}
@@ -298,7 +298,7 @@ module _ (w : Given) (bytesOf : ℕ → List ℕ) (reads : Reads w bytesOf) (map
     unfolding testBelow
     kind-root kind.Damaged e short deep h = absurd (failed map₁ h)
     kind-root kind.Inner e short deep h =
-        root-inner (10 * (w .block .nodes + 1)) (replicate 64 0) (omega (arith, length-replicate {A = ℕ} 64 0)) deep e h
+        root-inner (stepsFor (w .block .nodes)) (replicate 64 0) (omega (arith, length-replicate {A = ℕ} 64 0)) deep e h
     kind-root (kind.Leaf link) e short deep h = root-leaf link e (replicate 64 0) (leafLeft w (replicate 64 0) 0 link total) refl h
 
 pub test-right : (w : Given) (bytesOf : ℕ → List ℕ) (at left total : ℕ) (map map′ : List ℕ) (left′ : ℕ) → Fitting w map → Reads w bytesOf

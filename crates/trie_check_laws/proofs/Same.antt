@@ -4,7 +4,7 @@ use native.Mathlib.Omega.{arith}
 use mathlib.Core.Path.{_≡_, refl, sym, ap, ap₂, _∙_}
 use mathlib.Core.List.{List, [], _∷_}
 use lib.ListN.{getD}
-use Rattle.layout.specs.Nodes.{chainWord, stateAt, headAt}
+use Rattle.layout.specs.Nodes.{chainWord, stateAt, headAt, mostNodes}
 use Rattle.trie.specs.Heap.{Holds}
 use Rattle.trie.specs.Phys.{Phys, leafP, innerP, Buckets, end, bucket, Chain, stop, link, root, first, pageCells, cells, cellsB, cellsC, Sound, SoundB, SoundC}
 use Rattle.trie.proofs.Fresh.{linkC, chain-head, link-below}
@@ -18,7 +18,7 @@ same-pages base N P (p ∷ ps) (q ∷ qs) h g e =
     let here : p ≡ q = omega arith in
     ap₂ (λ x xs. x ∷ xs) here (same-pages base N P ps qs (h .1) (g .1) (sym (h .0) ∙ ap (λ x. getD P (base + x) 0) here ∙ g .0))
 
-module _ (cap pcap base : ℕ) (N P : List ℕ) (small : cap ≤ 262144) where
+module _ (cap pcap base : ℕ) (N P : List ℕ) (small : cap ≤ mostNodes) where
   chains-left : (bs : Buckets) (g : ℕ) → SoundB cap pcap bs g → g ≤ 8
   chains-left end g s = omega arith
   chains-left (bucket ch bs) g s = omega (arith, chains-left bs (suc g) (s .1))

@@ -8,7 +8,7 @@ use lib.Dec.{eqb}
 use lib.ListN.{length, getD, set}
 use borrow.Author.Tests.{eq-eqb, ne-eqb, lt-ltb, le-ltb}
 use Rattle.meaning.specs.Sketch.{packable}
-use Rattle.layout.specs.Nodes.{linkOf, byteOf, chainWord, headAt}
+use Rattle.layout.specs.Nodes.{linkOf, byteOf, chainWord, headAt, linkBase}
 use Rattle.node_check.specs.declared.frame.Frame.{Frame}
 use Rattle.node_check.specs.declared.frame.Step.{Step}
 use Rattle.node_check.specs.declared.frame.Step.the-variants as step
@@ -106,7 +106,7 @@ module _ (w : Given) (f : ℕ) (some : 0 < f) (map path : List ℕ) (left pages 
 -- ---- where the tables lead
 module _ (N : List ℕ) (cap b n k : ℕ) (frame : Frame) where
   -- to node x of byte c, which is followed by l
-  pub to-child : (x c l : ℕ) → frame .link ≡ x + 1 → x < cap → getD N x 0 ≡ chainWord c l → l < 524288 → frame .least ≤ c → c < 32 * frame .group + 32
+  pub to-child : (x c l : ℕ) → frame .link ≡ x + 1 → x < cap → getD N x 0 ≡ chainWord c l → l < linkBase → frame .least ≤ c → c < 32 * frame .group + 32
       → packable b n k c ≡ true → stepIn N cap b n k frame ≡ step.Child x c l
   unfolding stepIn stepAlong
   to-child x c l e i h m lo hi p =

@@ -10,7 +10,7 @@ use lib.ListN.{length, getD, set, replicate, length-append}
 use borrow.Author.Tests.{ne-eqb, lt-ltb}
 use Rattle.meaning.specs.Trie.{nodes}
 use Rattle.words.specs.Bits.{flag}
-use Rattle.layout.specs.Nodes.{chainWord, chainAt, headAt}
+use Rattle.layout.specs.Nodes.{chainWord, chainAt, headAt, stepsFor, mostNodes, nodeSteps}
 use Rattle.layout.specs.Pages.{isLive}
 use Rattle.trie.specs.Heap.{Holds, hit}
 use Rattle.trie.specs.Phys.{Phys, leafP, innerP, Buckets, end, bucket, Chain, stop, link, root, first, tree, cells, cellsB, cellsC, Below, SoundB, SoundC}
@@ -135,7 +135,7 @@ module _ (w : Given) where
   From end x g frame = (frame .link ≡ 0) × (7 ≤ frame .group)
   From (bucket ch bs) x g frame = (frame .node ≡ x) × (frame .group ≡ g) × (frame .link ≡ linkC ch) × (frame .least ≤ 32 * g)
 
-module _ (w : Given) (bytesOf : ℕ → List ℕ) (small : w .block .nodes ≤ 262144) (short : w .rows .bytes ≤ 64) (reads : Reads w bytesOf) where
+module _ (w : Given) (bytesOf : ℕ → List ℕ) (small : w .block .nodes ≤ mostNodes) (short : w .rows .bytes ≤ 64) (reads : Reads w bytesOf) where
   abbrev N : List ℕ
   N = w .nodes
 
@@ -219,13 +219,13 @@ module _ (w : Given) (bytesOf : ℕ → List ℕ) (small : w .block .nodes ≤ 2
   abbrev Through : Chain → List ℕ → ℕ → ℕ → Type 0
   Through ch ys lo hi =
       (f : ℕ) (s : State) → s .frame .link ≡ linkC ch → s .frame .least ≤ lo → 32 * s .frame .group + 32 ≡ hi
-      → Ready w s ys (λ a. usesC ch a) (sizeC ch) (loadC ch) → 10 * sizeC ch ≤ f
-      → Past w f s ys (λ a. usesC ch a) (sizeC ch) (loadC ch) (10 * sizeC ch)
+      → Ready w s ys (λ a. usesC ch a) (sizeC ch) (loadC ch) → nodeSteps * sizeC ch ≤ f
+      → Past w f s ys (λ a. usesC ch a) (sizeC ch) (loadC ch) (nodeSteps * sizeC ch)
 
   abbrev ThroughAll : Buckets → ℕ → ℕ → List ℕ → Type 0
   ThroughAll bs x g ys =
-      (f : ℕ) (s : State) → From w bs x g (s .frame) → Ready w s ys (λ a. usesB bs a) (sizeB bs) (loadB bs) → 10 * sizeB bs + 8 ≤ f + g
-      → Under w f s ys (λ a. usesB bs a) (sizeB bs) (loadB bs) (10 * sizeB bs + (8 - g))
+      (f : ℕ) (s : State) → From w bs x g (s .frame) → Ready w s ys (λ a. usesB bs a) (sizeB bs) (loadB bs) → nodeSteps * sizeB bs + 8 ≤ f + g
+      → Under w f s ys (λ a. usesB bs a) (sizeB bs) (loadB bs) (nodeSteps * sizeB bs + (8 - g))
 
   -- one chain, then the next ones
   then-under : (ch : Chain) (bs : Buckets) (x g : ℕ) (ys : List ℕ) → Holds (cellsB cap base bs x (suc g)) N P → SoundB cap pcap bs (suc g)
@@ -236,35 +236,35 @@ module _ (w : Given) (bytesOf : ℕ → List ℕ) (small : w .block .nodes ≤ 2
       let v : ℕ → ℕ = λ a. usesB bs a in
       let past = through f s (from .2) (from .3) (ap (λ n. 32 * n + 32) (from .1))
       (ready-first w s ys u v (sizeC ch) (sizeB bs) (loadC ch) (loadB bs) r) (omega arith) in
-      let s1 : State = behind w f s ys u (sizeC ch) (loadC ch) (past .done) (10 * sizeC ch) (past .went) in
+      let s1 : State = behind w f s ys u (sizeC ch) (loadC ch) (past .done) (nodeSteps * sizeC ch) (past .went) in
       let next = onward bs x g h b (past .went .ran .rest) s1 (omega (arith, past .went .ran .enough)) (past .node ∙ from .0) (past .group ∙ from .1) (past .empty) in
       let s2 : State = state (s1 .map) (s1 .path) (s1 .left) (s1 .pages) (next .next) (s1 .stack) in
-      let went : Went w f s ys u (sizeC ch) (loadC ch) (next .next) (10 * sizeC ch + 1) = record {
+      let went : Went w f s ys u (sizeC ch) (loadC ch) (next .next) (nodeSteps * sizeC ch + 1) = record {
         map = past .went .map;
         path = past .went .path;
         counted = past .went .counted;
         leads = past .went .leads;
-        ran = ran-then w f s s1 s2 (10 * sizeC ch) 1 (past .went .ran) (next .ran);
+        ran = ran-then w f s s1 s2 (nodeSteps * sizeC ch) 1 (past .went .ran) (next .ran);
       } in
       let under = others (went .ran .rest) s2 (next .from)
-      (ready-then w f s ys u v (sizeC ch) (sizeB bs) (loadC ch) (loadB bs) (next .next) (10 * sizeC ch + 1) r went)
+      (ready-then w f s ys u v (sizeC ch) (sizeB bs) (loadC ch) (loadB bs) (next .next) (nodeSteps * sizeC ch + 1) r went)
       (omega (arith, went .ran .enough)) in
       record {
         done = under .done;
         empty = under .empty;
         last = under .last;
         went = went-within w f s ys (λ a. u a + v a) (sizeC ch + sizeB bs) (loadC ch + loadB bs) (under .done)
-            (10 * sizeC ch + 1 + (10 * sizeB bs + (8 - suc g))) (10 * (sizeC ch + sizeB bs) + (8 - g)) (omega arith)
-            (went-then w f s ys u v (sizeC ch) (sizeB bs) (loadC ch) (loadB bs) (next .next) (under .done) (10 * sizeC ch + 1)
-            (10 * sizeB bs + (8 - suc g)) went (under .went));
+            (nodeSteps * sizeC ch + 1 + (nodeSteps * sizeB bs + (8 - suc g))) (nodeSteps * (sizeC ch + sizeB bs) + (8 - g)) (omega arith)
+            (went-then w f s ys u v (sizeC ch) (sizeB bs) (loadC ch) (loadB bs) (next .next) (under .done) (nodeSteps * sizeC ch + 1)
+            (nodeSteps * sizeB bs + (8 - suc g)) went (under .went));
       }
 
   -- an inner child
   inner-through : (x : ℕ) (bs : Buckets) (ys : List ℕ) (c l : ℕ) → Holds (cells cap base (innerP x bs)) N P → SoundB cap pcap bs 0
       → FitsT (innerP x bs) (ys ++ c ∷ []) → length ys < len → From w bs x 0 (entered N cap x) → ThroughAll bs x 0 (ys ++ c ∷ [])
-      → (f : ℕ) (s : State) → stepAt w (s .frame) (s .stack) ≡ step.Child x c l → 10 * size (innerP x bs) ≤ f
+      → (f : ℕ) (s : State) → stepAt w (s .frame) (s .stack) ≡ step.Child x c l → nodeSteps * size (innerP x bs) ≤ f
       → Ready w s ys (λ a. uses (innerP x bs) a) (size (innerP x bs)) (load (innerP x bs))
-      → Went w f s ys (λ a. uses (innerP x bs) a) (size (innerP x bs)) (load (innerP x bs)) (pastChild (s .frame) c l) (10 * size (innerP x bs))
+      → Went w f s ys (λ a. uses (innerP x bs) a) (size (innerP x bs)) (load (innerP x bs)) (pastChild (s .frame) c l) (nodeSteps * size (innerP x bs))
   inner-through x bs ys c l h b u v from all-through f s e n r =
       let k : ℕ = length (s .stack) in
       let path′ : List ℕ = set (s .path) k c in
@@ -289,7 +289,7 @@ module _ (w : Given) (bytesOf : ℕ → List ℕ) (small : w .block .nodes ≤ 2
       } in
       let under = all-through (down .rest) s1 from ready (omega (arith, down .enough)) in
       let went = under .went in
-      let s2 : State = behind w (down .rest) s1 (ys ++ c ∷ []) ub (sizeB bs) (loadB bs) (under .done) (10 * sizeB bs + (8 - 0)) went in
+      let s2 : State = behind w (down .rest) s1 (ys ++ c ∷ []) ub (sizeB bs) (loadB bs) (under .done) (nodeSteps * sizeB bs + (8 - 0)) went in
       let less : s .left - 1 - sizeB bs ≡ s .left - (1 + sizeB bs) = omega arith in
       let s3 : State = state (s2 .map) (s2 .path) (s2 .left) (s2 .pages) back (s .stack) in
       let up : Ran w (went .ran .rest) s2 s3 1 =
@@ -300,11 +300,11 @@ module _ (w : Given) (bytesOf : ℕ → List ℕ) (small : w .block .nodes ≤ 2
         path = went .path;
         counted = counted-then (w .window) hx ub (s .map) (fresh .after) (went .map) (fresh .counted) (went .counted);
         leads = leads-less (went .path) ys c (went .leads);
-        ran = ran-to w f s s3 (state (went .map) (went .path) (s .left - (1 + sizeB bs)) (s .pages - loadB bs) back (s .stack)) (10 * (1 + sizeB bs))
+        ran = ran-to w f s s3 (state (went .map) (went .path) (s .left - (1 + sizeB bs)) (s .pages - loadB bs) back (s .stack)) (nodeSteps * (1 + sizeB bs))
             (ap (λ a. state (went .map) (went .path) a (s .pages - loadB bs) back (s .stack)) less)
-            (ran-within w f s s3 (1 + (10 * sizeB bs + (8 - 0) + 1)) (10 * (1 + sizeB bs)) (omega arith)
-            (ran-then w f s s1 s3 1 (10 * sizeB bs + (8 - 0) + 1) down
-            (ran-then w (down .rest) s1 s2 s3 (10 * sizeB bs + (8 - 0)) 1 (went .ran) up)));
+            (ran-within w f s s3 (1 + (nodeSteps * sizeB bs + (8 - 0) + 1)) (nodeSteps * (1 + sizeB bs)) (omega arith)
+            (ran-then w f s s1 s3 1 (nodeSteps * sizeB bs + (8 - 0) + 1) down
+            (ran-then w (down .rest) s1 s2 s3 (nodeSteps * sizeB bs + (8 - 0)) 1 (went .ran) up)));
       }
 
   entered-from : (bs : Buckets) (x : ℕ) → Holds (cellsB cap base bs x 0) N P → SoundB cap pcap bs 0 → From w bs x 0 (entered N cap x)
@@ -315,24 +315,24 @@ module _ (w : Given) (bytesOf : ℕ → List ℕ) (small : w .block .nodes ≤ 2
   -- a child, and the rest of its chain
   link-through : (t : Phys) (ch : Chain) (ys : List ℕ) (c hi : ℕ) → Through ch ys (suc c) hi
       → (f : ℕ) (s : State) → 32 * s .frame .group + 32 ≡ hi
-      → Ready w s ys (λ a. usesC (link c t ch) a) (sizeC (link c t ch)) (loadC (link c t ch)) → 10 * sizeC (link c t ch) ≤ f
-      → Went w f s ys (λ a. uses t a) (size t) (load t) (pastChild (s .frame) c (linkC ch)) (10 * size t)
-      → Past w f s ys (λ a. usesC (link c t ch) a) (sizeC (link c t ch)) (loadC (link c t ch)) (10 * sizeC (link c t ch))
+      → Ready w s ys (λ a. usesC (link c t ch) a) (sizeC (link c t ch)) (loadC (link c t ch)) → nodeSteps * sizeC (link c t ch) ≤ f
+      → Went w f s ys (λ a. uses t a) (size t) (load t) (pastChild (s .frame) c (linkC ch)) (nodeSteps * size t)
+      → Past w f s ys (λ a. usesC (link c t ch) a) (sizeC (link c t ch)) (loadC (link c t ch)) (nodeSteps * sizeC (link c t ch))
   link-through t ch ys c hi through f s g r n went =
       let u : ℕ → ℕ = λ a. uses t a in
       let v : ℕ → ℕ = λ a. usesC ch a in
       let frame : Frame = pastChild (s .frame) c (linkC ch) in
-      let s1 : State = behind w f s ys u (size t) (load t) frame (10 * size t) went in
+      let s1 : State = behind w f s ys u (size t) (load t) frame (nodeSteps * size t) went in
       let past = through (went .ran .rest) s1 refl (omega arith) g
-      (ready-then w f s ys u v (size t) (sizeC ch) (load t) (loadC ch) frame (10 * size t) r went) (omega (arith, went .ran .enough)) in
+      (ready-then w f s ys u v (size t) (sizeC ch) (load t) (loadC ch) frame (nodeSteps * size t) r went) (omega (arith, went .ran .enough)) in
       record {
         done = past .done;
         node = past .node;
         group = past .group;
         empty = past .empty;
-        went = went-within w f s ys (λ a. u a + v a) (size t + sizeC ch) (load t + loadC ch) (past .done) (10 * size t + 10 * sizeC ch) (10 * (size t + sizeC ch))
+        went = went-within w f s ys (λ a. u a + v a) (size t + sizeC ch) (load t + loadC ch) (past .done) (nodeSteps * size t + nodeSteps * sizeC ch) (nodeSteps * (size t + sizeC ch))
             (omega arith)
-            (went-then w f s ys u v (size t) (sizeC ch) (load t) (loadC ch) frame (past .done) (10 * size t) (10 * sizeC ch) went (past .went));
+            (went-then w f s ys u v (size t) (sizeC ch) (load t) (loadC ch) frame (past .done) (nodeSteps * size t) (nodeSteps * sizeC ch) went (past .went));
       }
 
   -- ---- trees, chains and all chains of a node
@@ -341,8 +341,8 @@ module _ (w : Given) (bytesOf : ℕ → List ℕ) (small : w .block .nodes ≤ 2
 
     tree-through : (t : Phys) (ys : List ℕ) (c l : ℕ) → Holds (cells cap base t) N P → SoundNodes cap pcap t → FitsT t (ys ++ c ∷ [])
         → filled (tree t) ≡ true → length ys < len
-        → (f : ℕ) (s : State) → stepAt w (s .frame) (s .stack) ≡ step.Child (root t) c l → 10 * size t ≤ f → Ready w s ys (λ a. uses t a) (size t) (load t)
-        → Went w f s ys (λ a. uses t a) (size t) (load t) (pastChild (s .frame) c l) (10 * size t)
+        → (f : ℕ) (s : State) → stepAt w (s .frame) (s .stack) ≡ step.Child (root t) c l → nodeSteps * size t ≤ f → Ready w s ys (λ a. uses t a) (size t) (load t)
+        → Went w f s ys (λ a. uses t a) (size t) (load t) (pastChild (s .frame) c l) (nodeSteps * size t)
     tree-through (leafP x []) ys c l h b u z v f s e n r = absurd (false≢true z)
     tree-through (leafP x (p ∷ ps)) ys c l h b u z v f s e n r =
         went-within w f s ys (λ a. hit x a) 1 (length (p ∷ ps)) (pastChild (s .frame) c l) 1 10 (omega arith)
@@ -357,7 +357,7 @@ module _ (w : Given) (bytesOf : ℕ → List ℕ) (small : w .block .nodes ≤ 2
       done = s .frame;
       empty = from .0;
       last = from .1;
-      went = went-within w f s ys (λ a. 0) 0 0 (s .frame) 0 (10 * 0 + (8 - g)) (omega arith) (went-none w f s ys (r .leads));
+      went = went-within w f s ys (λ a. 0) 0 0 (s .frame) 0 (nodeSteps * 0 + (8 - g)) (omega arith) (went-none w f s ys (r .leads));
     }
     all-through (bucket ch bs) x g ys h b u v f s from r n =
         then-under ch bs x g ys (h .1) (b .1)
@@ -415,8 +415,8 @@ module _ (w : Given) (bytesOf : ℕ → List ℕ) (small : w .block .nodes ≤ 2
       }
 
   -- no page may be left
-  root-end : (bs : Buckets) (f : ℕ) (map path : List ℕ) (left total : ℕ) (frame : Frame) → loadB bs ≡ total → 10 * sizeB bs + 8 < f
-      → (under : Under w f (state map path (left - 1) total frame []) [] (λ a. usesB bs a) (sizeB bs) (loadB bs) (10 * sizeB bs + 8))
+  root-end : (bs : Buckets) (f : ℕ) (map path : List ℕ) (left total : ℕ) (frame : Frame) → loadB bs ≡ total → nodeSteps * sizeB bs + 8 < f
+      → (under : Under w f (state map path (left - 1) total frame []) [] (λ a. usesB bs a) (sizeB bs) (loadB bs) (nodeSteps * sizeB bs + 8))
       → run w f (state map path (left - 1) total frame []) ≡ tested (under .went .map) (budget.Some (left - (1 + sizeB bs)))
   unfolding leftIf
   root-end bs f map path left total frame e n under =
@@ -444,11 +444,11 @@ module _ (w : Given) (bytesOf : ℕ → List ℕ) (small : w .block .nodes ≤ 2
         nodes = omega arith;
         pages = omega arith;
       } in
-      let under = all-through bs x 0 [] (h .1) b (u .1) (u .0) (10 * (cap + 1)) s (entered-from bs x (h .1) b) ready (omega arith) in
+      let under = all-through bs x 0 [] (h .1) b (u .1) (u .0) (stepsFor cap) s (entered-from bs x (h .1) b) ready (omega arith) in
       record {
         after = under .went .map;
         same = root-kind x map left total (omega arith) (fresh .after) (fresh .same) kind.Inner (inner-kind N P cap base x bs h)
-            ∙ root-end bs (10 * (cap + 1)) (fresh .after) (replicate 64 0) left total (entered N cap x) e (omega arith) under;
+            ∙ root-end bs (stepsFor cap) (fresh .after) (replicate 64 0) left total (entered N cap x) e (omega arith) under;
         counted = counted-then (w .window) hx ub map (fresh .after) (under .went .map) (fresh .counted) (under .went .counted);
       }
 

@@ -8,7 +8,7 @@ use borrow.Author.Tests.{le-leb, lt-leb, ltb-true, ltb-false}
 use lib.Dec.{ltb}
 use lib.ListN.{length, getD, length-set}
 use Rattle.meaning.specs.Trie.{Tree, leaf, inner, none, byteAt, split, addLeaf, nodes, nodesIn}
-use Rattle.layout.specs.Nodes.{stateAt, innerState, leafState}
+use Rattle.layout.specs.Nodes.{stateAt, innerState, leafState, mostNodes}
 use Rattle.trie.specs.declared.leaf.Got.the-variants.{Node}
 use Rattle.trie.specs.declared.Rows.{Rows}
 use Rattle.trie.specs.declared.span.Span.the-variants.{Enough, Short}
@@ -79,7 +79,7 @@ module _ (bytesOf : ℕ → List ℕ) (S τ : List ℕ) (r : Rows) (cap pcap bas
       go true e false q =
           sym (long-span τ r pcap base P k (p + 1) (ltb-true k (r .bytes) e) Short (sym (span ∙ rw (lt-leb (getD τ k 0 + 1) (suc (length ps)) (omega (arith, ltb-false (getD τ k 0) (suc (length ps)) q))) refl)))
 
-  module _ {N P : List ℕ} {free n p v : ℕ} {ps fs : List ℕ} {G : Cells} (small : cap ≤ 262144)
+  module _ {N P : List ℕ} {free n p v : ℕ} {ps fs : List ℕ} {G : Cells} (small : cap ≤ mostNodes)
       (st : State cap pcap base N P free (leafP n ps) fs (page (base + p) v ⊕ G)) (lp : p < pcap) where
     N1 : List ℕ
     N1 = pushNodes N cap n p

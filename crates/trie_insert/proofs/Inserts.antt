@@ -6,6 +6,7 @@ use native.Mathlib.Omega.{arith}
 use native.Mathlib.Numerals.{add-one}
 use lib.ListN.{length, getD}
 use Rattle.meaning.specs.Trie.{Tree, leaf, inner, Children, child, byteAt, addLeaf, insert, insertIn, nodes, nodesIn}
+use Rattle.layout.specs.Nodes.{mostNodes}
 use Rattle.trie.specs.declared.Rows.{Rows}
 use Rattle.trie.specs.declared.leaf.Got.the-variants.{Node}
 use Rattle.trie.specs.Heap.{Cells, page, _⊕_}
@@ -16,17 +17,17 @@ use Rattle.trie.proofs.Frame.{same-swap}
 use Rattle.trie.proofs.Abstract.{Above}
 use Rattle.trie.proofs.Context.{Context, inside, enter, leave, beside}
 use Rattle.trie.proofs.Fresh.{past, tail-above, fresh-state, fresh-is}
-use Rattle.trie_path.specs.declared.Reach.{Reach}
-use Rattle.trie_path.specs.declared.Reach.the-variants.{Leaf, Gap, Broken}
-use Rattle.trie_path.specs.Descend.{descendTo}
-use Rattle.trie_path.proofs.Way.{go-in}
-use Rattle.trie_path.proofs.Arrival.{Leads, AtLeaf, AtGap, Arrives, arrives}
+use Rattle.trie.specs.declared.path.Reach.{Reach}
+use Rattle.trie.specs.declared.path.Reach.the-variants.{Leaf, Gap, Broken}
+use Rattle.trie.specs.Descend.{descendTo}
+use Rattle.trie.proofs.Way.{go-in}
+use Rattle.trie.proofs.Arrival.{Leads, AtLeaf, AtGap, Arrives, arrives}
 use Rattle.trie_insert.specs.Split.{growLeaf}
 use Rattle.trie_insert.specs.Insert.{leafFor, insertPage}
 use Rattle.trie_insert.proofs.Abstract.{insert-skips, insert-new, insert-empty, insert-walks, kept-add, some-node}
 use Rattle.trie_insert.proofs.Grow.{Grown, grow-right}
 
-module _ (bytesOf : ℕ → List ℕ) (S τ Y : List ℕ) (r : Rows) (cap pcap base p : ℕ) (rows : RowTable pcap r S) (small : cap ≤ 262144) (lp : p < pcap)
+module _ (bytesOf : ℕ → List ℕ) (S τ Y : List ℕ) (r : Rows) (cap pcap base p : ℕ) (rows : RowTable pcap r S) (small : cap ≤ mostNodes) (lp : p < pcap)
     (are : (k : ℕ) → k < r .bytes → (q : ℕ) → q < pcap → byteAt bytesOf k q ≡ pageByte S (levelAt r k) q) where
   Insert : ℕ → Tree → Tree
   Insert k = insert bytesOf (r .bytes) τ k p

@@ -6,6 +6,7 @@ use mathlib.Core.Bool.{Bool, true, false}
 use native.Mathlib.Omega.{arith}
 use lib.ListN.{length, getD}
 use Rattle.meaning.specs.Trie.{leaf, Children, child, push, putLeaf, nodes, nodesIn}
+use Rattle.layout.specs.Nodes.{mostNodes}
 use Rattle.trie.specs.declared.leaf.Got.the-variants.{Node}
 use Rattle.trie.specs.declared.place.Place.the-variants.{Found, Missing}
 use Rattle.trie.specs.Heap.{Cells, page, _⊕_}
@@ -35,7 +36,7 @@ pub record PutDone (cap pcap base n b p : ℕ) (bs : Buckets) (fs : List ℕ) (G
   pub grown : childrenB bucketsTo ≡ putLeaf b p (childrenB bs)
   pub count : nodesIn (childrenB bucketsTo) + length freesTo ≡ nodesIn (childrenB bs) + length fs
 
-module _ (cap pcap base : ℕ) (small : cap ≤ 262144) (n b p : ℕ) (bs : Buckets) (lb : b < 256) (s : SpotB cap pcap base small bs n 0 b) where
+module _ (cap pcap base : ℕ) (small : cap ≤ mostNodes) (n b p : ℕ) (bs : Buckets) (lb : b < 256) (s : SpotB cap pcap base small bs n 0 b) where
   -- into a child that is there
   module _ {N P : List ℕ} {free c v : ℕ} {qs fs : List ℕ} {rest : Chain} {G : Cells} (lp : p < pcap) (g : SoundC cap pcap rest (suc b) (32 * (b / 32) + 32))
       (st : State cap pcap base N P free (innerP n (s .put (link b (leafP c qs) rest))) fs (page (base + p) v ⊕ G)) (gc : Sound cap pcap (leafP c qs)) where

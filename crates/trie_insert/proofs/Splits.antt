@@ -5,6 +5,7 @@ use mathlib.Core.List.{List, [], _∷_}
 use native.Mathlib.Omega.{arith}
 use lib.ListN.{length, getD}
 use Rattle.meaning.specs.Trie.{child, byteAt, putLeaf, split, nodes, nodesIn}
+use Rattle.layout.specs.Nodes.{mostNodes}
 use Rattle.trie.specs.declared.leaf.Got.the-variants.{Node}
 use Rattle.trie.specs.declared.Level.{Level}
 use Rattle.trie.specs.Heap.{Cells, page, _⊕_}
@@ -32,7 +33,7 @@ pub record SplitDone (bytesOf : ℕ → List ℕ) (cap pcap base n k : ℕ) (ps 
   pub grown : childrenB bucketsTo ≡ split bytesOf k ps (childrenB bs)
   pub count : nodesIn (childrenB bucketsTo) + length freesTo ≡ nodesIn (childrenB bs) + length fs
 
-module _ (bytesOf : ℕ → List ℕ) (S : List ℕ) (v : Level) (cap pcap base n k : ℕ) (small : cap ≤ 262144)
+module _ (bytesOf : ℕ → List ℕ) (S : List ℕ) (v : Level) (cap pcap base n k : ℕ) (small : cap ≤ mostNodes)
     (bytes : (p : ℕ) → pageByte S v p < 256) (are : (p : ℕ) → p < pcap → byteAt bytesOf k p ≡ pageByte S v p) where
   -- one page, and then the others
   split-cons : (N P : List ℕ) (free : ℕ) {bs : Buckets} {fs : List ℕ} {G : Cells} (p : ℕ) (ps : List ℕ) (l f : ℕ) → l ≡ p + 1 → p < pcap → (f ≡ 0 → ⊥) →

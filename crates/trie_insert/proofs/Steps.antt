@@ -7,7 +7,7 @@ use native.Mathlib.Omega.{arith}
 use borrow.Author.Tests.{le-ltb, lt-ltb, eq-eqb, ne-eqb, ltb-true, ltb-false}
 use lib.Dec.{ltb, eqb}
 use lib.ListN.{getD}
-use Rattle.layout.specs.Nodes.{stateAt}
+use Rattle.layout.specs.Nodes.{stateAt, nodeWords}
 use Rattle.trie.specs.declared.Level.{Level}
 use Rattle.trie.specs.declared.Rows.{Rows}
 use Rattle.trie.specs.declared.leaf.Got.{Got}
@@ -19,9 +19,9 @@ use Rattle.trie.specs.declared.span.Span.the-variants as spans
 use Rattle.trie.specs.Tables.{RowTable}
 use Rattle.trie.specs.Model.{made, freshLeaf, childLeaf, pageByte, spanFrom, levelAt}
 use Rattle.trie.proofs.Steps.{suc-pred}
-use Rattle.trie_path.specs.declared.Reach.{Reach}
-use Rattle.trie_path.specs.declared.Reach.the-variants.{Leaf, Gap, Broken}
-use Rattle.trie_path.specs.Descend.{descendTo, Inside}
+use Rattle.trie.specs.declared.path.Reach.{Reach}
+use Rattle.trie.specs.declared.path.Reach.the-variants.{Leaf, Gap, Broken}
+use Rattle.trie.specs.Descend.{descendTo, Inside}
 use Rattle.trie_insert.specs.declared.insert.Target.{Target}
 use Rattle.trie_insert.specs.declared.insert.Target.the-variants.{Ready, NoRoom}
 use Rattle.trie_insert.specs.declared.insert.Target.the-variants as target
@@ -179,7 +179,7 @@ module _ (N : List ℕ) (cap : ℕ) (Y : List ℕ) (root free : ℕ) (x : Reach)
 pub leaf-node : (N : List ℕ) (cap len : ℕ) (x : Reach) (n s k : ℕ) → x ≡ Leaf n s k → Inside N cap len x → n < cap
 leaf-node N cap len x n s k e h = (rw e at h) .0
 
-pub gap-slot : (N : List ℕ) (cap len : ℕ) (x : Reach) (n s k : ℕ) → x ≡ Gap n s k → Inside N cap len x → s < 10 * cap
+pub gap-slot : (N : List ℕ) (cap len : ℕ) (x : Reach) (n s k : ℕ) → x ≡ Gap n s k → Inside N cap len x → s < nodeWords cap
 gap-slot N cap len x n s k e h = (rw e at h) .1
 
 pub gap-level : (N : List ℕ) (cap len : ℕ) (x : Reach) (n s k : ℕ) → x ≡ Gap n s k → Inside N cap len x → k < len

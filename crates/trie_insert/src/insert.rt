@@ -6,12 +6,12 @@ ghost use Rattle.trie.specs.Tables.{NodeTable, PageTable, RowTable};
 ghost use Rattle.trie_insert.specs.Pages.{after};
 ghost use Rattle.trie_insert.specs.Insert.{aimed, leafFor, targetIn, insertPage};
 use crate::split::grow_leaf;
-use trie::Block;
+use layout::Block;
 use trie::Rows;
 use trie::leaf::Got;
 use trie::leaf::fresh_leaf;
-use trie_path::Reach;
-use trie_path::descend_to;
+use trie::path::Reach;
+use trie::path::descend_to;
 
 // A leaf that a page belongs into, with its level and the first free link; or why there is none.
 pub enum Target {

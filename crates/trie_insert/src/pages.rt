@@ -3,7 +3,7 @@ ghost use mathlib.Core.Path.{_≡_};
 ghost use Prim.Native.Nat.{_<_};
 ghost use Rattle.trie.specs.Tables.{NodeTable, PageTable};
 ghost use Rattle.trie_insert.specs.Pages.{pushed, pushPage, after, putLeafM};
-use trie::Block;
+use layout::Block;
 use trie::leaf::Got;
 use trie::leaf::child_leaf;
 

@@ -7,7 +7,7 @@ ghost use Rattle.trie_insert.specs.Pages.{after};
 ghost use Rattle.trie_insert.specs.Split.{splitFrom, openLeaf, tooLong, splitLeaf, growLeaf};
 use crate::pages::push_page;
 use crate::pages::put_leaf;
-use trie::Block;
+use layout::Block;
 use trie::Level;
 use trie::Rows;
 use trie::leaf::Got;

@@ -16,8 +16,8 @@ use Rattle.trie.specs.Phys.{Phys, Buckets, tree, noHeads, cells, State, leafP, 
 use Rattle.trie_laws.specs.Sound.{filled, soundTrie}
 use Rattle.meaning.proofs.Lists.{and-first, and-second, count-append}
 use Rattle.trie_laws.proofs.Lists.{holds, fails, truth, eqb-comm, any-none}
-use Rattle.trie_path.specs.Descend.{descend, descendTo}
-use Rattle.trie_path.proofs.Arrival.{Leads, sound-leads}
+use Rattle.trie.specs.Descend.{descend, descendTo}
+use Rattle.trie.proofs.Arrival.{Leads, sound-leads}
 use Rattle.trie_remove.specs.declared.Removed.the-variants.{Done}
 use Rattle.trie_remove.specs.Take.{takePage}
 use Rattle.trie_remove.specs.Remove.{freeChild, setFirst, removeAt, removePage, gone}

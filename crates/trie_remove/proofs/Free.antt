@@ -4,7 +4,7 @@ use native.Mathlib.Omega.{arith}
 use mathlib.Core.Path.{_≡_, refl}
 use mathlib.Core.List.{List, [], _∷_}
 use lib.ListN.{getD, length-set}
-use Rattle.layout.specs.Nodes.{chainWord, withLink, stateAt, freeState, innerState, leafState}
+use Rattle.layout.specs.Nodes.{chainWord, withLink, stateAt, freeState, innerState, leafState, mostNodes}
 use Rattle.trie.specs.Heap.{Cells, node, _⊕_}
 use Rattle.trie.specs.Model.{linkAt}
 use Rattle.trie.specs.Phys.{Buckets, Chain, first, noHeads, freeCells, cells, SoundC, State, leafP, innerP, link}
@@ -13,7 +13,7 @@ use Rattle.trie.proofs.Spot.{SpotB, weaken}
 use Rattle.trie.proofs.Fresh.{linkC, afterC, chain-head, link-below}
 use Rattle.trie_remove.specs.Remove.{freeChild}
 
-module _ (cap pcap base : ℕ) (small : cap ≤ 262144) {N P : List ℕ} {free n c b : ℕ} {bs : Buckets} {after : Chain} {fs : List ℕ} {G : Cells}
+module _ (cap pcap base : ℕ) (small : cap ≤ mostNodes) {N P : List ℕ} {free n c b : ℕ} {bs : Buckets} {after : Chain} {fs : List ℕ} {G : Cells}
     (s : SpotB cap pcap base small bs n 0 b) (st : State cap pcap base N P free (innerP n (s .put (link b (leafP c []) after))) fs G)
     (lc : SoundC cap pcap (link b (leafP c []) after) b (32 * (b / 32) + 32)) where
   R : Cells

@@ -13,7 +13,7 @@ use Rattle.trie.specs.Phys.{Phys, root, tree, freeCells, cells, State}
 use Rattle.meaning.specs.Trie.{pagesIn}
 use Rattle.trie_laws.specs.Sound.{soundTrie}
 use Rattle.trie_laws.proofs.Lists.{holds, fails, truth}
-use Rattle.trie_path.proofs.Arrival.{Leads}
+use Rattle.trie.proofs.Arrival.{Leads}
 use Rattle.trie_remove.specs.Remove.{removePage}
 use Rattle.trie_remove.proofs.Removal.{RemoveDone, remove-right}
 

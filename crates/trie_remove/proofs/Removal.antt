@@ -9,6 +9,7 @@ use lib.Dec.{eqb}
 use lib.ListN.{length, length-set}
 use Rattle.meaning.specs.Lists.{any}
 use Rattle.meaning.specs.Trie.{Children, leaf, inner, without, byteAt, remove, pagesIn}
+use Rattle.layout.specs.Nodes.{mostNodes}
 use Rattle.trie.specs.Heap.{Cells, page, _⊕_}
 use Rattle.trie.specs.Phys.{Phys, Chain, root, tree, childrenB, first, SoundC, State, leafP, innerP, link}
 use Rattle.trie.proofs.Frame.{same-swap}
@@ -18,12 +19,12 @@ use Rattle.trie_laws.specs.Needed.{frees}
 use Rattle.trie_laws.specs.Path.{has, childBy, subtree, replace, pathOf, depth}
 use Rattle.trie_laws.proofs.Path.{remove-at-leaf, frees-at-leaf, remove-at-last, frees-at-last}
 use Rattle.trie_laws.proofs.Reach.{reach-leaf}
-use Rattle.trie_path.specs.declared.Reach.{Reach}
-use Rattle.trie_path.specs.declared.Reach.the-variants.{Leaf, Gap, Broken}
-use Rattle.trie_path.specs.Descend.{descendTo}
-use Rattle.trie_path.proofs.Spots.{from-here, spot-has, spot-child, spot-drop}
-use Rattle.trie_path.proofs.Way.{Way, onward, onward-put, go-in, go-out}
-use Rattle.trie_path.proofs.Arrival.{Leads, Parent, AtLeaf, Arrives, arrives}
+use Rattle.trie.specs.declared.path.Reach.{Reach}
+use Rattle.trie.specs.declared.path.Reach.the-variants.{Leaf, Gap, Broken}
+use Rattle.trie.specs.Descend.{descendTo}
+use Rattle.trie.proofs.Spots.{from-here, spot-has, spot-child, spot-drop}
+use Rattle.trie.proofs.Way.{Way, onward, onward-put, go-in, go-out}
+use Rattle.trie.proofs.Arrival.{Leads, Parent, AtLeaf, Arrives, arrives}
 use Rattle.trie_remove.specs.declared.Removed.the-variants.{Done}
 use Rattle.trie_remove.specs.Remove.{freeChild, removeAt, removePage, Gone, gone}
 use Rattle.trie_remove.proofs.Steps.{remove-leaf}
@@ -55,7 +56,7 @@ first-none : (qs : List ℕ) → first qs ≡ 0 → qs ≡ []
 first-none [] h = refl
 first-none (q ∷ qs) h = absurd (omega arith)
 
-module _ {cap pcap base : ℕ} (small : cap ≤ 262144) (bytesOf : ℕ → List ℕ) (p : ℕ) {N P : List ℕ} {free : ℕ} {t : Phys} {fs : List ℕ} {G : Cells} (st : State cap pcap base N P free t fs G) where
+module _ {cap pcap base : ℕ} (small : cap ≤ mostNodes) (bytesOf : ℕ → List ℕ) (p : ℕ) {N P : List ℕ} {free : ℕ} {t : Phys} {fs : List ℕ} {G : Cells} (st : State cap pcap base N P free t fs G) where
   -- at a leaf that stays
   module _ {k n : ℕ} {ps : List ℕ} (w : Way cap pcap base small bytesOf p t k (leafP n ps)) (s : ℕ) (m : any (eqb p) ps ≡ true) where
     done : LeafDone cap pcap base N P free n p s k ps fs (w .context .rest ⊕ G) (removeAt N P cap pcap base n s k p free)

@@ -7,11 +7,12 @@ use native.Mathlib.Omega.{arith}
 use borrow.Author.Tests.{le-ltb, lt-ltb, eq-eqb, ne-eqb}
 use lib.Dec.{ltb, eqb}
 use lib.ListN.{getD, set}
-use Rattle.layout.specs.Nodes.{stateAt, leafState}
-use Rattle.trie_path.specs.declared.Reach.{Reach}
-use Rattle.trie_path.specs.declared.Reach.the-variants.{Leaf, Gap}
-use Rattle.trie_path.specs.declared.Reach.the-variants as reach
-use Rattle.trie_path.specs.Descend.{descendTo, Inside as ReachInside}
+use Rattle.layout.specs.Pages.{mostPages}
+use Rattle.layout.specs.Nodes.{stateAt, leafState, nodeWords}
+use Rattle.trie.specs.declared.path.Reach.{Reach}
+use Rattle.trie.specs.declared.path.Reach.the-variants.{Leaf, Gap}
+use Rattle.trie.specs.declared.path.Reach.the-variants as reach
+use Rattle.trie.specs.Descend.{descendTo, Inside as ReachInside}
 use Rattle.trie_remove.specs.declared.Taken.{Taken}
 use Rattle.trie_remove.specs.declared.Taken.the-variants.{First, Inside, Missing, Broken}
 use Rattle.trie_remove.specs.declared.Removed.the-variants.{Done, Broken as Undone}
@@ -91,13 +92,13 @@ module _ (N : List ℕ) (cap len : ℕ) (r : Reach) (n s k : ℕ) (e : r ≡ Lea
   pub leaf-node : n < cap
   leaf-node = inside .0
 
-  pub leaf-slot : s < 10 * cap
+  pub leaf-slot : s < nodeWords cap
   leaf-slot = inside .1
 
   pub leaf-state : 2 ≤ getD N (stateAt cap n) 0
   leaf-state = omega (arith, inside .3)
 
-pub first-link : (pcap : ℕ) (a : Taken) (l : ℕ) → a ≡ First l → linkIn a ≤ pcap → pcap ≤ 65535 → l ≤ 65535
+pub first-link : (pcap : ℕ) (a : Taken) (l : ℕ) → a ≡ First l → linkIn a ≤ pcap → pcap ≤ mostPages → l ≤ mostPages
 first-link pcap a l e h m = let i : l ≤ pcap = rw e at h in omega arith
 
 -- `removeAt`, by each way

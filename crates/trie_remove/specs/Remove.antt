@@ -6,10 +6,10 @@ use lib.Dec.{ltb, eqb}
 use lib.ListN.{getD, set}
 use Rattle.layout.specs.Nodes.{withLink, stateAt, freeState, leafState}
 use Rattle.trie.specs.Model.{linkAt}
-use Rattle.trie_path.specs.declared.Reach.{Reach}
-use Rattle.trie_path.specs.declared.Reach.the-variants.{Leaf, Gap}
-use Rattle.trie_path.specs.declared.Reach.the-variants as reach
-use Rattle.trie_path.specs.Descend.{descendTo}
+use Rattle.trie.specs.declared.path.Reach.{Reach}
+use Rattle.trie.specs.declared.path.Reach.the-variants.{Leaf, Gap}
+use Rattle.trie.specs.declared.path.Reach.the-variants as reach
+use Rattle.trie.specs.Descend.{descendTo}
 use Rattle.trie_remove.specs.declared.Taken.the-variants.{First, Inside, Missing}
 use Rattle.trie_remove.specs.declared.Taken.the-variants as taken
 use Rattle.trie_remove.specs.declared.Removed.{Removed}

@@ -2,11 +2,12 @@
 ghost use mathlib.Core.Path.{_≡_};
 ghost use Prim.Native.Nat.{_+_, _*_, _≤_, _<_};
 ghost use lib.ListN.{getD};
-ghost use Rattle.layout.specs.Nodes.{stateAt};
+ghost use Rattle.layout.specs.Pages.{mostPages};
+ghost use Rattle.layout.specs.Nodes.{stateAt, nodeWords};
 ghost use Rattle.trie.specs.Tables.{NodeTable, PageTable};
 ghost use Rattle.trie_remove.specs.Take.{takeFrom, takePage, took, linkIn};
 ghost use Rattle.trie_remove.specs.Remove.{freeChild, setFirst, freed, removeAt, removePage, gone};
-use trie_path::Reach;
+use trie::path::Reach;
 
 // How a page left a chain: it was the first, before a link; or inside. Or why not.
 pub enum Taken {
@@ -65,7 +66,7 @@ pub fn take_page(pages: &mut [u32], pcap: usize, base: usize, first: u32, p: usi
 // A child leaf without pages, out of the chain at a slot and first among the free nodes; the new free link.
 pub fn free_child(nodes: &mut [u32], cap: usize, slot: usize, child: usize, free: u32) -> u32
     requires { ⌜ NodeTable cap (now nodes) ⌝ }
-    requires { ⌜ slot < 10 * cap ⌝ }
+    requires { ⌜ slot < nodeWords cap ⌝ }
     requires { ⌜ child < cap ⌝ }
     ensures { λ r. ⌜ r ≡ child + 1 ⌝ }
     ensures { λ r. ⌜ now (nodes .exit) ≡ freeChild (now (nodes .entry)) cap slot child free ⌝ }
@@ -89,8 +90,8 @@ pub fn set_first(
 ) -> u32
     requires { ⌜ NodeTable cap (now nodes) ⌝ }
     requires { ⌜ n < cap ⌝ }
-    requires { ⌜ slot < 10 * cap ⌝ }
-    requires { ⌜ link ≤ 65535 ⌝ }
+    requires { ⌜ slot < nodeWords cap ⌝ }
+    requires { ⌜ link ≤ mostPages ⌝ }
     ensures { λ r. ⌜ freed (now (nodes .exit)) r ≡ setFirst (now (nodes .entry)) cap n slot level link free ⌝ }
 {
     nodes[cap + n] = 2 + link;
@@ -124,7 +125,7 @@ pub fn remove_at(
 ) -> Removed
     requires { ⌜ NodeTable cap (now nodes) ⌝ }
     requires { ⌜ PageTable pcap base (now pages) ⌝ }
-    requires { ⌜ (n < cap) × (slot < 10 * cap) × (p < pcap) ⌝ }
+    requires { ⌜ (n < cap) × (slot < nodeWords cap) × (p < pcap) ⌝ }
     requires { ⌜ 2 ≤ getD (now nodes) (stateAt cap n) 0 ⌝ }
     ensures { λ r. ⌜ gone (now (nodes .exit)) (now (pages .exit)) r ≡ removeAt (now (nodes .entry)) (now (pages .entry)) cap pcap base n slot level p free ⌝ }
 {
@@ -156,7 +157,7 @@ pub fn remove_page(
     requires { ⌜ p < pcap ⌝ }
     ensures { λ r. ⌜ gone (now (nodes .exit)) (now (pages .exit)) r ≡ removePage (now (nodes .entry)) (now (pages .entry)) cap pcap base root (now (bytes .entry)) p free ⌝ }
 {
-    let reach = trie_path::descend_to(nodes, cap, root, bytes);
+    let reach = trie::path::descend_to(nodes, cap, root, bytes);
     match reach {
         Reach::Leaf(n, slot, level) => {
             remove_at(nodes, pages, cap, pcap, base, n, slot, level, p, free)

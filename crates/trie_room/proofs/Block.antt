@@ -11,7 +11,7 @@ use borrow.Author.Tests.{ltb-true, lt-ltb, le-ltb, leb-true, leb-false}
 use Rattle.meaning.specs.Lists.{any, count}
 use Rattle.meaning.specs.Trie.{byteAt, pagesIn}
 use Rattle.meaning.specs.Ledger.{Settings}
-use Rattle.layout.specs.Nodes.{stateAt}
+use Rattle.layout.specs.Nodes.{stateAt, mostNodes}
 use Rattle.trie.specs.declared.Rows.{Rows}
 use Rattle.trie.specs.Heap.{Cells, _⊕_}
 use Rattle.trie.specs.Model.{pageByte, spanFrom, levelAt}
@@ -25,12 +25,12 @@ use Rattle.trie_laws.proofs.Lists.{any-count}
 use Rattle.trie_laws.proofs.Reach.{subtree-count}
 use Rattle.trie_laws.proofs.Path.{needed-at-leaf, needed-at-gap}
 use Rattle.trie_laws.proofs.Nodes.{gap-nodes}
-use Rattle.trie_path.specs.declared.Reach.{Reach}
-use Rattle.trie_path.specs.declared.Reach.the-variants.{Leaf, Gap, Broken}
-use Rattle.trie_path.specs.Descend.{descendTo}
-use Rattle.trie_path.proofs.Spots.{spot-none}
-use Rattle.trie_path.proofs.Way.{Way}
-use Rattle.trie_path.proofs.Arrival.{Leads, Arrives, arrives}
+use Rattle.trie.specs.declared.path.Reach.{Reach}
+use Rattle.trie.specs.declared.path.Reach.the-variants.{Leaf, Gap, Broken}
+use Rattle.trie.specs.Descend.{descendTo}
+use Rattle.trie.proofs.Spots.{spot-none}
+use Rattle.trie.proofs.Way.{Way}
+use Rattle.trie.proofs.Arrival.{Leads, Arrives, arrives}
 use Rattle.trie_room.specs.declared.needed.Needed.the-variants.{Nodes}
 use Rattle.trie_room.specs.RowBytes.{rowBytes, rowsOf}
 use Rattle.trie_room.specs.Needs.{distinctBytes, whereLong, leafNeeds, gapNeeds, neededAt, nodesNeeded}
@@ -63,7 +63,7 @@ gap-right : (bytesOf : ℕ → List ℕ) (τ : List ℕ) (len p k : ℕ) → gap
 unfolding gapNeeds
 gap-right bytesOf τ len p k = sym (gap-nodes bytesOf len τ k p)
 
-module _ {cap pcap base : ℕ} (small : cap ≤ 262144) (bytesOf : ℕ → List ℕ) (p : ℕ) {N P : List ℕ} {free : ℕ} {t : Phys} {fs : List ℕ} {G : Cells}
+module _ {cap pcap base : ℕ} (small : cap ≤ mostNodes) (bytesOf : ℕ → List ℕ) (p : ℕ) {N P : List ℕ} {free : ℕ} {t : Phys} {fs : List ℕ} {G : Cells}
     (st : State cap pcap base N P free t fs G) where
   -- a subtree lies in the tables too
   part : {k : ℕ} {u : Phys} (w : Way cap pcap base small bytesOf p t k u) → State cap pcap base N P free u fs (w .context .rest ⊕ G)

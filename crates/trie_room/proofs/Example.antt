@@ -9,7 +9,7 @@ use Rattle.meaning.specs.Forest.{blockBytes}
 use Rattle.trie.specs.Model.{rowByte, pageByte, spanFrom, levelAt}
 use Rattle.trie.specs.declared.span.Span.the-variants.{Enough, Short}
 use Rattle.trie_laws.specs.Needed.{distinctFrom}
-use Rattle.trie_path.specs.Descend.{descend, descendTo}
+use Rattle.trie.specs.Descend.{descend, descendTo}
 use Rattle.trie_room.specs.declared.needed.Needed.{Needed}
 use Rattle.trie_room.specs.declared.needed.Needed.the-variants.{Nodes, Broken}
 use Rattle.trie_room.specs.Chains.{chainFrom}

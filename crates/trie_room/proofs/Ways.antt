@@ -12,10 +12,10 @@ use Rattle.trie.specs.declared.span.Span.{Span}
 use Rattle.trie.specs.declared.span.Span.the-variants.{Enough, Short}
 use Rattle.trie.specs.declared.span.Span.the-variants as spans
 use Rattle.trie.specs.Model.{spanFrom, levelAt}
-use Rattle.trie_path.specs.declared.Reach.{Reach}
-use Rattle.trie_path.specs.declared.Reach.the-variants.{Leaf, Gap}
-use Rattle.trie_path.specs.declared.Reach.the-variants as reach
-use Rattle.trie_path.specs.Descend.{Inside}
+use Rattle.trie.specs.declared.path.Reach.{Reach}
+use Rattle.trie.specs.declared.path.Reach.the-variants.{Leaf, Gap}
+use Rattle.trie.specs.declared.path.Reach.the-variants as reach
+use Rattle.trie.specs.Descend.{Inside}
 use Rattle.trie_room.specs.declared.needed.Needed.{Needed}
 use Rattle.trie_room.specs.declared.needed.Needed.the-variants.{Nodes, Broken}
 use Rattle.trie_room.specs.Needs.{distinctBytes, gapNeeds, leafNeeds, neededAt}

@@ -4,17 +4,17 @@ ghost use Prim.Native.Nat.{_<_, _≤_};
 ghost use lib.ListN.{length};
 ghost use Rattle.trie.specs.Tables.{NodeTable, PageTable, SketchTable, RowTable};
 ghost use Rattle.trie.specs.Model.{spanFrom};
-ghost use Rattle.trie_path.specs.Descend.{Inside};
+ghost use Rattle.trie.specs.Descend.{Inside};
 ghost use Rattle.trie_room.specs.Needs.{distinctBytes, leafNeeds, gapNeeds, neededAt, nodesNeeded};
-use trie::Block;
+use layout::Block;
 use trie::Level;
 use trie::Rows;
 use trie::packed::level_at;
 use trie::packed::page_byte;
+use trie::path::Reach;
+use trie::path::descend_to;
 use trie::span::Span;
 use trie::span::at_least;
-use trie_path::Reach;
-use trie_path::descend_to;
 
 pub enum Needed {
     Nodes(usize),

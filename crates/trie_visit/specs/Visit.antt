@@ -7,7 +7,7 @@ use lib.Dec.{ltb, eqb}
 use lib.ListN.{length, set}
 use Rattle.meaning.specs.Sketch.{packedLength}
 use Rattle.sketch.specs.Settings.{Bits}
-use Rattle.trie.specs.declared.Block.{Block}
+use Rattle.layout.specs.declared.Block.{Block}
 use Rattle.trie.specs.declared.Rows.{Rows}
 use Rattle.trie.specs.Tables.{NodeTable, PageTable, RowTable}
 use Rattle.node_check.specs.declared.frame.Frame.{Frame}

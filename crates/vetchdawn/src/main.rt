@@ -15,7 +15,7 @@ const LINE: usize = 24 + 11 * FOUND;
 // The lengths of the program's tables: they suffice for any settings, at most 8 blocks and at most 64 symbols.
 const SETTINGS: usize = layout::settings::LENGTH;
 
-const NODES: usize = 10 * (journal_calls::commands::NODES as usize);
+const NODES: usize = layout::nodes::WORDS * (journal_calls::commands::NODES as usize);
 
 const PAGES: usize = (2 + 8) * FOUND;
 

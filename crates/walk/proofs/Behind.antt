@@ -4,6 +4,7 @@ use mathlib.Core.Path.{_≡_, refl, sym, ap, _∙_}
 use mathlib.Core.List.{List, [], _∷_, _++_}
 use lib.ListN.{length, getD}
 use Rattle.meaning.proofs.Stacks.{length-none}
+use Rattle.layout.specs.Nodes.{stepsFor}
 use Rattle.descent.specs.declared.Cursor.{Cursor}
 use Rattle.descent.specs.declared.Left.{Left}
 use Rattle.descent.specs.declared.Left.the-variants as left
@@ -33,12 +34,12 @@ module _ (w : Given) where
 
   pub behind-start : (x radius nodes : ℕ) (map : List ℕ) (frame : Frame) (stack : List Frame)
       → frame ≡ entered (w .nodes) (w .cap) x radius → length stack ≡ 0
-      → behind map (w .pcap) nodes [] (10 * (w .cap + 1)) frame stack ≡ walkBelow w x radius nodes map
+      → behind map (w .pcap) nodes [] (stepsFor (w .cap)) frame stack ≡ walkBelow w x radius nodes map
   unfolding walkBelow
   behind-start x radius nodes map frame stack e z =
-      past-none w (rest (10 * (w .cap + 1)) frame stack) map (w .pcap) nodes
-      ∙ ap (λ s. run w (10 * (w .cap + 1)) nodes (state map (w .pcap) frame s)) (length-none stack z)
-      ∙ ap (λ f. run w (10 * (w .cap + 1)) nodes (state map (w .pcap) f [])) e
+      past-none w (rest (stepsFor (w .cap)) frame stack) map (w .pcap) nodes
+      ∙ ap (λ s. run w (stepsFor (w .cap)) nodes (state map (w .pcap) frame s)) (length-none stack z)
+      ∙ ap (λ f. run w (stepsFor (w .cap)) nodes (state map (w .pcap) f [])) e
 
   module _ (map : List ℕ) (pages nodes : ℕ) (cs : List Cursor) (steps : ℕ) (frame : Frame) (stack : List Frame) where
     -- no step is left

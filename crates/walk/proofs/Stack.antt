@@ -3,6 +3,7 @@ use Prim.Native.Nat.{ℕ, _*_, _<_}
 use native.Mathlib.Omega.{arith}
 use mathlib.Core.Path.{_≡_, sym, subst}
 use mathlib.Core.List.{List}
+use Rattle.layout.specs.Nodes.{nodeWords}
 use Rattle.walk.specs.declared.frame.Frame.{Frame}
 use Rattle.walk.specs.Frame.{entered}
 
@@ -12,7 +13,7 @@ noFrame = record { at = 0; last = 0; link = 0; radius = 0 }
 
 -- a frame's heads are in the table
 abbrev pub Inside : ℕ → Frame → Type 0
-Inside cap frame = frame .last < 10 * cap
+Inside cap frame = frame .last < nodeWords cap
 
 entered-inside : (nodes : List ℕ) (cap x radius : ℕ) → x < cap → Inside cap (entered nodes cap x radius)
 unfolding entered

@@ -4,7 +4,8 @@ use mathlib.Core.Bool.{cond}
 use mathlib.Core.List.{List, [], _∷_}
 use lib.Dec.{ltb, eqb}
 use lib.ListN.{length, getD}
-use Rattle.layout.specs.Nodes.{stateAt, freeState, innerState}
+use Rattle.layout.specs.Pages.{mostPages}
+use Rattle.layout.specs.Nodes.{stateAt, freeState, innerState, nodeWords, stepsFor, mostNodes}
 use Rattle.sketch.specs.Settings.{Bits}
 use Rattle.descent.specs.declared.Cursor.{Cursor}
 use Rattle.descent.specs.Cursor.{arrive, descended, drawn, leafOf}
@@ -31,10 +32,10 @@ given nodes pages cap pcap next words b bytes =
 
 -- the capacities are within their limits, and the tables and the map long enough for them
 pub record Fitting (w : Given) (map : List ℕ) : Type 0 where
-  pub nodes : 10 * w .cap ≤ length (w .nodes)
-  pub cap : w .cap ≤ 262144
+  pub nodes : nodeWords (w .cap) ≤ length (w .nodes)
+  pub cap : w .cap ≤ mostNodes
   pub pages : w .next + w .pcap ≤ length (w .pages)
-  pub pcap : w .pcap ≤ 65535
+  pub pcap : w .pcap ≤ mostPages
   pub words : w .words ≤ 2048
   pub bits : w .pcap ≤ 32 * w .words
   pub summary : w .words + (w .words + 31) / 32 ≤ length map
@@ -109,7 +110,7 @@ module _ (w : Given) where
 
   -- below the inner node x: for each node that is read a step to it, at most seven to the next chain, and one up. The nodes are what can run out
   unfoldable pub walkBelow : ℕ → ℕ → ℕ → List ℕ → Marks
-  walkBelow x radius nodes map = run (10 * (w .cap + 1)) nodes (state map (w .pcap) (entered (w .nodes) (w .cap) x radius) [])
+  walkBelow x radius nodes map = run (stepsFor (w .cap)) nodes (state map (w .pcap) (entered (w .nodes) (w .cap) x radius) [])
 
   -- a leaf alone reads no further node
   abbrev pub markedLeaf : ℕ → List ℕ → ℕ → Marks

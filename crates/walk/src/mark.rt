@@ -1,6 +1,7 @@
 ghost use mathlib.Core.Path.{_≡_};
 ghost use Prim.Native.Nat.{_+_, _*_, _/_, _<_, _≤_};
 ghost use lib.ListN.{length};
+ghost use Rattle.layout.specs.Pages.{mostPages};
 ghost use Rattle.walk.specs.Mark.{marked, marksOf, markLeaf};
 use descent::Left;
 
@@ -24,7 +25,7 @@ pub fn mark_leaf(
     budget: u32,
 ) -> Left
     requires { ⌜ next + cap ≤ length (now pages) ⌝ }
-    requires { ⌜ (cap ≤ 65535) × (words ≤ 2048) × (cap ≤ 32 * words) ⌝ }
+    requires { ⌜ (cap ≤ mostPages) × (words ≤ 2048) × (cap ≤ 32 * words) ⌝ }
     requires { ⌜ words + (words + 31) / 32 ≤ length (now map) ⌝ }
     ensures { λ r. ⌜ marksOf (now (map .exit)) r ≡ markLeaf (now (pages .entry)) words cap next (now (map .entry)) first budget ⌝ }
 {

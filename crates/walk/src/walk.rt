@@ -91,7 +91,7 @@ fn walk_below(
     let mut n = 0;
     let mut left = pcap as u32;
     let mut reads = budget;
-    let mut steps = 10 * (cap + 1);
+    let mut steps = layout::nodes::STEPS * (cap + 1);
     while steps > 0 {
         steps -= 1;
         if n == 16 {

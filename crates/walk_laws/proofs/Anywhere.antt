@@ -8,7 +8,7 @@ use lib.Dec.{ltb, eqb}
 use lib.ListN.{length, getD}
 use borrow.Author.Tests.{ltb-false, eqb-false, lt-ltb}
 use Rattle.meaning.specs.Lists.{all}
-use Rattle.layout.specs.Nodes.{stateAt, freeState, innerState}
+use Rattle.layout.specs.Nodes.{stateAt, freeState, innerState, stepsFor}
 use Rattle.meaning.proofs.Lists.{all-append, and-intro}
 use Rattle.descent.specs.declared.Cursor.{Cursor}
 use Rattle.walk.specs.declared.frame.Frame.{Frame}
@@ -156,10 +156,10 @@ module _ (w : Given) where
       go : (p q r : Bool)
           → Within map
           (cond p (markExact w (λ m l k. marks m k) map (w .pcap) n (exactFrom w root 0))
-          (cond q broken (cond r (run w (10 * (w .cap + 1)) n start) (markedLeaf w n map (word - 2)))))
+          (cond q broken (cond r (run w (stepsFor (w .cap)) n start) (markedLeaf w n map (word - 2)))))
       go true q r = exact-marking (λ m l k. marks m k) alone map (w .pcap) n (exactFrom w root 0)
       go false true r = tt
-      go false false true = run-marking (10 * (w .cap + 1)) n start
+      go false false true = run-marking (stepsFor (w .cap)) n start
       go false false false = mark-marking (λ m l. marks m n) (λ m l. alone m l n) map (w .pcap) (word - 2)
 
   pub walk-marking : (root radius n : ℕ) (map after : List ℕ) (k : ℕ) → walkFrom w root radius n map ≡ marks after k

@@ -10,7 +10,7 @@ use lib.ListN.{getD}
 use borrow.Author.Tests.{eq-eqb, ne-eqb, lt-ltb, le-ltb}
 use Rattle.meaning.specs.Sketch.{byteDistance}
 use Rattle.meaning.specs.Trie.{Children, none, met, metIn}
-use Rattle.layout.specs.Nodes.{linkOf, byteOf, chainWord, stateAt, innerState, leafState}
+use Rattle.layout.specs.Nodes.{linkOf, byteOf, chainWord, stateAt, innerState, leafState, linkBase}
 use Rattle.trie.specs.Heap.{Holds}
 use Rattle.trie.specs.Phys.{Phys, leafP, innerP, Chain, stop, link, root, tree, childrenC, cellsC, Sound, SoundC}
 use Rattle.walk.specs.declared.frame.Frame.{Frame}
@@ -37,16 +37,16 @@ pub first-below : (cap pcap : ℕ) (ch : Chain) (lo hi : ℕ) → SoundC cap pca
 first-below cap pcap stop lo hi s = omega arith
 first-below cap pcap (link c t ch) lo hi s = omega (arith, root-below cap pcap t (s .2))
 
-pub link-in : (y l : ℕ) → l < 524288 → linkOf (chainWord y l) ≡ l
+pub link-in : (y l : ℕ) → l < linkBase → linkOf (chainWord y l) ≡ l
 link-in y l h = omega arith
 
-pub byte-in : (y l : ℕ) → l < 524288 → y ≡ byteOf (chainWord y l)
+pub byte-in : (y l : ℕ) → l < linkBase → y ≡ byteOf (chainWord y l)
 byte-in y l h = omega arith
 
 -- ---- steps
 module _ (nodes : List ℕ) (cap b : ℕ) (frame : Frame) (y : ℕ) where
   -- to node x of byte c, which is followed by l
-  pub step-chain : (x c l : ℕ) → frame .link ≡ x + 1 → x < cap → getD nodes x 0 ≡ chainWord c l → l < 524288 → c < 256
+  pub step-chain : (x c l : ℕ) → frame .link ≡ x + 1 → x < cap → getD nodes x 0 ≡ chainWord c l → l < linkBase → c < 256
       → stepIn nodes cap b frame y ≡ stepTo nodes cap x (byteDistance b (bitXor c y)) (frame .radius) (frame .at) l
   unfolding stepIn
   step-chain x c l e i h m n =

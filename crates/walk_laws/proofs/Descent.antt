@@ -8,7 +8,7 @@ use mathlib.Core.List.{List, [], _∷_, _++_}
 use lib.Dec.{eqb}
 use lib.ListN.{getD}
 use borrow.Author.Tests.{eq-eqb, ne-eqb, le-ltb}
-use Rattle.layout.specs.Nodes.{linkOf, byteOf, chainWord, stateAt, headAt, innerState, leafState}
+use Rattle.layout.specs.Nodes.{linkOf, byteOf, chainWord, stateAt, headAt, innerState, leafState, linkBase}
 use Rattle.descent.specs.declared.Cursor.{Cursor}
 use Rattle.descent.specs.Cursor.{ended, ahead, arrive, advance, descended, drawn, leafOf}
 use Rattle.descent.proofs.Steps.{descended-ended, advance-along, advance-past, advance-down}
@@ -109,7 +109,7 @@ module _ (nodes : List ℕ) (cap : ℕ) (bytes : List ℕ) where
   arrive-inner x at last y e l q = rw (e, le-ltb last at l, q)
 
   -- ---- at the child x of byte c, which is followed by the link l
-  module _ (x c l at last y : ℕ) (below : x < cap) (word : getD nodes x 0 ≡ chainWord c l) (small : l < 524288) (here : getD bytes at 0 ≡ y) where
+  module _ (x c l at last y : ℕ) (below : x < cap) (word : getD nodes x 0 ≡ chainWord c l) (small : l < linkBase) (here : getD bytes at 0 ≡ y) where
     abbrev at-child : Cursor
     at-child = ahead (x + 1) at last
 

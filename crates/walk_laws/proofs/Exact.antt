@@ -8,6 +8,7 @@ use mathlib.Core.List.{List, _∷_}
 use lib.ListN.{length, getD, drop, length-drop}
 use Rattle.meaning.specs.Sketch.{perByte}
 use Rattle.meaning.specs.Trie.{met, nodes}
+use Rattle.layout.specs.Nodes.{mostNodes}
 use Rattle.trie.specs.Heap.{Holds}
 use Rattle.trie.specs.Phys.{Phys, root, first, tree, pageCells, cells, Below, Sound}
 use Rattle.trie_laws.specs.Sound.{soundTrie}
@@ -24,7 +25,7 @@ use Rattle.walk_laws.proofs.Spelt.{Spelt, spelt-drop}
 use Rattle.walk_laws.proofs.Leads.{Leads, tree-leads, stepsBelow, steps-below, nearBelow, near-below}
 
 -- ---- from a node at level k, with the bytes ys left to go
-module _ (N P : List ℕ) (cap pcap next b len : ℕ) (bytes : List ℕ) (at last : ℕ) (small : cap ≤ 262144) (t : Phys) (ys : List ℕ) (k : ℕ)
+module _ (N P : List ℕ) (cap pcap next b len : ℕ) (bytes : List ℕ) (at last : ℕ) (small : cap ≤ mostNodes) (t : Phys) (ys : List ℕ) (k : ℕ)
     (h : Holds (cells cap next t) N P) (s : Sound cap pcap t) (u : Fit b len t k) (l : len ≤ k + length ys) (q : Spelt b bytes last ys at) where
   abbrev from : Cursor
   from = arrive N cap bytes (root t) at last
@@ -61,7 +62,7 @@ module _ (N P : List ℕ) (cap pcap next b len : ℕ) (bytes : List ℕ) (at las
   exact-drew f = leads .led .drew f
 
 -- ---- in a walk over the query's bytes
-module _ (w : Given) (small : w .cap ≤ 262144) (query : (i : ℕ) → getD (w .bytes) i 0 < 2 ^ (w .b * perByte (w .b))) where
+module _ (w : Given) (small : w .cap ≤ mostNodes) (query : (i : ℕ) → getD (w .bytes) i 0 < 2 ^ (w .b * perByte (w .b))) where
   abbrev end : ℕ
   end = length (w .bytes) - 1
 
@@ -88,7 +89,7 @@ module _ (w : Given) (small : w .cap ≤ 262144) (query : (i : ℕ) → getD (w 
         (omega (arith, length-drop k (w .bytes))) (spelt-drop (w .b) (w .bytes) query k) (w .cap)
 
 -- ---- there, from the root of a sound trie
-pub exact-right : (w : Given) (bytesOf : ℕ → List ℕ) (n : ℕ) (t : Phys) (map : List ℕ) → w .cap ≤ 262144
+pub exact-right : (w : Given) (bytesOf : ℕ → List ℕ) (n : ℕ) (t : Phys) (map : List ℕ) → w .cap ≤ mostNodes
     → ((i : ℕ) → getD (w .bytes) i 0 < 2 ^ (w .b * perByte (w .b)))
     → Holds (cells (w .cap) (w .next) t) (w .nodes) (w .pages) → Sound (w .cap) (w .pcap) t
     → soundTrie bytesOf (w .b) n (length (w .bytes)) 0 (tree t) ≡ true
@@ -98,7 +99,7 @@ pub exact-right : (w : Given) (bytesOf : ℕ → List ℕ) (n : ℕ) (t : Phys) 
 exact-right w bytesOf n t map small query h s sound few pages =
     sub-marks w small query t 0 h s (fit bytesOf (w .b) n (length (w .bytes)) t 0 sound) (omega (arith, steps-below t)) map (w .pcap) pages
 
-pub exact-trail : (w : Given) (bytesOf : ℕ → List ℕ) (n : ℕ) (t : Phys) → w .cap ≤ 262144
+pub exact-trail : (w : Given) (bytesOf : ℕ → List ℕ) (n : ℕ) (t : Phys) → w .cap ≤ mostNodes
     → ((i : ℕ) → getD (w .bytes) i 0 < 2 ^ (w .b * perByte (w .b)))
     → Holds (cells (w .cap) (w .next) t) (w .nodes) (w .pages) → Sound (w .cap) (w .pcap) t
     → soundTrie bytesOf (w .b) n (length (w .bytes)) 0 (tree t) ≡ true → nodes (tree t) ≤ w .cap
@@ -107,7 +108,7 @@ exact-trail w bytesOf n t small query h s sound few =
     sub-near w small query t 0 h s (fit bytesOf (w .b) n (length (w .bytes)) t 0 sound) (omega (arith, steps-below t))
 
 -- the root is not read
-pub exact-few : (w : Given) (bytesOf : ℕ → List ℕ) (n : ℕ) (t : Phys) → w .cap ≤ 262144
+pub exact-few : (w : Given) (bytesOf : ℕ → List ℕ) (n : ℕ) (t : Phys) → w .cap ≤ mostNodes
     → ((i : ℕ) → getD (w .bytes) i 0 < 2 ^ (w .b * perByte (w .b)))
     → Holds (cells (w .cap) (w .next) t) (w .nodes) (w .pages) → Sound (w .cap) (w .pcap) t
     → soundTrie bytesOf (w .b) n (length (w .bytes)) 0 (tree t) ≡ true → nodes (tree t) ≤ w .cap

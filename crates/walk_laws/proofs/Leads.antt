@@ -11,7 +11,7 @@ use borrow.Author.Tests.{lt-leb}
 use Rattle.meaning.specs.Sketch.{perByte, byteDistance}
 use Rattle.meaning.specs.Trie.{Children, none, child, met, metIn, nodes, nodesIn}
 use Rattle.sketch_laws.proofs.ByteDistance.{byte-distance-zero}
-use Rattle.layout.specs.Nodes.{linkOf, chainWord, headAt}
+use Rattle.layout.specs.Nodes.{linkOf, chainWord, headAt, linkBase, mostNodes}
 use Rattle.trie.specs.Heap.{Holds}
 use Rattle.trie.specs.Phys.{Phys, leafP, innerP, Buckets, end, bucket, Chain, stop, link, root, first, tree, childrenB, childrenC, pageCells, cells, cellsB, cellsC, Below, Sound, SoundB, SoundC}
 use Rattle.trie_laws.proofs.Lists.{less, same, more, compared}
@@ -85,7 +85,7 @@ module _ (b c y : ℕ) (ys : List ℕ) (t : Phys) where
   unfolding nearC
   same-near ch e n = sym (rw (at-none e, n) (append-nil (near b 0 t ys)))
 
-module _ (N P : List ℕ) (cap pcap next b len : ℕ) (bytes : List ℕ) (last : ℕ) (small : cap ≤ 262144) where
+module _ (N P : List ℕ) (cap pcap next b len : ℕ) (bytes : List ℕ) (last : ℕ) (small : cap ≤ mostNodes) where
   -- a descent ends at the leaf of some pages, which are held, and goes to some nodes
   pub record Leads (c : Cursor) (ps xs : List ℕ) (cost : ℕ) : Type 0 where
     pub led : Led N cap bytes c (first ps) cost xs
@@ -158,7 +158,7 @@ module _ (N P : List ℕ) (cap pcap next b len : ℕ) (bytes : List ℕ) (last :
       word : getD N (root t) 0 ≡ chainWord c (firstLink ch)
       word = slot-word cap next N P ch (root t) c (h .1 .1)
 
-      low : firstLink ch < 524288
+      low : firstLink ch < linkBase
       low = omega (arith, first-below cap pcap ch (suc c) hi (sound .3))
 
       past : SoundC cap pcap (link c t ch) c hi

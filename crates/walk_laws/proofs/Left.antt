@@ -6,7 +6,7 @@ use mathlib.Core.Bool.{Bool, true, false, cond}
 use mathlib.Core.List.{List, [], _∷_}
 use lib.Dec.{ltb, eqb}
 use lib.ListN.{length, getD}
-use Rattle.layout.specs.Nodes.{stateAt, freeState, innerState}
+use Rattle.layout.specs.Nodes.{stateAt, freeState, innerState, stepsFor}
 use Rattle.descent.specs.declared.Cursor.{Cursor}
 use Rattle.walk.specs.declared.frame.Frame.{Frame}
 use Rattle.walk.specs.declared.frame.Step.{Step}
@@ -81,10 +81,10 @@ module _ (w : Given) where
       go : (p q r : Bool)
           → AtMost n
           (cond p (markExact w (λ m l k. marks m k) map (w .pcap) n (exactFrom w root 0))
-          (cond q broken (cond r (run w (10 * (w .cap + 1)) n start) (markedLeaf w n map (word - 2)))))
+          (cond q broken (cond r (run w (stepsFor (w .cap)) n start) (markedLeaf w n map (word - 2)))))
       go true q r = exact-most (λ m l k. marks m k) (λ m l k. omega arith) map (w .pcap) n (exactFrom w root 0)
       go false true r = tt
-      go false false true = run-most (10 * (w .cap + 1)) n start
+      go false false true = run-most (stepsFor (w .cap)) n start
       go false false false = on-most n (λ m l. marks m n) (mark w map (w .pcap) (word - 2)) (λ m l. omega arith)
 
   pub walk-left : (root radius n : ℕ) (map after : List ℕ) (k : ℕ) → walkFrom w root radius n map ≡ marks after k → k ≤ n

@@ -6,7 +6,7 @@ use mathlib.Core.List.{List, [], _∷_, _++_, append-assoc}
 use lib.ListN.{length, getD}
 use borrow.Author.Tests.{eq-eqb, ne-eqb, lt-ltb}
 use Rattle.meaning.proofs.Stacks.{suc-pred}
-use Rattle.layout.specs.Nodes.{stateAt}
+use Rattle.layout.specs.Nodes.{stateAt, stepsFor}
 use Rattle.trie.specs.Heap.{Holds}
 use Rattle.trie.specs.Phys.{first, pageCells, Below}
 use Rattle.descent.specs.declared.Cursor.{Cursor}
@@ -209,6 +209,6 @@ module _ (w : Given) (root radius : ℕ) (map : List ℕ) where
   trail-leaf l r = rw (ne-eqb word 0 (omega arith), ne-eqb word 1 (omega arith), ne-eqb radius 0 (omega arith))
 
   pub trail-inner : word ≡ 1 → 0 < radius
-      → trailFrom w root radius map ≡ root ∷ trail w (10 * (w .cap + 1)) (state map (w .pcap) (entered (w .nodes) (w .cap) root radius) [])
+      → trailFrom w root radius map ≡ root ∷ trail w (stepsFor (w .cap)) (state map (w .pcap) (entered (w .nodes) (w .cap) root radius) [])
   unfolding trailFrom
   trail-inner o r = rw (ne-eqb word 0 (omega arith), eq-eqb word 1 o, ne-eqb radius 0 (omega arith))

@@ -14,7 +14,7 @@ use lib.Seq.{drop-cons}
 use borrow.Author.Tests.{leb-true, leb-false}
 use Rattle.meaning.specs.Sketch.{perByte, byteDistance}
 use Rattle.meaning.specs.Trie.{Children, none, met, metIn, nodes, nodesIn}
-use Rattle.layout.specs.Nodes.{linkOf, chainWord, headAt, stateAt}
+use Rattle.layout.specs.Nodes.{linkOf, chainWord, headAt, stateAt, stepsFor, mostNodes, nodeSteps}
 use Rattle.trie.specs.Heap.{Holds}
 use Rattle.trie.specs.Phys.{Phys, leafP, innerP, Buckets, end, bucket, Chain, stop, link, root, first, tree, childrenB, childrenC, cells, cellsB, cellsC, Sound, SoundB, SoundC}
 use Rattle.walk.specs.declared.frame.Frame.{Frame}
@@ -120,7 +120,7 @@ module _ (w : Given) where
   chains-left (bucket ch bs) g s = omega (arith, chains-left bs (suc g) (s .1))
 
   -- from chain g, which is exhausted, to the next
-  onward : (small : w .cap ≤ 262144) (bs : Buckets) (x g : ℕ) (stack : List Frame) → Holds (cellsB (w .cap) (w .next) bs x (suc g)) (w .nodes) (w .pages)
+  onward : (small : w .cap ≤ mostNodes) (bs : Buckets) (x g : ℕ) (stack : List Frame) → Holds (cellsB (w .cap) (w .next) bs x (suc g)) (w .nodes) (w .pages)
       → SoundB (w .cap) (w .pcap) bs (suc g)
       → (f n : ℕ) (map : List ℕ) (left : ℕ) (frame : Frame) → 0 < f → frame .at ≡ headAt (w .cap) x g → frame .last ≡ headAt (w .cap) x 7 → frame .link ≡ 0
       → Onward f n map left frame stack bs x (suc g)
@@ -155,7 +155,7 @@ pub record WalkRight (w : Given) (t : Phys) (radius budget : ℕ) (map : List �
   pub enough : budget + 1 ≤ left + nodes (tree t)
   pub same : walkFrom w (root t) radius budget map ≡ marks (markAll map (w .words) (met (w .b) radius (tree t) (w .bytes))) left
 
-module _ (w : Given) (small : w .cap ≤ 262144) (query : (k : ℕ) → getD (w .bytes) k 0 < 2 ^ (w .b * perByte (w .b))) where
+module _ (w : Given) (small : w .cap ≤ mostNodes) (query : (k : ℕ) → getD (w .bytes) k 0 < 2 ^ (w .b * perByte (w .b))) where
   abbrev N : List ℕ
   N = w .nodes
 
@@ -399,16 +399,16 @@ module _ (w : Given) (small : w .cap ≤ 262144) (query : (k : ℕ) → getD (w 
   -- below an inner root
   root-through : (x : ℕ) (bs : Buckets) (radius n : ℕ) (map : List ℕ) → Holds (cells (w .cap) (w .next) (innerP x bs)) N P
       → Sound (w .cap) (w .pcap) (innerP x bs) → Fit (w .b) len (innerP x bs) 0 → stepsBelow (innerP x bs) ≤ w .cap
-      → steps (innerP x bs) ≤ 10 * (w .cap + 1) → stepsBelow (innerP x bs) ≤ n → length (metB bs radius []) ≤ w .pcap
-      → Under w (10 * (w .cap + 1)) n map (w .pcap) (entered N (w .cap) x radius) (metB bs radius []) (nearUnder bs radius []) [] (stepsB bs) (stepsAmong bs)
+      → steps (innerP x bs) ≤ stepsFor (w .cap) → stepsBelow (innerP x bs) ≤ n → length (metB bs radius []) ≤ w .pcap
+      → Under w (stepsFor (w .cap)) n map (w .pcap) (entered N (w .cap) x radius) (metB bs radius []) (nearUnder bs radius []) [] (stepsB bs) (stepsAmong bs)
   unfolding entered
   root-through x bs radius n map h s u few c k m =
-      all-through bs x 0 [] (h .1) (s .1) (u .1) (u .0) few (10 * (w .cap + 1)) n map (w .pcap) (entered N (w .cap) x radius)
+      all-through bs x 0 [] (h .1) (s .1) (u .1) (u .0) few (stepsFor (w .cap)) n map (w .pcap) (entered N (w .cap) x radius)
       (from-first bs x radius (h .1) (s .1)) (omega arith) k m
 
   -- from the root, at a radius that is not 0
   right-some : (t : Phys) (radius budget : ℕ) (map : List ℕ) → Holds (cells (w .cap) (w .next) t) N P → Sound (w .cap) (w .pcap) t → Fit (w .b) len t 0
-      → stepsBelow t ≤ w .cap → steps t ≤ 10 * (w .cap + 1) → stepsBelow t ≤ budget → length (met (w .b) radius (tree t) (w .bytes)) ≤ w .pcap
+      → stepsBelow t ≤ w .cap → steps t ≤ stepsFor (w .cap) → stepsBelow t ≤ budget → length (met (w .b) radius (tree t) (w .bytes)) ≤ w .pcap
       → 0 < radius → WalkRight w t radius budget map
   unfolding met walkBelow
   right-some (leafP x ps) radius budget map h s u few c k m some =
@@ -438,7 +438,7 @@ module _ (w : Given) (small : w .cap ≤ 262144) (query : (k : ℕ) → getD (w 
 
   -- the nodes that it goes through
   trail-some : (t : Phys) (radius : ℕ) (map : List ℕ) → Holds (cells (w .cap) (w .next) t) N P → Sound (w .cap) (w .pcap) t → Fit (w .b) len t 0
-      → stepsBelow t ≤ w .cap → steps t ≤ 10 * (w .cap + 1) → length (met (w .b) radius (tree t) (w .bytes)) ≤ w .pcap → 0 < radius
+      → stepsBelow t ≤ w .cap → steps t ≤ stepsFor (w .cap) → length (met (w .b) radius (tree t) (w .bytes)) ≤ w .pcap → 0 < radius
       → trailFrom w (root t) radius map ≡ near (w .b) radius t (w .bytes)
   unfolding met near
   trail-some (leafP x ps) radius map h s u few c m some =
@@ -463,7 +463,7 @@ module _ (w : Given) (small : w .cap ≤ 262144) (query : (k : ℕ) → getD (w 
   root-some (innerP x bs) h = omega (arith, h .0)
 
   module _ (t : Phys) (radius : ℕ) (map : List ℕ) (h : Holds (cells (w .cap) (w .next) t) N P) (s : Sound (w .cap) (w .pcap) t) (u : Fit (w .b) len t 0)
-      (few : stepsBelow t ≤ w .cap) (c : steps t ≤ 10 * (w .cap + 1)) (m : length (met (w .b) radius (tree t) (w .bytes)) ≤ w .pcap) where
+      (few : stepsBelow t ≤ w .cap) (c : steps t ≤ stepsFor (w .cap)) (m : length (met (w .b) radius (tree t) (w .bytes)) ≤ w .pcap) where
     -- the pages that are met, marked in order
     pub right : (budget : ℕ) → nodes (tree t) ≤ budget + 1 → WalkRight w t radius budget map
     right budget k = elim (ℕ-discrete radius 0) [
@@ -497,14 +497,14 @@ module _ (cap pcap : ℕ) where
   mutual
     unfolding nodes nodesIn
 
-    pub steps-nodes : (t : Phys) → Sound cap pcap t → steps t ≤ 10 * nodes (tree t)
+    pub steps-nodes : (t : Phys) → Sound cap pcap t → steps t ≤ nodeSteps * nodes (tree t)
     steps-nodes (leafP n ps) s = omega arith
     steps-nodes (innerP n bs) s = omega (arith, steps-buckets bs 0 (s .1))
 
-    steps-buckets : (bs : Buckets) (g : ℕ) → SoundB cap pcap bs g → stepsB bs + g ≤ 8 + 10 * nodesIn (childrenB bs)
+    steps-buckets : (bs : Buckets) (g : ℕ) → SoundB cap pcap bs g → stepsB bs + g ≤ 8 + nodeSteps * nodesIn (childrenB bs)
     steps-buckets end g s = omega arith
     steps-buckets (bucket ch bs) g s = omega (arith, steps-chain ch (32 * g) (32 * g + 32) (childrenB bs) (s .0), steps-buckets bs (suc g) (s .1))
 
-    steps-chain : (ch : Chain) (lo hi : ℕ) (cs : Children) → SoundC cap pcap ch lo hi → stepsC ch + 10 * nodesIn cs ≤ 10 * nodesIn (childrenC ch cs)
+    steps-chain : (ch : Chain) (lo hi : ℕ) (cs : Children) → SoundC cap pcap ch lo hi → stepsC ch + nodeSteps * nodesIn cs ≤ nodeSteps * nodesIn (childrenC ch cs)
     steps-chain stop lo hi cs s = omega arith
     steps-chain (link c t ch) lo hi cs s = omega (arith, steps-nodes t (s .2), steps-chain ch (suc c) hi cs (s .3))

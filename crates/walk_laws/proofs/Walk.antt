@@ -13,6 +13,7 @@ use Rattle.meaning.specs.Lists.{all, count}
 use Rattle.meaning.specs.Sketch.{perByte, byteDistance}
 use Rattle.meaning.specs.Trie.{Children, met, metIn, nodes}
 use Rattle.meaning.proofs.Lists.{all-append, and-intro}
+use Rattle.layout.specs.Nodes.{mostNodes}
 use Rattle.trie.specs.Heap.{Holds}
 use Rattle.trie.specs.Phys.{Phys, leafP, innerP, Buckets, end, bucket, Chain, stop, link, root, tree, childrenB, childrenC, cells, Below, Sound, SoundB, SoundC}
 use Rattle.trie_laws.specs.Sound.{soundTrie}
@@ -25,7 +26,7 @@ use Rattle.walk_laws.proofs.Near.{near-count, near-le, near-path, near-
 use Rattle.walk_laws.proofs.Right.{WalkRight, right, right-trail, steps-nodes}
 
 -- ---- on tables that hold a sound trie
-pub walk-right : (w : Given) (bytesOf : ℕ → List ℕ) (n : ℕ) (t : Phys) (radius budget : ℕ) (map : List ℕ) → w .cap ≤ 262144
+pub walk-right : (w : Given) (bytesOf : ℕ → List ℕ) (n : ℕ) (t : Phys) (radius budget : ℕ) (map : List ℕ) → w .cap ≤ mostNodes
     → ((k : ℕ) → getD (w .bytes) k 0 < 2 ^ (w .b * perByte (w .b)))
     → Holds (cells (w .cap) (w .next) t) (w .nodes) (w .pages) → Sound (w .cap) (w .pcap) t
     → soundTrie bytesOf (w .b) n (length (w .bytes)) 0 (tree t) ≡ true
@@ -36,7 +37,7 @@ walk-right w bytesOf n t radius budget map small query h s sound few pages lasts
     (omega (arith, steps-nodes (w .cap) (w .pcap) t s)) pages budget lasts
 
 -- ---- the nodes it goes through there
-module _ (w : Given) (bytesOf : ℕ → List ℕ) (n : ℕ) (t : Phys) (radius : ℕ) (map : List ℕ) (small : w .cap ≤ 262144)
+module _ (w : Given) (bytesOf : ℕ → List ℕ) (n : ℕ) (t : Phys) (radius : ℕ) (map : List ℕ) (small : w .cap ≤ mostNodes)
     (query : (k : ℕ) → getD (w .bytes) k 0 < 2 ^ (w .b * perByte (w .b)))
     (h : Holds (cells (w .cap) (w .next) t) (w .nodes) (w .pages)) (s : Sound (w .cap) (w .pcap) t)
     (sound : soundTrie bytesOf (w .b) n (length (w .bytes)) 0 (tree t) ≡ true)

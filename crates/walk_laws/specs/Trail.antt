@@ -4,7 +4,7 @@ use mathlib.Core.Bool.{cond}
 use mathlib.Core.List.{List, [], _∷_, _++_}
 use lib.Dec.{ltb, eqb}
 use lib.ListN.{length, getD}
-use Rattle.layout.specs.Nodes.{byteOf, stateAt, freeState, innerState}
+use Rattle.layout.specs.Nodes.{byteOf, stateAt, freeState, innerState, stepsFor}
 use Rattle.descent.specs.declared.Cursor.{Cursor}
 use Rattle.descent.specs.Cursor.{advance}
 use Rattle.walk.specs.declared.frame.Frame.{Frame}
@@ -81,5 +81,5 @@ module _ (w : Given) where
       let word : ℕ = getD (w .nodes) (stateAt (w .cap) root) 0 in
       let below : List ℕ =
       cond (eqb radius 0) (exactBelow root 0)
-      (cond (eqb word innerState) (trail (10 * (w .cap + 1)) (state map (w .pcap) (entered (w .nodes) (w .cap) root radius) [])) []) in
+      (cond (eqb word innerState) (trail (stepsFor (w .cap)) (state map (w .pcap) (entered (w .nodes) (w .cap) root radius) [])) []) in
       cond (eqb word freeState) [] (root ∷ below)

@@ -6,7 +6,7 @@ use lib.Dec.{eqb}
 use borrow.Author.Needs.{needs}
 use Rattle.meaning.specs.Ledger.{check, reading}
 use Rattle.promises.specs.Tables.{Tables}
-use Rattle.store.specs.Relation.{withVerdict, Promised}
+use Rattle.promises.specs.Relation.{withVerdict, Promised}
 use Rattle.trie_room.proofs.Count.{flag-most}
 use Rattle.capi.proofs.vetch_check.Statement.{statement}
 use Rattle.capi.proofs.vetch_check.Tie as tie

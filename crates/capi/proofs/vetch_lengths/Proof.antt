@@ -1,7 +1,7 @@
 -- `vetch_lengths` gives what is `needed`, part by part.
 use mathlib.Core.Path.{ap}
 use borrow.Author.Needs.{needs}
-use Rattle.index.specs.declared.lengths.Lengths.{Lengths}
+use Rattle.open.specs.declared.lengths.Lengths.{Lengths}
 use Rattle.capi.proofs.vetch_lengths.Statement.{statement}
 use Rattle.capi.proofs.vetch_lengths.Tie as tie
 

@@ -7,7 +7,7 @@ use lib.Seq.{length-take-le}
 use Rattle.layout.specs.declared.Header.{Header}
 use Rattle.layout.specs.declared.Opening.the-variants.{Shown}
 use Rattle.promises.specs.Tables.{Tables, tables}
-use Rattle.index.specs.Entry.{entry}
+use Rattle.entry.specs.Entry.{entry}
 use Rattle.check_store.proofs.Admitted.{Admitted, admitted, header-limits, lent-header, words-most, words-fit, working-long}
 use Rattle.check_store.proofs.Promise.{check-refused, check-done}
 use borrow.Author.Needs.{needs}

@@ -3,6 +3,7 @@ use Prim.Native.Nat.{_*_, _<_}
 use native.Mathlib.Omega.{arith}
 use mathlib.Core.Path.{refl, sym, _∙_}
 use borrow.Author.Tests.{eq-eqb, ne-eqb, lt-ltb, le-ltb}
+use Rattle.layout.specs.Nodes.{nodeWords}
 use Rattle.descent.specs.Cursor.{arrive}
 use borrow.Author.Needs.{needs}
 use Rattle.descent.proofs.arrive.Statement.{statement}
@@ -57,7 +58,7 @@ head-at-requires c κs =
     (start .pre .0 .most, start .pre .1 .0, omega (arith, c .shared-slice-known4 .given (start .args .at)))
 
 -- the head stands in the table
-head-in : (c : tie.After-head-at) → c .head-at .result < 10 * (c .before .before .before .before .before .before .before .before .before .args .cap)
+head-in : (c : tie.After-head-at) → c .head-at .result < nodeWords (c .before .before .before .before .before .before .before .before .before .args .cap)
 head-in c =
     let start = c .before .before .before .before .before .before .before .before .before in
     omega (arith, c .head-at .ensures, start .pre .1 .0, c .before .shared-slice-known4 .given (start .args .at))

@@ -7,7 +7,7 @@ use Rattle.layout.specs.declared.Header.{Header}
 use Rattle.layout.specs.declared.Opening.the-variants.{Shown}
 use Rattle.layout.specs.Header.{openingOf}
 use Rattle.layout.proofs.Openings.{shown}
-use Rattle.index.proofs.Questions.{fails, holds}
+use Rattle.entry.proofs.Questions.{fails, holds}
 use Rattle.add_page.proofs.Admits.{longAll, live-inside, admit-refused, admit-6, admit-7, admit-8, admit-9, admit-10, admit-11, admit-all}
 use Rattle.add_page.proofs.questions.admit.Statement.{statement}
 use Rattle.add_page.proofs.questions.admit.Tie as tie

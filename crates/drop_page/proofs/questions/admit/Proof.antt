@@ -6,7 +6,7 @@ use Rattle.layout.specs.declared.Header.{Header}
 use Rattle.layout.specs.declared.Opening.the-variants.{Shown}
 use Rattle.layout.specs.Header.{openingOf}
 use Rattle.layout.proofs.Openings.{shown}
-use Rattle.index.proofs.Questions.{fails, holds}
+use Rattle.entry.proofs.Questions.{fails, holds}
 use Rattle.drop_page.proofs.Admits.{longNodesBy, longPagesBy, live-in, admit-refused, admit-nodes, admit-pages, admit-8, admit-9, admit-all}
 use Rattle.drop_page.proofs.questions.admit.Statement.{statement}
 use Rattle.drop_page.proofs.questions.admit.Tie as tie

@@ -8,7 +8,7 @@ use lib.Seq.{length-take-le}
 use Rattle.meaning.specs.Sketch.{packedLength, blockLength}
 use Rattle.meaning.specs.Forest.{bytesOfSketch}
 use Rattle.layout.specs.Header.{bare}
-use Rattle.exact.proofs.Sizes.{block-most, size-most}
+use Rattle.descent.proofs.Sizes.{block-most, size-most}
 use Rattle.search.proofs.Blocks.{bytes-first, fitting-call, walk-call}
 use Rattle.search.proofs.marks.mark_block.Statement.{statement}
 use Rattle.search.proofs.marks.mark_block.Tie as tie

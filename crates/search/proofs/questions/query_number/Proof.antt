@@ -1,6 +1,6 @@
 -- `query_number` asks 7, 10 and 11.
 use borrow.Author.Needs.{needs}
-use Rattle.index.proofs.Questions.{fails, holds}
+use Rattle.entry.proofs.Questions.{fails, holds}
 use Rattle.search.proofs.Queries.{query-reader, query-radius, query-count, query-range, query-none}
 use Rattle.search.proofs.questions.query_number.Statement.{statement}
 use Rattle.search.proofs.questions.query_number.Tie as tie

@@ -4,8 +4,8 @@ use borrow.Author.Needs.{needs}
 use Rattle.layout.specs.declared.Header.{Header}
 use Rattle.layout.specs.declared.Opening.the-variants.{Shown}
 use Rattle.promises.specs.Tables.{Tables, tables}
-use Rattle.index.specs.Entry.{entry}
-use Rattle.index.proofs.Enters.{Entered, entry-shown}
+use Rattle.entry.specs.Entry.{entry}
+use Rattle.entry.proofs.Enters.{Entered, entry-shown}
 use Rattle.search.proofs.Enters.{lends}
 use Rattle.search.proofs.Queries.{query-passed}
 use lib.Seq.{length-take-le}

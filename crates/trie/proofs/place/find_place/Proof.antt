@@ -3,6 +3,7 @@ use Prim.Native.Nat.{_*_, _<_, _≤_}
 use mathlib.Core.Path.{_≡_, refl}
 use native.Mathlib.Omega.{arith}
 use borrow.Author.Needs.{needs}
+use Rattle.layout.specs.Nodes.{nodeWords}
 use Rattle.trie.specs.Model.{placeFrom, findPlace}
 use Rattle.trie.proofs.Steps.{place-out, place-none, place-broken, place-go, place-found, place-past}
 use Rattle.trie.proofs.place.find_place.Statement.{statement}
@@ -10,7 +11,7 @@ use Rattle.trie.proofs.place.find_place.Tie as tie
 
 abbrev Inv-loop : tie.InvT-loop
 Inv-loop nodes cap n byte slot₀ left₀ slot left =
-    (placeFrom nodes cap byte slot left ≡ findPlace nodes cap n byte) × (slot < 10 * cap) × (left ≤ 33)
+    (placeFrom nodes cap byte slot left ≡ findPlace nodes cap n byte) × (slot < nodeWords cap) × (left ≤ 33)
 
 abbrev μ-loop : tie.MeasureT-loop
 μ-loop nodes cap n byte slot₀ left₀ slot left = left

@@ -1,3 +1,0 @@
-pub mod Sizes
-pub mod Shift
-pub mod Blocks

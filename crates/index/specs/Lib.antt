@@ -1,4 +1,0 @@
-pub mod Entry
-pub mod Lengths
-pub mod Register
-pub mod Show

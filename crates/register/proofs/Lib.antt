@@ -1,0 +1,2 @@
+pub mod RightsCalls
+pub mod Shows

@@ -1,0 +1,2 @@
+pub mod Register
+pub mod Show

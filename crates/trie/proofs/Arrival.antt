@@ -1,0 +1,159 @@
+-- On tables that hold a trie, `descend_to` goes as far as the page's bytes lead in it: to a leaf, or to an inner node without the child.
+use Prim.Native.Nat.{ℕ, zero, suc, _-_, _<_, _≤_}
+use native.Mathlib.Nat.{zero-add}
+use native.Mathlib.Numerals.{add-one}
+use native.Mathlib.Omega.{arith}
+use mathlib.Core.Path.{_≡_, refl, ap, _∙_, sym, subst}
+use mathlib.Core.Bool.{Bool, true, false}
+use mathlib.Core.List.{List}
+use lib.ListN.{length, getD}
+use Rattle.meaning.specs.Trie.{Tree, inner, Children, byteAt}
+use Rattle.layout.specs.Nodes.{mostNodes}
+use Rattle.trie.specs.declared.place.Place.the-variants.{Found, Missing}
+use Rattle.trie.specs.Heap.{Cells, Holds, node}
+use Rattle.trie.specs.Model.{findPlace}
+use Rattle.trie.specs.Phys.{Phys, Buckets, Chain, root, tree, childrenB, cells, State, leafP, innerP, link}
+use Rattle.trie.proofs.Spot.{starts, begins, headC, answer, SpotB, spot}
+use Rattle.trie_laws.specs.Path.{hasBelow, hasPath, subtree, pathOf, depth}
+use Rattle.trie_laws.specs.Sound.{soundTrie}
+use Rattle.trie_laws.proofs.Sound.{inner-parts}
+use Rattle.trie_laws.proofs.Reach.{path-length, subtree-sound}
+use Rattle.trie.specs.declared.path.Reach.{Reach}
+use Rattle.trie.specs.declared.path.Reach.the-variants.{Leaf, Gap, Broken}
+use Rattle.trie.specs.Descend.{descend, descendTo}
+use Rattle.trie.proofs.Descends.{desc-leaf, desc-found, desc-gap}
+use Rattle.trie.proofs.Paths.{path-depth}
+use Rattle.trie.proofs.Spots.{spot-none}
+use Rattle.trie.proofs.Way.{Way, start, onward}
+
+-- Y are page p's bytes, and the trie is not deeper than they are long
+pub record Leads (bytesOf : ℕ → List ℕ) (p : ℕ) (t : Tree) (Y : List ℕ) : Type 0 where
+  pub bytes : (k : ℕ) → k < length Y → byteAt bytesOf k p ≡ getD Y k 0
+  pub octets : (k : ℕ) → getD Y k 0 < 256
+  pub shallow : (k : ℕ) (cs : Children) → hasPath (pathOf bytesOf 0 p k) t ≡ true → subtree (pathOf bytesOf 0 p k) t ≡ inner cs → k < length Y
+
+-- a sound trie is no deeper
+pub sound-leads : (bytesOf : ℕ → List ℕ) (b n p : ℕ) (t : Tree) (Y : List ℕ) → soundTrie bytesOf b n (length Y) 0 t ≡ true →
+    ((k : ℕ) → k < length Y → byteAt bytesOf k p ≡ getD Y k 0) → ((k : ℕ) → getD Y k 0 < 256) → Leads bytesOf p t Y
+sound-leads bytesOf b n p t Y g e o =
+    record {
+      bytes = e;
+      octets = o;
+      shallow = λ k cs h q.
+          inner-parts bytesOf b n (length Y) k cs (rw (path-length bytesOf 0 p k, zero-add k, q) at (subtree-sound bytesOf b n (length Y) 0 (pathOf bytesOf 0 p k) t g h)) .level;
+    }
+
+module _ (cap pcap base : ℕ) (small : cap ≤ mostNodes) (bytesOf : ℕ → List ℕ) (p : ℕ) where
+  -- the node at level k that has u as a child, linked from slot s
+  pub record Parent (t : Phys) (k : ℕ) (u : Phys) (s : ℕ) : Type 0 where
+    pub node : ℕ
+    pub buckets : Buckets
+    pub way : Way cap pcap base small bytesOf p t k (innerP node buckets)
+    pub spot : SpotB cap pcap base small buckets node 0 (byteAt bytesOf k p)
+    pub octet : byteAt bytesOf k p < 256
+    pub slot : spot .slot ≡ s
+    pub after : Chain
+    pub here : spot .tail ≡ link (byteAt bytesOf k p) u after
+
+  -- slot s links to u at level k, where that is not the root
+  abbrev pub Linked : Phys → ℕ → Phys → ℕ → Type 0
+  Linked t zero u s = Unit {0}
+  Linked t (suc k) u s = Parent t k u s
+
+  -- a leaf is reached
+  pub record AtLeaf (t : Phys) (n s k : ℕ) : Type 0 where
+    pub pages : List ℕ
+    pub way : Way cap pcap base small bytesOf p t k (leafP n pages)
+    pub linked : Linked t k (leafP n pages) s
+    pub deep : depth bytesOf 0 p (tree t) ≡ k
+
+  -- an inner node is reached that lacks the next byte's child, which belongs at slot s
+  pub record AtGap (t : Phys) (n s k : ℕ) : Type 0 where
+    pub buckets : Buckets
+    pub way : Way cap pcap base small bytesOf p t k (innerP n buckets)
+    pub spot : SpotB cap pcap base small buckets n 0 (byteAt bytesOf k p)
+    pub octet : byteAt bytesOf k p < 256
+    pub slot : spot .slot ≡ s
+    pub gap : starts (spot .tail) (byteAt bytesOf k p) ≡ false
+    pub deep : depth bytesOf 0 p (tree t) ≡ k
+
+  abbrev pub Arrives : Phys → Reach → Type 0
+  Arrives t (Leaf n s k) = AtLeaf t n s k
+  Arrives t (Gap n s k) = AtGap t n s k
+  Arrives t Broken = ⊥
+
+  deep-end : (t : Phys) (k : ℕ) (u : Phys) → Way cap pcap base small bytesOf p t k u → hasBelow (byteAt bytesOf k p) (tree u) ≡ false → depth bytesOf 0 p (tree t) ≡ k
+  deep-end t k u w h = path-depth bytesOf p k 0 (tree t) (w .path) (rw (zero-add k, w .sub) h)
+
+  module _ {N P Y : List ℕ} {free : ℕ} {t : Phys} {fs : List ℕ} {G : Cells} (st : State cap pcap base N P free t fs G) (y : Leads bytesOf p (tree t) Y) where
+    -- the words of a subtree
+    there : (k : ℕ) (u : Phys) → Way cap pcap base small bytesOf p t k u → Holds (cells cap base u) N P
+    there k u w = w .context .same u refl .to .holds N P (subst (λ (x : Phys). Holds (cells cap base x) N P) (sym (w .is)) (st .heap .holds .0)) .0
+
+    at-leaf : (k s n : ℕ) (ps : List ℕ) → Way cap pcap base small bytesOf p t k (leafP n ps) → Linked t k (leafP n ps) s → Arrives t (descend N cap Y n s k (length Y - k))
+    unfolding hasBelow
+    at-leaf k s n ps w l =
+        subst (Arrives t) (desc-leaf N cap Y n s k (descend N cap Y n s k (length Y - k)) refl (omega (arith, there k (leafP n ps) w .0)))
+        (record { pages = ps; way = w; linked = l; deep = deep-end t k (leafP n ps) w refl })
+
+    module _ (k s n : ℕ) (bs : Buckets) (w : Way cap pcap base small bytesOf p t k (innerP n bs)) (l : k < length Y) (m : byteAt bytesOf k p < 256) (o : SpotB cap pcap base small bs n 0 (byteAt bytesOf k p)) where
+      place : (q : Bool) → starts (o .tail) (byteAt bytesOf k p) ≡ q → answer q (o .slot) (headC (o .tail)) ≡ findPlace N cap n (getD Y k 0)
+      place q e = ap (λ (x : Bool). answer x (o .slot) (headC (o .tail))) (sym e) ∙ sym (o .find N P (there k (innerP n bs) w .1)) ∙ ap (findPlace N cap n) (y .bytes k l)
+
+      at-gap : starts (o .tail) (byteAt bytesOf k p) ≡ false → Arrives t (descend N cap Y n s k (length Y - k))
+      unfolding hasBelow
+      at-gap e =
+          let z = there k (innerP n bs) w .0 in
+          subst (Arrives t)
+          (desc-gap N cap Y n s k (descend N cap Y n s k (length Y - k)) refl (omega arith) (omega arith) l (Missing (o .slot)) (place false e) (o .slot) refl)
+          (record {
+            buckets = bs;
+            way = w;
+            spot = o;
+            octet = m;
+            slot = refl;
+            gap = e;
+            deep = deep-end t k (innerP n bs) w (spot-none cap pcap base small o e);
+          })
+
+      at-child : (u : Phys) (after : Chain) → o .tail ≡ link (byteAt bytesOf k p) u after → starts (o .tail) (byteAt bytesOf k p) ≡ true →
+          Arrives t (descend N cap Y (root u) (o .slot) (suc k) (length Y - suc k)) → Arrives t (descend N cap Y n s k (length Y - k))
+      at-child u after c e r =
+          let z = there k (innerP n bs) w .0 in
+          subst (Arrives t)
+          (desc-found N cap Y n s k (descend N cap Y n s k (length Y - k)) refl (omega arith) (omega arith) l (Found (o .slot) (root u)) (rw c at (place true e)) (root u) (o .slot) refl)
+          (rw (add-one k) r)
+
+    at-node : (k s : ℕ) (u : Phys) → Way cap pcap base small bytesOf p t k u → Linked t k u s →
+        (k < length Y → (v : Phys) → Way cap pcap base small bytesOf p t (suc k) v → (r : ℕ) → Linked t (suc k) v r → Arrives t (descend N cap Y (root v) r (suc k) (length Y - suc k))) →
+        Arrives t (descend N cap Y (root u) s k (length Y - k))
+    at-node k s (leafP n ps) w l more = at-leaf k s n ps w l
+    at-node k s (innerP n bs) w l more = go (starts (o .tail) (byteAt bytesOf k p)) refl
+      where
+        i : k < length Y
+        i = y .shallow k (childrenB bs) (w .path) (w .sub)
+
+        m : byteAt bytesOf k p < 256
+        m = omega (arith, y .bytes k i, y .octets k)
+
+        o : SpotB cap pcap base small bs n 0 (byteAt bytesOf k p)
+        o = spot cap pcap base small n bs (byteAt bytesOf k p) m (w .sound)
+
+        go : (q : Bool) → starts (o .tail) (byteAt bytesOf k p) ≡ q → Arrives t (descend N cap Y n s k (length Y - k))
+        go false e = at-gap k s n bs w i m o e
+        go true e =
+            let x = begins (o .tail) (byteAt bytesOf k p) e in
+            at-child k s n bs w i m o (x .0) (x .1) (x .2) e
+            (more i (x .0) (onward cap pcap base small bytesOf p w o m (x .0) (x .1) (x .2)) (o .slot)
+            (record { node = n; buckets = bs; way = w; spot = o; octet = m; slot = refl; after = x .1; here = x .2 }))
+
+    reach : (f k s : ℕ) (u : Phys) → length Y - k ≡ f → Way cap pcap base small bytesOf p t k u → Linked t k u s → Arrives t (descend N cap Y (root u) s k (length Y - k))
+    reach zero k s u e w l = at-node k s u w l (λ i. absurd (omega arith))
+    reach (suc f) k s u e w l = at-node k s u w l (λ i v x r m. reach f (suc k) r v (omega arith) x m)
+
+    -- the law of `descend_to`
+    pub arrives : Arrives t (descendTo N cap (root t) Y)
+    unfolding descendTo
+    arrives =
+        let e : length Y - 0 ≡ length Y = omega arith in
+        rw e at (reach (length Y) 0 0 t e (start cap pcap base small bytesOf p t (st .sound)) tt)
