@@ -20,9 +20,9 @@ use Rattle.layout.proofs.Words.{live-inside, class-inside}
 use Rattle.trie.specs.declared.span.Span.{Span}
 use Rattle.trie.specs.declared.span.Span.the-variants.{Enough, Short}
 use Rattle.trie.specs.declared.span.Span.the-variants as spans
-use Rattle.trie.specs.Tables.{RowTable}
-use Rattle.trie_room.specs.RowBytes.{rowsOf as blockRows}
-use Rattle.trie_room.proofs.RowBytes.{rows-table}
+use Rattle.blocks.specs.Tables.{RowTable}
+use Rattle.blocks.specs.RowBytes.{rowsOf as blockRows}
+use Rattle.blocks.proofs.RowBytes.{rows-table}
 use Rattle.promises.specs.Tables.{Tables, tables, given}
 use Rattle.promises.specs.Answers.{number}
 use Rattle.promises.specs.Sound.{Sound}

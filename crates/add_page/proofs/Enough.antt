@@ -13,7 +13,7 @@ use Rattle.layout.specs.Pages.{nextAt}
 use Rattle.sketch.proofs.Places.{part-range}
 use Rattle.sketch_laws.proofs.Packing.{pack-byte}
 use Rattle.trie.specs.Heap.{Cells, Heap, _⊕_}
-use Rattle.trie.specs.Tables.{NodeTable, PageTable}
+use Rattle.layout.specs.Tables.{NodeTable, PageTable}
 use Rattle.trie.specs.Phys.{Phys, root, tree, first, cells, freeCells, Below, State}
 use Rattle.trie.specs.Phys.{Sound as SoundNodes}
 use Rattle.trie.proofs.Frame.{Less, less}
@@ -22,7 +22,7 @@ use Rattle.trie_laws.specs.Needed.{needed, sumFrom}
 use Rattle.trie_laws.proofs.Pages.{stands-any}
 use Rattle.trie.proofs.Arrival.{Leads, sound-leads}
 use Rattle.trie_room.specs.declared.needed.Needed.the-variants.{Nodes}
-use Rattle.trie_room.specs.RowBytes.{rowBytes}
+use Rattle.blocks.specs.RowBytes.{rowBytes}
 use Rattle.trie_room.proofs.Block.{needed-block}
 use Rattle.promises.specs.Sound.{triesCells, Rooted}
 use Rattle.add_page.specs.Room.{neededFrom, blockNeeds}

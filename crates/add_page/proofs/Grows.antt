@@ -14,7 +14,7 @@ use Rattle.layout.specs.Nodes.{mostNodes}
 use Rattle.layout.specs.Lengths.{pagesLength}
 use Rattle.layout.specs.Pages.{nextAt, linksAt}
 use Rattle.trie.specs.Heap.{Cells, Heap, nil, page, _⊕_}
-use Rattle.trie.specs.Tables.{RowTable}
+use Rattle.blocks.specs.Tables.{RowTable}
 use Rattle.trie.specs.Phys.{Phys, root, tree, first, cells, freeCells, Below, State}
 use Rattle.trie.proofs.Frame.{Less, less, nodes-kept, pages-kept}
 use Rattle.trie.proofs.Spot.{root-below}
@@ -23,8 +23,8 @@ use Rattle.trie_laws.specs.Needed.{sumFrom}
 use Rattle.trie_laws.proofs.Nodes.{insert-nodes}
 use Rattle.trie_insert.proofs.Grow.{Grown}
 use Rattle.trie_insert.proofs.Inserts.{insert-right}
-use Rattle.trie_room.specs.RowBytes.{rowBytes, rowsOf}
-use Rattle.trie_room.proofs.RowBytes.{level-byte}
+use Rattle.blocks.specs.RowBytes.{rowBytes, rowsOf}
+use Rattle.blocks.proofs.RowBytes.{level-byte}
 use Rattle.promises.specs.Sound.{triesCells, Rooted}
 use Rattle.add_page.specs.declared.insert.Inserted.the-variants.{Free}
 use Rattle.add_page.specs.Insert.{Filled, onInsert, insertBlock, insertFrom}

@@ -10,16 +10,16 @@ use Rattle.meaning.specs.Forest.{blockBytes, bytesOfSketch}
 use Rattle.layout.specs.declared.Header.{Header}
 use Rattle.layout.specs.Header.{bare, withThresholds}
 use Rattle.layout.specs.declared.Block.{Block}
-use Rattle.trie.specs.declared.Rows.{Rows}
+use Rattle.blocks.specs.declared.Rows.{Rows}
 use Rattle.trie.specs.declared.leaf.Got.{Got}
 use Rattle.trie.specs.declared.leaf.Got.the-variants.{Node, Full}
 use Rattle.trie.specs.declared.leaf.Got.the-variants as got
 use Rattle.trie_insert.specs.Pages.{after}
 use Rattle.trie_insert.specs.Insert.{insertPage}
-use Rattle.trie_room.specs.RowBytes.{rowsOf}
+use Rattle.blocks.specs.RowBytes.{rowsOf}
 use Rattle.add_page.specs.declared.insert.Inserted.the-variants.{Free}
 use Rattle.add_page.specs.declared.insert.Inserted.the-variants as insertion
-use Rattle.add_page.specs.Blocks.{blockOf}
+use Rattle.blocks.specs.RowBytes.{blockOf}
 use Rattle.add_page.specs.Insert.{Filled, filled, onInsert, insertBlock, insertFrom, insertAll}
 
 -- one block, over its part of an array of bytes

@@ -23,8 +23,8 @@ use Rattle.trie_laws.specs.Sound.{packs, withPage}
 use Rattle.trie_laws.specs.Block.{packsIn, SoundBlock, EachFrom}
 use Rattle.trie_laws.proofs.Lists.{holds, fails, truth}
 use Rattle.trie_laws.proofs.Block.{agree-forest, insert-forest, insert-same}
-use Rattle.trie_room.specs.RowBytes.{rowBytes}
-use Rattle.trie_room.proofs.RowBytes.{row-same}
+use Rattle.blocks.specs.RowBytes.{rowBytes}
+use Rattle.blocks.proofs.RowBytes.{row-same}
 use Rattle.promises.specs.Tables.{Tables, given, pageRow, rowsOf}
 use Rattle.promises.specs.Sound.{Sound, livePage, pageBytes}
 use Rattle.add_page.proofs.Bytes.{block-length}

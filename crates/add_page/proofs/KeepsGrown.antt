@@ -13,19 +13,19 @@ use Rattle.layout.specs.Header.{headerOf, bare}
 use Rattle.layout.specs.Pages.{withRow, withPage, linksAt}
 use Rattle.layout.proofs.Rows.{row-inside, length-with-row}
 use Rattle.trie.specs.Heap.{Heap, _⊕_}
-use Rattle.trie.specs.Tables.{RowTable}
+use Rattle.blocks.specs.Tables.{RowTable}
 use Rattle.trie.specs.Phys.{Phys, tree, first, freeCells, Below}
 use Rattle.trie_laws.specs.Sound.{Stands}
 use Rattle.trie_laws.specs.Block.{SoundBlock, EachFrom}
 use Rattle.trie_laws.specs.Needed.{sumFrom}
 use Rattle.trie_laws.proofs.Block.{each-map}
 use Rattle.trie_laws.proofs.Forest.{total-insert}
-use Rattle.trie_room.specs.RowBytes.{rowBytes, rowsOf as rowsIn}
-use Rattle.trie_room.proofs.RowBytes.{rows-table}
+use Rattle.blocks.specs.RowBytes.{rowBytes, rowsOf as rowsIn}
+use Rattle.blocks.proofs.RowBytes.{rows-table}
 use Rattle.promises.specs.Tables.{Tables, given, rowsOf}
 use Rattle.promises.specs.Sound.{Sound, livePage, triesCells, Rooted}
 use Rattle.add_page.specs.declared.insert.Inserted.the-variants.{Free}
-use Rattle.add_page.specs.Blocks.{blockOf}
+use Rattle.blocks.specs.RowBytes.{blockOf}
 use Rattle.add_page.specs.Insert.{filled, insertFrom, insertAll}
 use Rattle.add_page.proofs.Tables.{in-tables}
 use Rattle.add_page.proofs.Enough.{Roomy, Needs}

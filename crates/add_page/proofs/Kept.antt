@@ -15,8 +15,8 @@ use Rattle.meaning.specs.Forest.{bytesOfSketch}
 use Rattle.layout.specs.Lengths.{pagesLength}
 use Rattle.layout.specs.Pages.{nextAt, linksAt}
 use Rattle.layout.specs.Nodes.{stateAt, nodeWords}
-use Rattle.trie.specs.declared.Level.{Level}
-use Rattle.trie.specs.declared.Rows.{Rows}
+use Rattle.blocks.specs.declared.Level.{Level}
+use Rattle.blocks.specs.declared.Rows.{Rows}
 use Rattle.trie.specs.declared.leaf.Got.the-variants.{Node, Full}
 use Rattle.trie.specs.declared.leaf.Got.the-variants as got
 use Rattle.trie.specs.declared.place.Place.{Place}
@@ -24,10 +24,11 @@ use Rattle.trie.specs.declared.place.Place.the-variants.{Found, Missing, Broken
 use Rattle.trie.specs.declared.span.Span.{Span}
 use Rattle.trie.specs.declared.span.Span.the-variants.{Enough, Short}
 use Rattle.trie.specs.declared.span.Span.the-variants as spans
-use Rattle.trie.specs.Tables.{RowTable}
-use Rattle.trie.specs.Model.{Inside, Made, made, findPlace, linkLeaf, nodeIn, freshLeaf, madeAt, childLeaf, pageByte, levelAt}
+use Rattle.blocks.specs.Tables.{RowTable}
+use Rattle.blocks.specs.Packed.{pageByte, levelAt}
+use Rattle.trie.specs.Model.{Inside, Made, made, findPlace, linkLeaf, nodeIn, freshLeaf, madeAt, childLeaf}
 use Rattle.trie.proofs.Places.{find-inside}
-use Rattle.trie.proofs.Bytes.{level-table, byte-small}
+use Rattle.blocks.proofs.Bytes.{level-table, byte-small}
 use Rattle.trie.specs.declared.path.Reach.{Reach}
 use Rattle.trie.specs.declared.path.Reach.the-variants.{Leaf, Gap}
 use Rattle.trie.specs.declared.path.Reach.the-variants as reach
@@ -38,7 +39,7 @@ use Rattle.trie_insert.specs.declared.insert.Target.the-variants as target
 use Rattle.trie_insert.specs.Pages.{Pushed, pushed, pushNodes, pushPages, pushPage, After, after, putDone, putInto, putLeafM}
 use Rattle.trie_insert.specs.Split.{onPut, splitFrom, openLeaf, tooLong, splitLeaf, growSpan, growInto, growLeaf}
 use Rattle.trie_insert.specs.Insert.{Aimed, aimed, targetIn, aimMade, aimAt, leafFor, insertAt, insertPage}
-use Rattle.trie_room.specs.RowBytes.{rowsOf}
+use Rattle.blocks.specs.RowBytes.{rowsOf}
 use Rattle.add_page.specs.Insert.{Filled, filled, onInsert, insertBlock, insertFrom, insertAll}
 
 -- a table after a change inside lo .. hi

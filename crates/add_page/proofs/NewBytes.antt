@@ -12,8 +12,8 @@ use Rattle.meaning.specs.Forest.{bytesOfSketch, bytesIn}
 use Rattle.layout.specs.Pages.{isLive}
 use Rattle.layout.proofs.Tests.{and-left, and-right}
 use Rattle.trie_laws.proofs.Forest.{bytes-put}
-use Rattle.trie_room.specs.RowBytes.{rowBytes}
-use Rattle.trie_room.proofs.RowBytes.{row-same}
+use Rattle.blocks.specs.RowBytes.{rowBytes}
+use Rattle.blocks.proofs.RowBytes.{row-same}
 use Rattle.promises.specs.Tables.{Tables, given, pageClass, pageRow, rowsFrom, rowsOf}
 use Rattle.promises.specs.Sound.{livePage, pageBytes, SoundPage}
 

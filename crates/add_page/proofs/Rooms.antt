@@ -12,7 +12,7 @@ use Rattle.trie.specs.declared.span.Span.the-variants as spans
 use Rattle.trie.specs.Model.{spanFrom}
 use Rattle.trie_room.specs.declared.needed.Needed.{Needed}
 use Rattle.trie_room.specs.declared.needed.Needed.the-variants.{Nodes, Broken}
-use Rattle.trie_room.specs.RowBytes.{rowsOf}
+use Rattle.blocks.specs.RowBytes.{rowsOf}
 use Rattle.trie_room.specs.Needs.{countIn}
 use Rattle.trie_room.proofs.Few.{needed-few}
 use Rattle.add_page.specs.Room.{onNodes, neededFrom, blockNeeds, allNeeded, roomOf}

@@ -11,13 +11,14 @@ use Rattle.layout.specs.Header.{bare, withThresholds}
 use Rattle.layout.specs.Lengths.{nodesLength, pagesLength, sketchesLength}
 use Rattle.layout.specs.Pages.{nextAt}
 use Rattle.layout.specs.declared.Block.{Block}
-use Rattle.trie.specs.declared.Rows.{Rows}
-use Rattle.trie.specs.Tables.{NodeTable, PageTable, RowTable}
-use Rattle.trie_room.specs.RowBytes.{rowsOf}
+use Rattle.blocks.specs.declared.Rows.{Rows}
+use Rattle.layout.specs.Tables.{NodeTable, PageTable}
+use Rattle.blocks.specs.Tables.{RowTable}
+use Rattle.blocks.specs.RowBytes.{rowsOf}
 use Rattle.trie_room.specs.Needs.{nodesNeeded}
-use Rattle.trie_room.proofs.RowBytes.{rows-table}
+use Rattle.blocks.proofs.RowBytes.{rows-table}
 use Rattle.add_page.specs.Lent.{Lent}
-use Rattle.add_page.specs.Blocks.{blockOf}
+use Rattle.blocks.specs.RowBytes.{blockOf}
 use Rattle.add_page.specs.Room.{blockNeeds}
 use Rattle.add_page.proofs.Bytes.{bytes-most}
 

@@ -8,7 +8,7 @@ use Rattle.trie.specs.declared.leaf.Got.the-variants.{Node, Full}
 use Rattle.trie.specs.declared.leaf.Got.the-variants as got
 use Rattle.trie_insert.specs.Pages.{After, after}
 use Rattle.trie_insert.specs.Insert.{insertPage}
-use Rattle.trie_room.specs.RowBytes.{rowsOf}
+use Rattle.blocks.specs.RowBytes.{rowsOf}
 use Rattle.add_page.specs.declared.insert.Inserted.{Inserted}
 use Rattle.add_page.specs.declared.insert.Inserted.the-variants.{Free}
 use Rattle.add_page.specs.declared.insert.Inserted.the-variants as insertion

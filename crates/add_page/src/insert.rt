@@ -5,11 +5,12 @@ ghost use Rattle.layout.specs.Header.{withThresholds};
 ghost use Rattle.trie_insert.specs.Pages.{after};
 ghost use Rattle.add_page.specs.Lent.{Fits, Lent};
 ghost use Rattle.add_page.specs.Insert.{filled, insertBlock, insertAll};
-use crate::blocks;
+use crate::pack;
+use blocks::block_of;
+use blocks::rows_of;
 use layout::Header;
 use trie::leaf::Got;
 use trie_insert::insert::insert_page;
-use trie_room::rows::rows_of;
 
 // The free link then, or that a link led outside.
 pub enum Inserted {
@@ -34,8 +35,8 @@ fn insert_block(
     requires { ⌜ j < h .q ⌝ }
     ensures { λ r. ⌜ after (now (nodes .exit)) (now (pages .exit)) r ≡ insertBlock (withThresholds h (now (thresholds .entry))) (now (sketches .entry)) (now (sketch .entry)) p j (now (nodes .entry)) (now (pages .entry)) free ⌝ }
 {
-    let bytes = blocks::block_bytes(h, sketch, j);
-    let block = blocks::block_of(h, j);
+    let bytes = pack::block_bytes(h, sketch, j);
+    let block = block_of(h, j);
     let rows = rows_of(h, j);
     let n = rows.bytes;
     insert_page(

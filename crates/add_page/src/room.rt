@@ -4,13 +4,14 @@ ghost use Prim.Native.Nat.{_<_};
 ghost use Rattle.layout.specs.Header.{withThresholds};
 ghost use Rattle.add_page.specs.Lent.{Fits, Lent};
 ghost use Rattle.add_page.specs.Room.{blockNeeds, allNeeded, roomOf};
-use crate::blocks;
+use crate::pack;
+use blocks::block_of;
+use blocks::rows_of;
 use layout::Header;
 use trie::span::Span;
 use trie_room::needed::Needed;
 use trie_room::needed::enough_free;
 use trie_room::needed::nodes_needed;
-use trie_room::rows::rows_of;
 
 // How many nodes the trie of block j needs.
 fn block_needs(
@@ -27,8 +28,8 @@ fn block_needs(
     requires { ⌜ j < h .q ⌝ }
     ensures { λ r. ⌜ r ≡ blockNeeds (withThresholds h (now (thresholds .entry))) (now (nodes .entry)) (now (pages .entry)) (now (sketches .entry)) (now (sketch .entry)) j ⌝ }
 {
-    let bytes = blocks::block_bytes(h, sketch, j);
-    let block = blocks::block_of(h, j);
+    let bytes = pack::block_bytes(h, sketch, j);
+    let block = block_of(h, j);
     let rows = rows_of(h, j);
     let n = rows.bytes;
     nodes_needed(

@@ -15,9 +15,9 @@ use Rattle.layout.specs.Pages.{nextAt}
 use Rattle.sketch.specs.Settings.{Bits}
 use Rattle.sketch.proofs.Width.{byte-of}
 use Rattle.sketch.proofs.BlockEnds.{block-ends}
-use Rattle.trie.specs.declared.Rows.{Rows}
-use Rattle.trie_room.specs.RowBytes.{rowsOf}
-use Rattle.trie_room.proofs.RowBytes.{rows-table}
+use Rattle.blocks.specs.declared.Rows.{Rows}
+use Rattle.blocks.specs.RowBytes.{rowsOf}
+use Rattle.blocks.proofs.RowBytes.{rows-table}
 use Rattle.node_check.specs.declared.mark.Window.{Window}
 use Rattle.trie_visit.specs.Visit.{given, Fitting}
 use Rattle.trie_check.specs.Trie.{testTrie}

@@ -24,7 +24,7 @@ use Rattle.promises.specs.Tables.{Tables, given}
 use Rattle.entry.specs.Entry.{entry}
 use Rattle.promises.specs.Sound.{Sound}
 use Rattle.promises.specs.Readings.{workingLeft, CheckPromise}
-use Rattle.trie_room.specs.RowBytes.{rowsOf}
+use Rattle.blocks.specs.RowBytes.{rowsOf}
 use Rattle.check_store.specs.Pages.{pageFits, testPages}
 use Rattle.check_store.specs.Free.{testFree}
 use Rattle.check_store.specs.Windows.{Passed, passed, onLeft, blockGiven, testWindow, windowsFrom, testWindows}

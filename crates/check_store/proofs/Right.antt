@@ -23,8 +23,8 @@ use Rattle.meaning.proofs.Lists.{and-first, and-second}
 use Rattle.trie_laws.proofs.Pages.{stands-any}
 use Rattle.trie_laws.proofs.Walk.{walk-sound}
 use Rattle.trie_laws.proofs.Agree.{sound-agree}
-use Rattle.trie_room.specs.RowBytes.{rowBytes}
-use Rattle.trie_room.proofs.RowBytes.{row-same}
+use Rattle.blocks.specs.RowBytes.{rowBytes}
+use Rattle.blocks.proofs.RowBytes.{row-same}
 use Rattle.node_check.specs.declared.leaf.Left.{Left}
 use Rattle.node_check.specs.declared.leaf.Left.the-variants.{Some, Failed}
 use Rattle.trie_check_laws.proofs.Once.{pages-stand}

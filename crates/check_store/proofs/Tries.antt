@@ -20,8 +20,8 @@ use Rattle.trie.specs.Phys.{Phys, root, tree, cells}
 use Rattle.trie.specs.Phys.{Sound as SoundNodes}
 use Rattle.meaning.specs.Trie.{pagesIn}
 use Rattle.trie_laws.specs.Walk.{soundWalk}
-use Rattle.trie_room.specs.RowBytes.{rowBytes, rowsOf}
-use Rattle.trie_room.proofs.RowBytes.{level-byte}
+use Rattle.blocks.specs.RowBytes.{rowBytes, rowsOf}
+use Rattle.blocks.proofs.RowBytes.{level-byte}
 use Rattle.node_check.specs.declared.leaf.Left.{Left}
 use Rattle.node_check.specs.declared.leaf.Left.the-variants.{Some, Failed}
 use Rattle.node_check.specs.declared.mark.Window.{Window}

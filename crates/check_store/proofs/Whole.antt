@@ -26,8 +26,8 @@ use Rattle.meaning.proofs.Lists.{and-intro, and-first, and-second}
 use Rattle.trie_laws.proofs.Pages.{stands-any, stands-all, stands-length}
 use Rattle.trie_laws.proofs.Walk.{walk-sound}
 use Rattle.trie_laws.proofs.Agree.{sound-agree}
-use Rattle.trie_room.specs.RowBytes.{rowBytes}
-use Rattle.trie_room.proofs.RowBytes.{row-same}
+use Rattle.blocks.specs.RowBytes.{rowBytes}
+use Rattle.blocks.proofs.RowBytes.{row-same}
 use Rattle.node_check.specs.declared.leaf.Left.the-variants.{Some}
 use Rattle.promises.specs.Tables.{Tables, given, pageClass, pageRow}
 use Rattle.promises.specs.Sound.{triesCells, Rooted, livePage, pageBytes, Sound}

@@ -8,16 +8,12 @@ use Rattle.meaning.specs.Ledger.{Settings}
 use Rattle.words.specs.Bits.{zeroed}
 use Rattle.layout.specs.Pages.{nextAt}
 use Rattle.layout.specs.declared.Block.{Block}
-use Rattle.trie_room.specs.RowBytes.{rowsOf}
+use Rattle.blocks.specs.RowBytes.{rowsOf, blockOf}
 use Rattle.node_check.specs.declared.leaf.Left.{Left}
 use Rattle.node_check.specs.declared.leaf.Left.the-variants.{Some, Failed}
 use Rattle.node_check.specs.declared.mark.Window.{Window}
 use Rattle.trie_visit.specs.Visit.{Given, given}
 use Rattle.trie_check.specs.Trie.{Tested, testTrie}
-
--- where the trie of block j lies
-abbrev pub blockOf : Settings → ℕ → Block
-blockOf s j = record { nodes = s .nodes; pages = s .pages; base = nextAt (s .pages) j }
 
 abbrev pub windowAt : ℕ → ℕ → Window
 windowAt from size = record { from = from; size = size }

@@ -1,7 +1,7 @@
 // The free chain, from the free link on: its nodes have state 0 and no children, and it ends within the capacity.
 ghost use mathlib.Core.Path.{_≡_};
 ghost use Prim.Native.Nat.{_<_};
-ghost use Rattle.trie.specs.Tables.{NodeTable};
+ghost use Rattle.layout.specs.Tables.{NodeTable};
 ghost use Rattle.check_store.specs.Free.{isFree, testFree};
 use node_check::leaf::Left;
 

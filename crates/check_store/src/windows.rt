@@ -7,12 +7,12 @@ ghost use Rattle.layout.specs.Header.{bare};
 ghost use Rattle.trie_check.specs.Trie.{tested, testTrie};
 ghost use Rattle.check_store.specs.Lent.{Lent};
 ghost use Rattle.check_store.specs.Windows.{passed, blocksFrom, blockGiven, testWindow, testWindows};
+use blocks::rows_of;
 use layout::Block;
 use layout::Header;
 use node_check::leaf::Left;
 use node_check::mark::Window;
 use trie_check::test::test_trie;
-use trie_room::rows::rows_of;
 use trie_visit::Scope;
 
 // How many passes reach all nodes.

@@ -11,8 +11,8 @@ use Rattle.meaning.specs.Ledger.{Settings}
 use Rattle.meaning.specs.Forest.{blockBytes}
 use Rattle.layout.specs.Pages.{rowOf}
 use Rattle.layout.proofs.Rows.{length-row}
-use Rattle.trie_room.specs.RowBytes.{reduced, rowBytes}
-use Rattle.trie_room.proofs.RowBytes.{reduced-range}
+use Rattle.blocks.specs.RowBytes.{reduced, rowBytes}
+use Rattle.blocks.proofs.RowBytes.{reduced-range}
 use Rattle.add_page.proofs.Bytes.{bytes-length}
 use Rattle.add_page.proofs.Enough.{octets}
 

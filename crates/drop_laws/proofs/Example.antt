@@ -24,7 +24,7 @@ use Rattle.trie.specs.Model.{placeFrom, findPlace}
 use Rattle.trie.specs.Phys.{Phys, Buckets, noHeads, leafP, innerP, end, bucket, stop, link}
 use Rattle.trie_laws.specs.Sound.{filled, soundTrie, Stands}
 use Rattle.trie.specs.Descend.{descend, descendTo}
-use Rattle.trie_room.specs.RowBytes.{reduced, rowBytes}
+use Rattle.blocks.specs.RowBytes.{reduced, rowBytes}
 use Rattle.trie_remove.specs.declared.Removed.the-variants.{Done}
 use Rattle.trie_remove.specs.Take.{takePage}
 use Rattle.trie_remove.specs.Remove.{freeChild, setFirst, removeAt, removePage, gone}

@@ -20,7 +20,7 @@ use Rattle.trie.specs.declared.path.Reach.the-variants.{Leaf, Gap}
 use Rattle.trie.specs.declared.path.Reach.the-variants as reach
 use Rattle.trie.specs.Descend.{descendTo, Inside as ReachInside}
 use Rattle.trie.proofs.Inside.{descend-inside}
-use Rattle.trie_room.specs.RowBytes.{rowBytes}
+use Rattle.blocks.specs.RowBytes.{rowBytes}
 use Rattle.trie_remove.specs.declared.Taken.the-variants.{First}
 use Rattle.trie_remove.specs.declared.Taken.the-variants as taken
 use Rattle.trie_remove.specs.declared.Removed.the-variants.{Done, Broken}

@@ -18,7 +18,7 @@ use Rattle.trie_laws.specs.Block.{SoundBlock, EachFrom}
 use Rattle.trie_laws.proofs.Nodes.{remove-nodes}
 use Rattle.trie_laws.proofs.Pages.{stands-any}
 use Rattle.trie.proofs.Arrival.{Leads, sound-leads}
-use Rattle.trie_room.specs.RowBytes.{rowBytes}
+use Rattle.blocks.specs.RowBytes.{rowBytes}
 use Rattle.trie_remove.specs.declared.Removed.the-variants.{Done}
 use Rattle.trie_remove.specs.Remove.{Gone, gone}
 use Rattle.trie_remove.proofs.Removal.{RemoveDone, remove-right}

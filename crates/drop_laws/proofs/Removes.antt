@@ -7,7 +7,7 @@ use mathlib.Core.List.{List}
 use Rattle.meaning.specs.Ledger.{Settings}
 use Rattle.meaning.specs.Forest.{bytesOfSketch}
 use Rattle.layout.specs.Header.{headerOf, bare}
-use Rattle.trie_room.specs.RowBytes.{rowBytes}
+use Rattle.blocks.specs.RowBytes.{rowBytes}
 use Rattle.trie_remove.specs.declared.Removed.{Removed}
 use Rattle.trie_remove.specs.declared.Removed.the-variants.{Done, Broken}
 use Rattle.trie_remove.specs.Remove.{Gone, gone}

@@ -25,8 +25,8 @@ use Rattle.trie_laws.specs.Block.{SoundBlock, EachFrom}
 use Rattle.trie_laws.specs.Sound.{withoutPage as without}
 use Rattle.trie_laws.proofs.Block.{remove-forest, remove-same}
 use Rattle.trie_laws.proofs.Forest.{each-length}
-use Rattle.trie_room.specs.RowBytes.{rowBytes}
-use Rattle.trie_room.proofs.RowBytes.{row-same}
+use Rattle.blocks.specs.RowBytes.{rowBytes}
+use Rattle.blocks.proofs.RowBytes.{row-same}
 use Rattle.trie_remove.specs.declared.Removed.the-variants.{Done}
 use Rattle.trie_remove.specs.Remove.{gone}
 use Rattle.promises.specs.Tables.{Tables, given, pageClass, pageRow, rowsOf}

@@ -3,7 +3,7 @@ use Prim.Native.Nat.{ℕ, zero, suc}
 use mathlib.Core.List.{List}
 use Rattle.meaning.specs.Ledger.{Settings}
 use Rattle.layout.specs.Pages.{nextAt}
-use Rattle.trie_room.specs.RowBytes.{rowBytes}
+use Rattle.blocks.specs.RowBytes.{rowBytes}
 use Rattle.trie_remove.specs.declared.Removed.the-variants.{Done, Broken}
 use Rattle.trie_remove.specs.Remove.{Gone, gone, removePage}
 

@@ -12,11 +12,12 @@ use Rattle.layout.specs.Limits.{HeaderLimits}
 use Rattle.layout.specs.Lengths.{nodesLength, pagesLength, sketchesLength}
 use Rattle.layout.specs.Pages.{nextAt}
 use Rattle.layout.proofs.Rows.{rows-apart, row-inside}
-use Rattle.trie.specs.declared.Rows.{Rows}
-use Rattle.trie.specs.Tables.{NodeTable, PageTable, RowTable}
-use Rattle.trie.specs.Model.{pageByte, levelAt}
-use Rattle.trie_room.specs.RowBytes.{rowBytes, rowsOf}
-use Rattle.trie_room.proofs.RowBytes.{rows-table, level-byte}
+use Rattle.blocks.specs.declared.Rows.{Rows}
+use Rattle.layout.specs.Tables.{NodeTable, PageTable}
+use Rattle.blocks.specs.Tables.{RowTable}
+use Rattle.blocks.specs.Packed.{pageByte, levelAt}
+use Rattle.blocks.specs.RowBytes.{rowBytes, rowsOf}
+use Rattle.blocks.proofs.RowBytes.{rows-table, level-byte}
 use Rattle.trie_remove.specs.Remove.{removePage}
 use Rattle.add_page.proofs.Bytes.{bytes-most}
 use Rattle.drop_laws.specs.Removal.{removeBlock}

@@ -4,8 +4,8 @@ ghost use mathlib.Core.List.{[]};
 ghost use Rattle.promises.specs.Tables.{tables};
 ghost use Rattle.promises.specs.Store.{outcome, DropPromise};
 ghost use Rattle.drop_laws.specs.After.{dropPage};
-use crate::blocks;
 use crate::questions;
+use crate::removal;
 use layout::Opening;
 use trie_remove::Removed;
 
@@ -26,7 +26,7 @@ pub fn drop_page(
     };
     let free = layout::settings::free_link(settings);
     let p = page as usize;
-    let removed = blocks::remove_all(nodes, pages, sketches, h, p, free);
+    let removed = removal::remove_all(nodes, pages, sketches, h, p, free);
     match removed {
         Removed::Done(link) => {
             layout::settings::set_free_link(settings, link);

@@ -5,3 +5,4 @@ pub mod Nodes
 pub mod Pages
 pub mod Working
 pub mod Lengths
+pub mod Tables

@@ -10,9 +10,9 @@ use borrow.Author.Tests.{le-ltb, lt-ltb, eq-eqb, ne-eqb}
 use Rattle.meaning.proofs.Stacks.{suc-pred}
 use Rattle.layout.specs.Nodes.{headAt}
 use Rattle.layout.specs.Pages.{isLive}
-use Rattle.trie.specs.declared.Level.{Level}
-use Rattle.trie.specs.declared.Rows.{Rows}
-use Rattle.trie.specs.Model.{pageByte, levelAt}
+use Rattle.blocks.specs.declared.Level.{Level}
+use Rattle.blocks.specs.declared.Rows.{Rows}
+use Rattle.blocks.specs.Packed.{pageByte, levelAt}
 use Rattle.node_check.specs.declared.leaf.Left.the-variants.{Some, Failed}
 use Rattle.node_check.specs.Leaf.{onPath, testLeaf}
 

@@ -7,8 +7,8 @@ use lib.ListN.{getD}
 use Rattle.meaning.specs.Lists.{all, upto}
 use Rattle.layout.specs.Nodes.{stateAt, headAt, freeState, innerState}
 use Rattle.layout.specs.Pages.{isLive}
-use Rattle.trie.specs.declared.Rows.{Rows}
-use Rattle.trie.specs.Model.{pageByte, levelAt}
+use Rattle.blocks.specs.declared.Rows.{Rows}
+use Rattle.blocks.specs.Packed.{pageByte, levelAt}
 use Rattle.node_check.specs.declared.leaf.Kind.{Kind}
 use Rattle.node_check.specs.declared.leaf.Kind.the-variants.{Inner, Leaf, Damaged}
 use Rattle.node_check.specs.declared.leaf.Left.{Left}

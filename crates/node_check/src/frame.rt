@@ -4,7 +4,7 @@ ghost use Prim.Native.Nat.{_≤_, _<_};
 ghost use lib.ListN.{length};
 ghost use Rattle.meaning.specs.Sketch.{packedLength};
 ghost use Rattle.sketch.specs.Settings.{Bits};
-ghost use Rattle.trie.specs.Tables.{NodeTable};
+ghost use Rattle.layout.specs.Tables.{NodeTable};
 ghost use Rattle.node_check.specs.Frame.{entered, pastChild, nextChain, stepAlong, stepIn};
 
 // The children of a node from `link` on in chain `group`, whose bytes are to be `least` or more, and those in the later chains.

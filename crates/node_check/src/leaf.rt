@@ -2,10 +2,11 @@
 ghost use mathlib.Core.Path.{_≡_};
 ghost use Prim.Native.Nat.{_≤_, _<_};
 ghost use lib.ListN.{length};
-ghost use Rattle.trie.specs.Tables.{NodeTable, PageTable, RowTable};
+ghost use Rattle.layout.specs.Tables.{NodeTable, PageTable};
+ghost use Rattle.blocks.specs.Tables.{RowTable};
 ghost use Rattle.node_check.specs.Leaf.{bare, kindOf, onPath, testLeaf};
+use blocks::Rows;
 use layout::Block;
-use trie::Rows;
 
 pub enum Kind {
     Inner,
@@ -65,8 +66,8 @@ fn is_on_path(
 {
     let mut k = 0;
     while k < depth {
-        let level = trie::packed::level_at(rows, k);
-        if trie::packed::page_byte(sketches, level, block, p) as u8 != path[k] {
+        let level = blocks::packed::level_at(rows, k);
+        if blocks::packed::page_byte(sketches, level, block, p) as u8 != path[k] {
             return false;
         }
         k += 1;

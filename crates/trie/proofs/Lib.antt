@@ -5,7 +5,6 @@ pub mod Places
 pub mod Spot
 pub mod Context
 pub mod Fresh
-pub mod Bytes
 pub mod Spans
 pub mod Descends
 pub mod Inside

@@ -1,12 +1,10 @@
--- What the code computes, as definitions on the tables: N is the node table, of cap nodes, S the sketch table.
-use Prim.Native.Nat.{ℕ, zero, suc, _+_, _*_, _-_, _/_, _%_, _^_, _<_, min}
+-- What the code computes, as definitions on the tables: N is the node table, of cap nodes.
+use Prim.Native.Nat.{ℕ, zero, suc, _+_, _-_, _/_, _<_}
 use mathlib.Core.List.{List}
 use mathlib.Core.Bool.{cond}
 use lib.Dec.{ltb, eqb}
 use lib.ListN.{getD, set}
 use Rattle.layout.specs.Nodes.{linkOf, byteOf, chainWord, withLink, stateAt, headAt, leafState, nodeWords}
-use Rattle.trie.specs.declared.Level.{Level}
-use Rattle.trie.specs.declared.Rows.{Rows}
 use Rattle.trie.specs.declared.leaf.Got.{Got}
 use Rattle.trie.specs.declared.leaf.Got.the-variants.{Node, Full}
 use Rattle.trie.specs.declared.leaf.Got.the-variants as got
@@ -82,24 +80,6 @@ madeAt N cap b free Broken = made N got.Broken
 -- the child of byte b of node n, which is made where it is missing
 unfoldable pub childLeaf : List ℕ → ℕ → ℕ → ℕ → ℕ → Made
 childLeaf N cap n b free = madeAt N cap b free (findPlace N cap n b)
-
--- the packed byte of n symbols of the table S from a place on, each taken modulo 2^b
-unfoldable pub rowByte : ℕ → List ℕ → ℕ → ℕ → ℕ
-rowByte b S i zero = 0
-rowByte b S i (suc n) = getD S i 0 % 2 ^ b + 2 ^ b * rowByte b S (suc i) n
-
--- the byte of page p at a level
-unfoldable pub pageByte : List ℕ → Level → ℕ → ℕ
-pageByte S v p = rowByte (v .bits) S (p * v .symbols + v .from) (v .count)
-
--- level k of a block: what is left of its symbols, at most a byte's
-unfoldable pub levelAt : Rows → ℕ → Level
-levelAt r k = record {
-  bits = r .bits;
-  symbols = r .symbols;
-  from = r .start + min (k * r .per) (r .length);
-  count = min (r .per) (r .length - k * r .per);
-}
 
 -- whether a chain from link l on has f members, whose links stand from base on
 unfoldable pub spanFrom : List ℕ → ℕ → ℕ → ℕ → ℕ → Span

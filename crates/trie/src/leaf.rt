@@ -2,7 +2,7 @@
 ghost use mathlib.Core.Path.{_≡_};
 ghost use Prim.Native.Nat.{_*_, _<_, _≤_};
 ghost use Rattle.layout.specs.Nodes.{nodeWords};
-ghost use Rattle.trie.specs.Tables.{NodeTable};
+ghost use Rattle.layout.specs.Tables.{NodeTable};
 ghost use Rattle.trie.specs.Model.{linkLeaf, made, freshLeaf, childLeaf, nodeIn};
 use crate::place::Place;
 use crate::place::find_place;

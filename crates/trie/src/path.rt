@@ -2,7 +2,7 @@
 ghost use mathlib.Core.Path.{_≡_};
 ghost use Prim.Native.Nat.{_<_};
 ghost use lib.ListN.{length};
-ghost use Rattle.trie.specs.Tables.{NodeTable};
+ghost use Rattle.layout.specs.Tables.{NodeTable};
 ghost use Rattle.trie.specs.Descend.{descendTo, Inside};
 use crate::place::Place;
 use crate::place::find_place;

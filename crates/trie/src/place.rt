@@ -1,7 +1,7 @@
 // The children of a node, by their bytes.
 ghost use mathlib.Core.Path.{_≡_};
 ghost use Prim.Native.Nat.{_<_};
-ghost use Rattle.trie.specs.Tables.{NodeTable};
+ghost use Rattle.layout.specs.Tables.{NodeTable};
 ghost use Rattle.trie.specs.Model.{Inside, findPlace};
 use layout::nodes::LINKS;
 

@@ -10,8 +10,8 @@ use Rattle.words.specs.Bits.{bit, withBit, flag, withFlag}
 use Rattle.layout.specs.Nodes.{chainWord, freeState, innerState, leafState, stateAt, headAt}
 use Rattle.layout.specs.Pages.{isLive}
 use Rattle.layout.specs.declared.Block.{Block}
-use Rattle.trie.specs.declared.Rows.{Rows}
-use Rattle.trie.specs.Model.{rowByte, pageByte, levelAt}
+use Rattle.blocks.specs.declared.Rows.{Rows}
+use Rattle.blocks.specs.Packed.{rowByte, pageByte, levelAt}
 use Rattle.node_check.specs.declared.leaf.Left.{Left}
 use Rattle.node_check.specs.declared.leaf.Left.the-variants.{Some, Failed}
 use Rattle.node_check.specs.declared.mark.Window.{Window}

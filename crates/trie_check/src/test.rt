@@ -1,7 +1,7 @@
 // The walk over one block's trie. It ends on any tables: each step, node and page draws on a budget.
 ghost use mathlib.Core.Path.{_≡_};
 ghost use Prim.Native.Nat.{_+_, _-_, _<_};
-ghost use Rattle.trie.specs.Tables.{NodeTable};
+ghost use Rattle.layout.specs.Tables.{NodeTable};
 ghost use Rattle.node_check.specs.Frame.{entered, pastChild};
 ghost use Rattle.trie_visit.specs.Visit.{within, Fitting, placed};
 ghost use Rattle.trie_check.specs.Trie.{leftIf, tested, testBelow, testTrie};

@@ -9,7 +9,7 @@ use Rattle.meaning.specs.Trie.{nodes, byteAt}
 use Rattle.words.specs.Bits.{bit, withBit, flag, withFlag}
 use Rattle.layout.specs.Pages.{isLive}
 use Rattle.trie.specs.Phys.{Phys, tree}
-use Rattle.trie.specs.Model.{rowByte, pageByte, levelAt}
+use Rattle.blocks.specs.Packed.{rowByte, pageByte, levelAt}
 use Rattle.node_check.specs.declared.leaf.Left.the-variants.{Some}
 use Rattle.node_check.specs.Mark.{markOnce}
 use Rattle.node_check.specs.Leaf.{bare, kindOf, onPath, testLeaf}

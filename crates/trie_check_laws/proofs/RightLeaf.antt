@@ -15,7 +15,7 @@ use Rattle.layout.specs.Nodes.{stateAt, headAt, freeState, innerState, leafStat
 use Rattle.layout.specs.Pages.{isLive}
 use Rattle.trie.specs.Heap.{Holds}
 use Rattle.trie.specs.Phys.{first, pageCells, noHeads, Below}
-use Rattle.trie.specs.Model.{pageByte, levelAt}
+use Rattle.blocks.specs.Packed.{pageByte, levelAt}
 use Rattle.trie_laws.specs.Path.{follows}
 use Rattle.meaning.proofs.Lists.{and-intro}
 use Rattle.trie_laws.proofs.Lists.{upto-all}

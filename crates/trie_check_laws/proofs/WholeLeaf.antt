@@ -14,10 +14,10 @@ use Rattle.meaning.specs.Lists.{all, from, upto}
 use Rattle.meaning.specs.Trie.{byteAt}
 use Rattle.layout.specs.Nodes.{headAt}
 use Rattle.layout.specs.Pages.{isLive}
-use Rattle.trie.specs.declared.Rows.{Rows}
+use Rattle.blocks.specs.declared.Rows.{Rows}
 use Rattle.trie.specs.Heap.{Holds}
 use Rattle.trie.specs.Phys.{leafP, innerP, Buckets, first, noHeads, pageCells, cells, Below}
-use Rattle.trie.specs.Model.{pageByte, levelAt}
+use Rattle.blocks.specs.Packed.{pageByte, levelAt}
 use Rattle.trie_laws.specs.Path.{follows}
 use Rattle.meaning.proofs.Lists.{and-intro, and-first, and-second}
 use Rattle.node_check.specs.declared.leaf.Kind.the-variants.{Inner, Leaf}

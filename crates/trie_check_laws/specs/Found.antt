@@ -11,7 +11,7 @@ use Rattle.layout.specs.Pages.{isLive}
 use Rattle.trie.specs.Heap.{Holds}
 use Rattle.trie.specs.Phys.{Phys, root, tree, cells}
 use Rattle.trie.specs.Phys.{Sound as SoundNodes}
-use Rattle.trie.specs.Model.{pageByte, levelAt}
+use Rattle.blocks.specs.Packed.{pageByte, levelAt}
 use Rattle.trie_laws.specs.Walk.{soundWalk}
 use Rattle.trie_visit.specs.Visit.{Given}
 use Rattle.trie_check_laws.specs.Uses.{uses}

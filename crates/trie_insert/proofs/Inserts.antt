@@ -7,11 +7,12 @@ use native.Mathlib.Numerals.{add-one}
 use lib.ListN.{length, getD}
 use Rattle.meaning.specs.Trie.{Tree, leaf, inner, Children, child, byteAt, addLeaf, insert, insertIn, nodes, nodesIn}
 use Rattle.layout.specs.Nodes.{mostNodes}
-use Rattle.trie.specs.declared.Rows.{Rows}
+use Rattle.blocks.specs.declared.Rows.{Rows}
 use Rattle.trie.specs.declared.leaf.Got.the-variants.{Node}
 use Rattle.trie.specs.Heap.{Cells, page, _⊕_}
-use Rattle.trie.specs.Tables.{RowTable}
-use Rattle.trie.specs.Model.{linkLeaf, made, freshLeaf, pageByte, levelAt}
+use Rattle.blocks.specs.Tables.{RowTable}
+use Rattle.blocks.specs.Packed.{pageByte, levelAt}
+use Rattle.trie.specs.Model.{linkLeaf, made, freshLeaf}
 use Rattle.trie.specs.Phys.{Phys, root, tree, childrenB, childrenC, Sound, SoundC, State, leafP, innerP, link}
 use Rattle.trie.proofs.Frame.{same-swap}
 use Rattle.trie.proofs.Abstract.{Above}

@@ -7,9 +7,9 @@ use lib.ListN.{length, getD}
 use Rattle.meaning.specs.Trie.{child, byteAt, putLeaf, split, nodes, nodesIn}
 use Rattle.layout.specs.Nodes.{mostNodes}
 use Rattle.trie.specs.declared.leaf.Got.the-variants.{Node}
-use Rattle.trie.specs.declared.Level.{Level}
+use Rattle.blocks.specs.declared.Level.{Level}
 use Rattle.trie.specs.Heap.{Cells, page, _⊕_}
-use Rattle.trie.specs.Model.{pageByte}
+use Rattle.blocks.specs.Packed.{pageByte}
 use Rattle.trie.specs.Phys.{Buckets, childrenB, first, pageCells, Below, State, innerP}
 use Rattle.trie.proofs.Frame.{same-assoc}
 use Rattle.trie.proofs.Abstract.{Leaves}

@@ -8,16 +8,17 @@ use borrow.Author.Tests.{le-ltb, lt-ltb, eq-eqb, ne-eqb, ltb-true, ltb-false}
 use lib.Dec.{ltb, eqb}
 use lib.ListN.{getD}
 use Rattle.layout.specs.Nodes.{stateAt, nodeWords}
-use Rattle.trie.specs.declared.Level.{Level}
-use Rattle.trie.specs.declared.Rows.{Rows}
+use Rattle.blocks.specs.declared.Level.{Level}
+use Rattle.blocks.specs.declared.Rows.{Rows}
 use Rattle.trie.specs.declared.leaf.Got.{Got}
 use Rattle.trie.specs.declared.leaf.Got.the-variants.{Node, Full}
 use Rattle.trie.specs.declared.leaf.Got.the-variants as got
 use Rattle.trie.specs.declared.span.Span.{Span}
 use Rattle.trie.specs.declared.span.Span.the-variants.{Enough, Short}
 use Rattle.trie.specs.declared.span.Span.the-variants as spans
-use Rattle.trie.specs.Tables.{RowTable}
-use Rattle.trie.specs.Model.{made, freshLeaf, childLeaf, pageByte, spanFrom, levelAt}
+use Rattle.blocks.specs.Tables.{RowTable}
+use Rattle.blocks.specs.Packed.{pageByte, levelAt}
+use Rattle.trie.specs.Model.{made, freshLeaf, childLeaf, spanFrom}
 use Rattle.trie.proofs.Steps.{suc-pred}
 use Rattle.trie.specs.declared.path.Reach.{Reach}
 use Rattle.trie.specs.declared.path.Reach.the-variants.{Leaf, Gap, Broken}

@@ -5,14 +5,15 @@ use mathlib.Core.Bool.{true, false, cond}
 use lib.Dec.{ltb, eqb}
 use lib.ListN.{getD, set}
 use Rattle.layout.specs.Nodes.{stateAt, innerState}
-use Rattle.trie.specs.declared.Level.{Level}
-use Rattle.trie.specs.declared.Rows.{Rows}
+use Rattle.blocks.specs.declared.Level.{Level}
+use Rattle.blocks.specs.declared.Rows.{Rows}
 use Rattle.trie.specs.declared.leaf.Got.the-variants.{Node, Full}
 use Rattle.trie.specs.declared.leaf.Got.the-variants as got
 use Rattle.trie.specs.declared.span.Span.{Span}
 use Rattle.trie.specs.declared.span.Span.the-variants.{Enough, Short}
 use Rattle.trie.specs.declared.span.Span.the-variants as spans
-use Rattle.trie.specs.Model.{pageByte, spanFrom, levelAt}
+use Rattle.blocks.specs.Packed.{pageByte, levelAt}
+use Rattle.trie.specs.Model.{spanFrom}
 use Rattle.trie_insert.specs.Pages.{Pushed, pushed, pushPage, After, after, putLeafM}
 
 abbrev pub onPut : (List ℕ → List ℕ → ℕ → After) → After → After

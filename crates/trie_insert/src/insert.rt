@@ -2,12 +2,13 @@
 ghost use mathlib.Core.Path.{_≡_};
 ghost use Prim.Native.Nat.{_<_, _≤_};
 ghost use lib.ListN.{length};
-ghost use Rattle.trie.specs.Tables.{NodeTable, PageTable, RowTable};
+ghost use Rattle.layout.specs.Tables.{NodeTable, PageTable};
+ghost use Rattle.blocks.specs.Tables.{RowTable};
 ghost use Rattle.trie_insert.specs.Pages.{after};
 ghost use Rattle.trie_insert.specs.Insert.{aimed, leafFor, targetIn, insertPage};
 use crate::split::grow_leaf;
+use blocks::Rows;
 use layout::Block;
-use trie::Rows;
 use trie::leaf::Got;
 use trie::leaf::fresh_leaf;
 use trie::path::Reach;

@@ -1,7 +1,7 @@
 // A page put into a leaf.
 ghost use mathlib.Core.Path.{_≡_};
 ghost use Prim.Native.Nat.{_<_};
-ghost use Rattle.trie.specs.Tables.{NodeTable, PageTable};
+ghost use Rattle.layout.specs.Tables.{NodeTable, PageTable};
 ghost use Rattle.trie_insert.specs.Pages.{pushed, pushPage, after, putLeafM};
 use layout::Block;
 use trie::leaf::Got;

@@ -2,17 +2,18 @@
 ghost use mathlib.Core.Path.{_≡_};
 ghost use Prim.Native.Nat.{_+_, _<_, _≤_};
 ghost use lib.ListN.{length};
-ghost use Rattle.trie.specs.Tables.{NodeTable, PageTable, SketchTable, RowTable};
+ghost use Rattle.layout.specs.Tables.{NodeTable, PageTable};
+ghost use Rattle.blocks.specs.Tables.{SketchTable, RowTable};
 ghost use Rattle.trie_insert.specs.Pages.{after};
 ghost use Rattle.trie_insert.specs.Split.{splitFrom, openLeaf, tooLong, splitLeaf, growLeaf};
 use crate::pages::push_page;
 use crate::pages::put_leaf;
+use blocks::Level;
+use blocks::Rows;
+use blocks::packed::level_at;
+use blocks::packed::page_byte;
 use layout::Block;
-use trie::Level;
-use trie::Rows;
 use trie::leaf::Got;
-use trie::packed::level_at;
-use trie::packed::page_byte;
 use trie::span::Span;
 use trie::span::at_least;
 

@@ -10,7 +10,7 @@ use lib.ListN.{length, getD, set, length-set}
 use Rattle.meaning.specs.Lists.{all, any, count}
 use Rattle.meaning.specs.Trie.{without}
 use Rattle.trie.specs.Heap.{Cells, hit, pageClaims, Heap, page, _⊕_}
-use Rattle.trie.specs.Tables.{PageTable}
+use Rattle.layout.specs.Tables.{PageTable}
 use Rattle.trie.specs.Phys.{first, pageCells, Below}
 use Rattle.trie.proofs.Frame.{Less, less, page-write}
 use Rattle.meaning.proofs.Lists.{and-intro}

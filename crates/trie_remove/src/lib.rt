@@ -4,7 +4,7 @@ ghost use Prim.Native.Nat.{_+_, _*_, _≤_, _<_};
 ghost use lib.ListN.{getD};
 ghost use Rattle.layout.specs.Pages.{mostPages};
 ghost use Rattle.layout.specs.Nodes.{stateAt, nodeWords};
-ghost use Rattle.trie.specs.Tables.{NodeTable, PageTable};
+ghost use Rattle.layout.specs.Tables.{NodeTable, PageTable};
 ghost use Rattle.trie_remove.specs.Take.{takeFrom, takePage, took, linkIn};
 ghost use Rattle.trie_remove.specs.Remove.{freeChild, setFirst, freed, removeAt, removePage, gone};
 use trie::path::Reach;

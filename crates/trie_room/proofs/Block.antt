@@ -12,9 +12,10 @@ use Rattle.meaning.specs.Lists.{any, count}
 use Rattle.meaning.specs.Trie.{byteAt, pagesIn}
 use Rattle.meaning.specs.Ledger.{Settings}
 use Rattle.layout.specs.Nodes.{stateAt, mostNodes}
-use Rattle.trie.specs.declared.Rows.{Rows}
+use Rattle.blocks.specs.declared.Rows.{Rows}
 use Rattle.trie.specs.Heap.{Cells, _⊕_}
-use Rattle.trie.specs.Model.{pageByte, spanFrom, levelAt}
+use Rattle.blocks.specs.Packed.{pageByte, levelAt}
+use Rattle.trie.specs.Model.{spanFrom}
 use Rattle.trie.specs.Phys.{Phys, root, tree, childrenB, first, Below, State, leafP}
 use Rattle.trie.proofs.Context.{enter}
 use Rattle.trie.proofs.Spans.{Linked, spanOf, span-right, pages-linked, frees-linked, leaf-most}
@@ -32,9 +33,9 @@ use Rattle.trie.proofs.Spots.{spot-none}
 use Rattle.trie.proofs.Way.{Way}
 use Rattle.trie.proofs.Arrival.{Leads, Arrives, arrives}
 use Rattle.trie_room.specs.declared.needed.Needed.the-variants.{Nodes}
-use Rattle.trie_room.specs.RowBytes.{rowBytes, rowsOf}
+use Rattle.blocks.specs.RowBytes.{rowBytes, rowsOf}
 use Rattle.trie_room.specs.Needs.{distinctBytes, whereLong, leafNeeds, gapNeeds, neededAt, nodesNeeded}
-use Rattle.trie_room.proofs.RowBytes.{level-byte}
+use Rattle.blocks.proofs.RowBytes.{level-byte}
 use Rattle.trie_room.proofs.Distinct.{distinct-right}
 
 module _ (bytesOf : ℕ → List ℕ) (P S τ : List ℕ) (pcap base : ℕ) (r : Rows) (Y : List ℕ) (p : ℕ) (bytes : (k : ℕ) → k < length Y → byteAt bytesOf k p ≡ getD Y k 0) where

@@ -9,8 +9,8 @@ use lib.ListN.{length}
 use borrow.Author.Tests.{eq-eqb}
 use Rattle.meaning.specs.Lists.{any}
 use Rattle.meaning.specs.Trie.{byteAt}
-use Rattle.trie.specs.declared.Level.{Level}
-use Rattle.trie.specs.Model.{pageByte}
+use Rattle.blocks.specs.declared.Level.{Level}
+use Rattle.blocks.specs.Packed.{pageByte}
 use Rattle.trie.specs.Phys.{first, Below}
 use Rattle.trie.proofs.Spans.{Linked}
 use Rattle.trie_laws.specs.Needed.{distinct}

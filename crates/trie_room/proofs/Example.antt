@@ -6,14 +6,15 @@ use lib.ListN.{replicate}
 use Rattle.meaning.specs.Sketch.{perByte, packedLength, blockStart, blockLength}
 use Rattle.meaning.specs.Ledger.{Settings}
 use Rattle.meaning.specs.Forest.{blockBytes}
-use Rattle.trie.specs.Model.{rowByte, pageByte, spanFrom, levelAt}
+use Rattle.blocks.specs.Packed.{rowByte, pageByte, levelAt}
+use Rattle.trie.specs.Model.{spanFrom}
 use Rattle.trie.specs.declared.span.Span.the-variants.{Enough, Short}
 use Rattle.trie_laws.specs.Needed.{distinctFrom}
 use Rattle.trie.specs.Descend.{descend, descendTo}
 use Rattle.trie_room.specs.declared.needed.Needed.{Needed}
 use Rattle.trie_room.specs.declared.needed.Needed.the-variants.{Nodes, Broken}
 use Rattle.trie_room.specs.Chains.{chainFrom}
-use Rattle.trie_room.specs.RowBytes.{rowsOf}
+use Rattle.blocks.specs.RowBytes.{rowsOf}
 use Rattle.trie_room.specs.Needs.{distinctBytes, gapNeeds, leafNeeds, nodesNeeded}
 
 settings : Settings

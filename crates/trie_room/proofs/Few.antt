@@ -6,12 +6,13 @@ use native.Mathlib.Omega.{arith}
 use lib.Dec.{ltb, eqb}
 use lib.ListN.{length, getD, length-map}
 use Rattle.layout.specs.Nodes.{stateAt}
-use Rattle.trie.specs.declared.Rows.{Rows}
-use Rattle.trie.specs.declared.Level.{Level}
+use Rattle.blocks.specs.declared.Rows.{Rows}
+use Rattle.blocks.specs.declared.Level.{Level}
 use Rattle.trie.specs.declared.span.Span.{Span}
 use Rattle.trie.specs.declared.span.Span.the-variants.{Enough, Short}
 use Rattle.trie.specs.declared.span.Span.the-variants as spans
-use Rattle.trie.specs.Model.{pageByte, spanFrom, levelAt}
+use Rattle.blocks.specs.Packed.{pageByte, levelAt}
+use Rattle.trie.specs.Model.{spanFrom}
 use Rattle.trie_laws.proofs.Distinct.{distinct-length}
 use Rattle.trie.specs.declared.path.Reach.{Reach}
 use Rattle.trie.specs.declared.path.Reach.the-variants.{Leaf, Gap}

@@ -6,12 +6,13 @@ use native.Mathlib.Numerals.{add-one}
 use borrow.Author.Tests.{le-ltb, lt-ltb, eq-eqb, ne-eqb}
 use lib.ListN.{length, getD}
 use Rattle.layout.specs.Nodes.{stateAt}
-use Rattle.trie.specs.declared.Level.{Level}
-use Rattle.trie.specs.declared.Rows.{Rows}
+use Rattle.blocks.specs.declared.Level.{Level}
+use Rattle.blocks.specs.declared.Rows.{Rows}
 use Rattle.trie.specs.declared.span.Span.{Span}
 use Rattle.trie.specs.declared.span.Span.the-variants.{Enough, Short}
 use Rattle.trie.specs.declared.span.Span.the-variants as spans
-use Rattle.trie.specs.Model.{spanFrom, levelAt}
+use Rattle.blocks.specs.Packed.{levelAt}
+use Rattle.trie.specs.Model.{spanFrom}
 use Rattle.trie.specs.declared.path.Reach.{Reach}
 use Rattle.trie.specs.declared.path.Reach.the-variants.{Leaf, Gap}
 use Rattle.trie.specs.declared.path.Reach.the-variants as reach

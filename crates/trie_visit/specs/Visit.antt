@@ -8,8 +8,9 @@ use lib.ListN.{length, set}
 use Rattle.meaning.specs.Sketch.{packedLength}
 use Rattle.sketch.specs.Settings.{Bits}
 use Rattle.layout.specs.declared.Block.{Block}
-use Rattle.trie.specs.declared.Rows.{Rows}
-use Rattle.trie.specs.Tables.{NodeTable, PageTable, RowTable}
+use Rattle.blocks.specs.declared.Rows.{Rows}
+use Rattle.layout.specs.Tables.{NodeTable, PageTable}
+use Rattle.blocks.specs.Tables.{RowTable}
 use Rattle.node_check.specs.declared.frame.Frame.{Frame}
 use Rattle.node_check.specs.declared.frame.Step.{Step}
 use Rattle.node_check.specs.declared.frame.Step.the-variants as step

@@ -2,13 +2,13 @@
 ghost use mathlib.Core.Path.{_≡_};
 ghost use Prim.Native.Nat.{_<_};
 ghost use Rattle.trie_visit.specs.Visit.{within, Fitting, seen, visitChild, visited, visit};
+use blocks::Rows;
 use layout::Block;
 use node_check::frame::Frame;
 use node_check::frame::Step;
 use node_check::leaf::Kind;
 use node_check::leaf::Left;
 use node_check::mark::Window;
-use trie::Rows;
 
 // What a walk goes by: the block, its rows, and the nodes that the map has bits for.
 pub struct Scope {

@@ -6,7 +6,7 @@ use native.Mathlib.Omega.{arith}
 use borrow.Author.Needs.{needs}
 use Rattle.meaning.specs.Lists.{all, from, upto}
 use Rattle.sketch.proofs.Runs.{all-fails, all-passes, all-done}
-use Rattle.trie.proofs.Bytes.{level-path}
+use Rattle.blocks.proofs.Bytes.{level-path}
 use Rattle.node_check.specs.Leaf.{onPath}
 use Rattle.node_check.proofs.LeafSteps.{matchAt, match-fails, match-passes}
 use Rattle.node_check.proofs.leaf.is_on_path.Statement.{statement}

@@ -1,6 +1,6 @@
 -- `split_leaf` meets its contract.
 use Rattle.trie.proofs.Frame.{nodes-kept}
-use Rattle.trie.proofs.Bytes.{level-path}
+use Rattle.blocks.proofs.Bytes.{level-path}
 use Rattle.trie_insert.proofs.Steps.{split-leaf}
 use Rattle.trie_insert.proofs.split.split_leaf.Statement.{statement}
 use Rattle.trie_insert.proofs.split.split_leaf.Tie as tie

@@ -5,7 +5,7 @@ use Prim.Native.Nat.{_+_, _-_, _<_, _≤_}
 use native.Mathlib.Omega.{arith}
 use borrow.Author.Needs.{needs}
 use lib.ListN.{length, replicate, length-set}
-use Rattle.trie.specs.Model.{pageByte}
+use Rattle.blocks.specs.Packed.{pageByte}
 use Rattle.trie_room.specs.Chains.{chainFrom}
 use Rattle.trie_room.specs.Needs.{distinctBytes}
 use Rattle.trie_room.proofs.Count.{counted, flagged, flag-most, no-flags, count-start, bytes-done, bytes-long, bytes-broken, bytes-next}

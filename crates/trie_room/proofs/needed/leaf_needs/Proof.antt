@@ -1,6 +1,6 @@
 -- `leaf_needs` is `leafNeeds`.
 use native.Mathlib.Omega.{arith}
-use Rattle.trie.proofs.Bytes.{level-path}
+use Rattle.blocks.proofs.Bytes.{level-path}
 use Rattle.trie_room.proofs.Ways.{leaf-splits, leaf-stays, leaf-broken}
 use borrow.Author.Needs.{needs}
 use Rattle.trie_room.proofs.needed.leaf_needs.Statement.{statement}
