@@ -1,0 +1,4 @@
+pub mod Examples
+pub mod Folded
+pub mod Rows
+pub mod Below
