@@ -24,9 +24,9 @@ folded-byte-lt : (i : ℕ) (vs : List ℕ) → inRange 8 vs ≡ true → foldedB
 unfolding foldedByte inRange all
 folded-byte-lt i [] r = omega arith
 folded-byte-lt zero (v ∷ vs) r =
-    xor-lt 8 v (foldedByte 3 vs)
+    xor-lt 8 v _
     (ltb-true v (2 ^ 8) (and-first (ltb v (2 ^ 8)) (inRange 8 vs) r))
-    (folded-byte-lt 3 vs (and-second (ltb v (2 ^ 8)) (inRange 8 vs) r))
+    (folded-byte-lt _ vs (and-second (ltb v (2 ^ 8)) (inRange 8 vs) r))
 folded-byte-lt (suc i) (v ∷ vs) r = folded-byte-lt i vs (and-second (ltb v (2 ^ 8)) (inRange 8 vs) r)
 
 -- the bytes of the word
