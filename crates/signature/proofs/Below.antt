@@ -31,7 +31,8 @@ other-xor v w x y = go (eqb v w) (eqb x y) (eqb (bitXor v x) (bitXor w y)) refl 
     go true false false p q r = omega arith
     go true true false p q r = absurd (eqb-false (bitXor v x) (bitXor w y) r (ap₂ bitXor (eqb-true v w p) (eqb-true x y q)))
 
-count-add : (p q r : ℕ → Bool) → ((i : ℕ) → cond (r i) 1 0 ≤ cond (p i) 1 0 + cond (q i) 1 0) → (xs : List ℕ) → count r xs ≤ count p xs + count q xs
+count-add : (p q r : ℕ → Bool) → ((i : ℕ) → cond (r i) 1 0 ≤ cond (p i) 1 0 + cond (q i) 1 0)
+    → (xs : List ℕ) → count r xs ≤ count p xs + count q xs
 unfolding count
 count-add p q r h [] = omega arith
 count-add p q r h (x ∷ xs) = omega (arith, h x, count-add p q r h xs)
