@@ -29,7 +29,7 @@ $(PROGRAM): $(SOURCES)
 	@touch $@
 
 # what the proved crates offer to C, each as an archive, and all of it in one
-ARCHIVES = sketch_calls journal capi
+ARCHIVES = sketch_calls journal_form capi
 LIBRARY = target/staticlib/libvetchdawn.a
 archives: $(LIBRARY)
 $(LIBRARY): $(SOURCES)
