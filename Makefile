@@ -1,5 +1,5 @@
 # make run: build the program and run it on an example.  make test: the gate.
-# make prove: what has changed, proved.  make edits NAME=crate: the must-fail edits of one crate.
+# make prove: what has changed, proved.  make edits NAME=crate: the must-fail edits of one crate.  make picture: README's picture and list.
 CARGO = cargo --offline
 TESTS = --release --manifest-path tests/Cargo.toml --target-dir target/rust
 PREFIX = /usr/local
@@ -7,7 +7,7 @@ JOURNAL = crates/vetchdawn/stdin
 
 PROGRESS = .ci/progress
 
-.PHONY: run test prove edits program archives check-rust fuzz bench plot install
+.PHONY: run test prove edits picture program archives check-rust fuzz bench plot install
 
 run: program
 	@$(PROGRAM) < $(JOURNAL)
@@ -21,6 +21,11 @@ prove:
 edits:
 	@.ci/edits $(NAME)
 
+# after a change of crates.txt, or of definitions
+picture:
+	@docs/picture
+	@docs/definitions
+
 SOURCES := crates.txt $(shell find crates -name '*.rt' -o -name '*.antt')
 PROGRAM = target/bin/vetchdawn
 program: $(PROGRAM)
@@ -29,7 +34,7 @@ $(PROGRAM): $(SOURCES)
 	@touch $@
 
 # what the proved crates offer to C, each as an archive, and all of it in one
-ARCHIVES = sketch journal capi
+ARCHIVES = sketch_calls journal_form capi
 LIBRARY = target/staticlib/libvetchdawn.a
 archives: $(LIBRARY)
 $(LIBRARY): $(SOURCES)
@@ -38,7 +43,7 @@ $(LIBRARY): $(SOURCES)
 	@{ echo create $@; for name in $(ARCHIVES); do echo addlib target/staticlib/lib$$name.a; done; echo save; } | ar -M
 
 check-rust: program archives
-	@$(CARGO) test $(TESTS)
+	@$(CARGO) test $(TESTS) --lib --test '*'
 
 # five minutes of calls on any tables; the gate has half a minute of it
 fuzz: archives

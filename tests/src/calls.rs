@@ -1,5 +1,5 @@
 //! The C calls as include/vetchdawn.h declares them, each behind a safe function.
-use crate::tables::{Settings, Tables};
+use crate::tables::{Lengths, Settings, Tables};
 
 /// Tables lent to a call, wherever they lie.
 pub struct Lent<'a> {
@@ -208,10 +208,11 @@ pub fn form(m: u8, first: u8, bytes: &[u8]) -> u32 {
     unsafe { c::vetch_form(m, first, bytes.as_ptr(), bytes.len()) }
 }
 
-/// The number, and the lengths of settings, nodes, pages, sketches and working table.
-pub fn lengths(b: u32, m: u32, q: u32, page_capacity: u32, node_capacity: u32) -> (u32, [u32; 5]) {
+/// The number, and how long the tables must be.
+pub fn lengths(s: &Settings) -> (u32, Lengths) {
     let mut given = [u32::MAX; 5];
     let [settings, nodes, pages, sketches, working] = &mut given;
-    let number = unsafe { c::vetch_lengths(b, m, q, page_capacity, node_capacity, settings, nodes, pages, sketches, working) };
-    (number, given)
+    let number = unsafe { c::vetch_lengths(s.b, s.m, s.q, s.pages, s.nodes, settings, nodes, pages, sketches, working) };
+    let [settings, nodes, pages, sketches, working] = given.map(|n| n as usize);
+    (number, Lengths { settings, nodes, pages, sketches, working })
 }

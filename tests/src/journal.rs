@@ -32,10 +32,6 @@ pub fn form(m: u8, first: bool, bytes: &[u8]) -> u32 {
     0
 }
 
-fn limits(b: u32, m: u32, q: u32) -> bool {
-    (1..=8).contains(&b) && (1..=64).contains(&m) && (1..=8).contains(&q) && q <= m
-}
-
 pub fn printed(input: &[u8]) -> String {
     let bytes = &input[..input.len().min(BYTES)];
     let mut out = String::new();
@@ -55,12 +51,12 @@ pub fn printed(input: &[u8]) -> String {
         let two = |i: usize| one(i) + 256 * one(i + 1);
         let number = match (rest[0], &mut index) {
             (b'I', _) => {
-                let (b, m, q) = (one(0), one(1), one(2));
-                if !limits(b, m, q) {
+                let s = Settings { b: one(0), m: one(1), q: one(2), pages: PAGES, nodes: NODES, thresholds: vec![two(3) as u16; 64] };
+                if !s.within_limits() {
                     writeln!(out, "E {at} 4").unwrap();
                     break;
                 }
-                index = Some(Index::open(Settings { b, m, q, pages: PAGES, nodes: NODES, thresholds: vec![two(3) as u16; 64] }));
+                index = Some(Index::open(s));
                 0
             }
             (b'A', Some(i)) => i.add(two(0), one(2), &x[3..]),

@@ -1,6 +1,7 @@
 //! Independent implementations in plain Rust, and the C calls of the proved archives beside them.
 pub mod baselines;
 pub mod calls;
+pub mod clock;
 pub mod guard;
 pub mod journal;
 pub mod plain;

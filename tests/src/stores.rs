@@ -1,7 +1,7 @@
 //! Random stores: settings, sketches that are alike, histories, and damage.
 use crate::calls;
 use crate::random::Random;
-use crate::tables::{lengths, Settings, Tables, FREE, SETTINGS};
+use crate::tables::{Settings, Tables, FREE};
 use crate::trees::Index;
 
 /// Settings for small tables: every b and q, thresholds that split early, late or never.
@@ -29,14 +29,14 @@ pub fn small_settings(random: &mut Random) -> Settings {
 
 /// Tables full of anything, long enough for the settings, with a rest behind.
 pub fn any_tables(random: &mut Random, s: &Settings) -> Tables {
-    let [nodes, pages, sketches, working] = lengths(s.m, s.q, s.pages, s.nodes);
+    let l = s.lengths();
     let mut words = |n: usize| (0..n).map(|_| random.next() as u32).collect::<Vec<_>>();
     Tables {
-        settings: words(SETTINGS + 2),
-        nodes: words(nodes + 3),
-        pages: words(pages + 3),
-        sketches: words(sketches + 3).into_iter().map(|w| w as u8).collect(),
-        working: words(working + 3),
+        settings: words(l.settings + 2),
+        nodes: words(l.nodes + 3),
+        pages: words(l.pages + 3),
+        sketches: words(l.sketches + 3).into_iter().map(|w| w as u8).collect(),
+        working: words(l.working + 3),
     }
 }
 
@@ -123,4 +123,25 @@ pub fn scramble(random: &mut Random, t: &mut Tables, s: &Settings) {
     t.nodes.iter_mut().for_each(|w| *w = word());
     t.pages.iter_mut().for_each(|w| *w = word());
     t.working.iter_mut().for_each(|w| *w = word());
+}
+
+/// A store with some pages, then damaged: every fourth one in every word.
+pub fn damaged(random: &mut Random, s: &Settings, round: u32) -> (Tables, Sketches) {
+    let (mut t, _, sketches) = filled(random, s, 40);
+    if round % 4 == 0 {
+        scramble(random, &mut t, s);
+    } else {
+        damage(random, &mut t, s);
+    }
+    (t, sketches)
+}
+
+/// The tables cut to their lengths, and one of the first `tables` of them shorter. Gives the number that refuses it.
+pub fn cut_short(random: &mut Random, t: &mut Tables, s: &Settings, tables: u64) -> u32 {
+    let mut l = s.lengths();
+    let short = random.below(tables) as usize;
+    let length = l.each().into_iter().nth(short).unwrap();
+    *length = if random.below(2) == 0 { *length - 1 } else { random.below(*length as u64) as usize };
+    t.cut(&l);
+    if short == 0 { 5 } else { 6 }
 }

@@ -28,54 +28,103 @@ pub struct Settings {
     pub thresholds: Vec<u16>,
 }
 
-fn limits(b: u32, m: u32, q: u32, pages: u32, nodes: u32) -> bool {
-    (1..=8).contains(&b)
-        && (1..=64).contains(&m)
-        && (1..=8).contains(&q)
-        && q <= m
-        && (1..=65_535).contains(&pages)
-        && (q..=262_144).contains(&nodes)
+/// How long each table must be.
+#[derive(Clone, Copy, PartialEq, Eq, Debug, Default)]
+pub struct Lengths {
+    pub settings: usize,
+    pub nodes: usize,
+    pub pages: usize,
+    pub sketches: usize,
+    pub working: usize,
 }
 
-/// How long the tables must be for capacities: nodes, pages, sketches, working.
-pub fn lengths(m: u32, q: u32, pages: u32, nodes: u32) -> [usize; 4] {
-    let (m, q, p, n) = (m as usize, q as usize, pages as usize, nodes as usize);
-    let map = p.max(n.div_ceil(8)).div_ceil(32);
-    [10 * n, (2 + q) * p, p * m, map + map.div_ceil(32)]
+impl Lengths {
+    pub fn each(&mut self) -> [&mut usize; 5] {
+        [&mut self.settings, &mut self.nodes, &mut self.pages, &mut self.sketches, &mut self.working]
+    }
 }
 
-/// The settings that a table of settings shows.
-pub struct Shown {
-    pub b: u32,
-    pub m: u32,
-    pub q: u32,
-    pub pages: u32,
-    pub nodes: u32,
+impl Settings {
+    pub fn within_limits(&self) -> bool {
+        (1..=8).contains(&self.b)
+            && (1..=64).contains(&self.m)
+            && (1..=8).contains(&self.q)
+            && self.q <= self.m
+            && (1..=65_535).contains(&self.pages)
+            && (self.q..=262_144).contains(&self.nodes)
+    }
+
+    pub fn lengths(&self) -> Lengths {
+        let [m, q, p, n] = [self.m, self.q, self.pages, self.nodes].map(|x| x as usize);
+        let map = p.max(n.div_ceil(8)).div_ceil(32);
+        Lengths { settings: SETTINGS, nodes: 10 * n, pages: (2 + q) * p, sketches: p * m, working: map + map.div_ceil(32) }
+    }
+}
+
+/// Does some group have the reader as a member and is granted the class?
+pub fn opens(settings: &[u32], reader: u32, class: u32) -> bool {
+    class < 64
+        && (0..32).any(|g| {
+            let member = settings[MEMBERS + reader as usize] >> g & 1 == 1;
+            let granted = settings[GRANTS + 2 * g + class as usize / 32] >> (class % 32) & 1 == 1;
+            member && granted
+        })
+}
+
+/// Is the page marked live, open to the reader, and its row within the radius of the query? Of tables that show an opening.
+pub fn is_hit(settings: &[u32], pages: &[u32], sketches: &[u8], reader: u32, radius: u32, query: &[u8], page: usize) -> bool {
+    let (m, cap) = (settings[2] as usize, settings[4] as usize);
+    page < cap
+        && pages[page] == 1
+        && opens(settings, reader, pages[cap + page])
+        && sketches[page * m..page * m + m].iter().zip(query).filter(|(a, b)| a != b).count() <= radius as usize
 }
 
 impl Tables {
-    /// Questions 5 and 6 as far as they concern the settings table.
-    fn shown(&self) -> Result<Shown, u32> {
+    /// Tables as long as they must be, with one number in every place.
+    pub fn filled_with(number: u8, s: &Settings) -> Tables {
+        let (l, word) = (s.lengths(), u32::from(number));
+        Tables {
+            settings: vec![word; l.settings],
+            nodes: vec![word; l.nodes],
+            pages: vec![word; l.pages],
+            sketches: vec![number; l.sketches],
+            working: vec![word; l.working],
+        }
+    }
+
+    /// Cut to the lengths, where a table is longer.
+    pub fn cut(&mut self, l: &Lengths) {
+        self.settings.truncate(l.settings);
+        self.nodes.truncate(l.nodes);
+        self.pages.truncate(l.pages);
+        self.sketches.truncate(l.sketches);
+        self.working.truncate(l.working);
+    }
+
+    /// Questions 5 and 6 as far as they concern the settings table; the settings that it shows.
+    fn shown(&self) -> Result<Settings, u32> {
         let w = &self.settings;
         if w.len() < SETTINGS {
             return Err(5);
         }
-        if w[0] != MARK || !limits(w[1], w[2], w[3], w[4], w[5]) || w[6..70].iter().any(|&t| t > 65_535) {
+        let s = Settings { b: w[1], m: w[2], q: w[3], pages: w[4], nodes: w[5], thresholds: vec![] };
+        if w[0] != MARK || !s.within_limits() || w[6..MEMBERS].iter().any(|&t| t > 65_535) {
             return Err(6);
         }
-        Ok(Shown { b: w[1], m: w[2], q: w[3], pages: w[4], nodes: w[5] })
+        Ok(s)
     }
 
     pub fn open(&mut self, s: &Settings) -> u32 {
-        if !limits(s.b, s.m, s.q, s.pages, s.nodes) || s.thresholds.len() != 64 {
+        if !s.within_limits() || s.thresholds.len() != 64 {
             return 4;
         }
-        let [nodes, pages, sketches, working] = lengths(s.m, s.q, s.pages, s.nodes);
-        if self.settings.len() < SETTINGS
-            || self.nodes.len() < nodes
-            || self.pages.len() < pages
-            || self.sketches.len() < sketches
-            || self.working.len() < working
+        let l = s.lengths();
+        if self.settings.len() < l.settings
+            || self.nodes.len() < l.nodes
+            || self.pages.len() < l.pages
+            || self.sketches.len() < l.sketches
+            || self.working.len() < l.working
         {
             return 5;
         }
@@ -83,17 +132,17 @@ impl Tables {
         let link = |x: usize| if x < n { x as u32 + 1 } else { 0 };
         let w = &mut self.settings;
         w[..6].copy_from_slice(&[MARK, s.b, s.m, s.q, s.pages, s.nodes]);
-        for (word, &t) in w[6..70].iter_mut().zip(&s.thresholds) {
+        for (word, &t) in w[6..MEMBERS].iter_mut().zip(&s.thresholds) {
             *word = u32::from(t);
         }
         w[MEMBERS..FREE].fill(0);
         w[FREE] = link(q);
-        self.nodes[..nodes].fill(0);
+        self.nodes[..l.nodes].fill(0);
         for x in 0..n {
             self.nodes[x] = if x < q { 0 } else { link(x + 1) };
             self.nodes[n + x] = if x < q { 2 } else { 0 };
         }
-        self.pages[..pages].fill(0);
+        self.pages[..l.pages].fill(0);
         0
     }
 
@@ -127,21 +176,11 @@ impl Tables {
         self.right(GRANTS, group, 32, class, 64, false)
     }
 
-    /// Does some group have the reader as a member and is granted the class?
-    pub fn opens(&self, reader: u32, class: u32) -> bool {
-        class < 64
-            && (0..32).any(|g| {
-                let member = self.settings[MEMBERS + reader as usize] >> g & 1 == 1;
-                let granted = self.settings[GRANTS + 2 * g + class as usize / 32] >> (class % 32) & 1 == 1;
-                member && granted
-            })
-    }
-
     /// The row of a page that is shown: its start and length in the sketch table; or the refusal's number.
     pub fn show(&self, reader: u32, page: u32) -> Result<(usize, usize), u32> {
         let s = self.shown()?;
-        let [_, pages, sketches, _] = lengths(s.m, s.q, s.pages, s.nodes);
-        if self.pages.len() < pages || self.sketches.len() < sketches {
+        let l = s.lengths();
+        if self.pages.len() < l.pages || self.sketches.len() < l.sketches {
             return Err(6);
         }
         if reader >= 256 {
@@ -151,7 +190,7 @@ impl Tables {
             return Err(8);
         }
         let (p, cap) = (page as usize, s.pages as usize);
-        if self.pages[p] != 1 || !self.opens(reader, self.pages[cap + p]) {
+        if self.pages[p] != 1 || !opens(&self.settings, reader, self.pages[cap + p]) {
             return Err(9);
         }
         Ok((p * s.m as usize, s.m as usize))

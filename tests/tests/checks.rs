@@ -3,15 +3,15 @@ use vetchdawn_tests::calls;
 use vetchdawn_tests::guard::GuardedTables;
 use vetchdawn_tests::random::Random;
 use vetchdawn_tests::sound::sound;
-use vetchdawn_tests::stores::{damage, filled, scramble, small_settings};
-use vetchdawn_tests::tables::{lengths, Settings, Tables, FREE};
+use vetchdawn_tests::stores::{cut_short, damaged, filled, small_settings};
+use vetchdawn_tests::tables::{Settings, Tables, FREE};
 
 /// The check's answer; the needed part of the working table is 0 then, and nothing else changed.
 fn checked(lent: &mut GuardedTables, t: &Tables, s: &Settings) -> bool {
     let (number, yes) = calls::check(&mut lent.lend());
     assert_eq!(number, 0);
     let after = lent.tables();
-    let needed = lengths(s.m, s.q, s.pages, s.nodes)[3];
+    let needed = s.lengths().working;
     assert!(after.working[..needed].iter().all(|&w| w == 0) && after.working[needed..] == t.working[needed..]);
     assert!((&after.settings, &after.nodes, &after.pages, &after.sketches) == (&t.settings, &t.nodes, &t.pages, &t.sketches));
     yes
@@ -63,11 +63,11 @@ fn one_word(random: &mut Random, t: &mut Tables, s: &Settings) {
             t.nodes[at] = other(random, t.nodes[at]);
         }
         5 | 6 => {
-            let at = random.below((2 + u64::from(s.q)) * p) as usize;
+            let at = random.below(s.lengths().pages as u64) as usize;
             t.pages[at] = other(random, t.pages[at]);
         }
         _ => {
-            let at = random.below(p * u64::from(s.m)) as usize;
+            let at = random.below(s.lengths().sketches as u64) as usize;
             t.sketches[at] = random.next() as u8;
         }
     }
@@ -78,17 +78,8 @@ fn damaged_tables() {
     let mut random = Random::new(52);
     for round in 0..2_000 {
         let s = small_settings(&mut random);
-        let (mut t, _, _) = filled(&mut random, &s, 40);
-        if round % 4 == 0 {
-            scramble(&mut random, &mut t, &s);
-        } else {
-            damage(&mut random, &mut t, &s);
-        }
-        t.nodes.truncate(10 * s.nodes as usize);
-        t.pages.truncate(((2 + s.q) * s.pages) as usize);
-        t.sketches.truncate((s.m * s.pages) as usize);
-        t.settings.truncate(391);
-        t.working.truncate(lengths(s.m, s.q, s.pages, s.nodes)[3]);
+        let (mut t, _) = damaged(&mut random, &s, round);
+        t.cut(&s.lengths());
         let mut lent = GuardedTables::new(&t);
         assert_eq!(checked(&mut lent, &t, &s), sound(&t, &s), "{s:?}");
     }
@@ -100,16 +91,9 @@ fn short_tables() {
     for _ in 0..500 {
         let s = small_settings(&mut random);
         let (mut t, _, _) = filled(&mut random, &s, 10);
-        let short = random.below(5);
-        match short {
-            0 => t.settings.truncate(random.below(391) as usize),
-            1 => t.nodes.truncate(random.below(10 * u64::from(s.nodes)) as usize),
-            2 => t.pages.truncate(random.below(u64::from((2 + s.q) * s.pages)) as usize),
-            3 => t.sketches.truncate(random.below(u64::from(s.m * s.pages)) as usize),
-            _ => t.working.truncate(random.below(lengths(s.m, s.q, s.pages, s.nodes)[3] as u64) as usize),
-        }
+        let number = cut_short(&mut random, &mut t, &s, 5);
         let before = t.clone();
-        assert_eq!(calls::check(&mut t.lend()), (if short == 0 { 5 } else { 6 }, false));
+        assert_eq!(calls::check(&mut t.lend()), (number, false));
         assert!(t == before);
     }
 }

@@ -1,21 +1,15 @@
 //! Question 14: where it refuses a search, against a plain walk with the same budgets; and that no damage makes a search slow.
-use std::time::{Duration, Instant};
-use vetchdawn_tests::calls;
+use std::time::Duration;
+use vetchdawn_tests::calls::{self, Given};
+use vetchdawn_tests::clock::processor_time;
 use vetchdawn_tests::random::Random;
-use vetchdawn_tests::stores::{damage, filled, scramble, small_settings};
-use vetchdawn_tests::tables::{lengths, Settings, Tables, SETTINGS};
+use vetchdawn_tests::stores::{damaged, small_settings};
+use vetchdawn_tests::tables::{is_hit, Settings, Tables};
 use vetchdawn_tests::walks::met;
 
 /// Tables of zeros, opened; reader 0 is open to all classes.
 fn opened(s: &Settings) -> Tables {
-    let [nodes, pages, sketches, working] = lengths(s.m, s.q, s.pages, s.nodes);
-    let mut t = Tables {
-        settings: vec![0; SETTINGS],
-        nodes: vec![0; nodes],
-        pages: vec![0; pages],
-        sketches: vec![0; sketches],
-        working: vec![0; working],
-    };
+    let mut t = Tables::filled_with(0, s);
     assert_eq!(calls::open(&mut t, s), 0);
     assert_eq!(calls::join(&mut t, 0, 0), 0);
     for class in 0..64 {
@@ -28,35 +22,27 @@ fn settings(b: u32, m: u32, q: u32, pages: u32, nodes: u32, threshold: u16) -> S
     Settings { b, m, q, pages, nodes, thresholds: vec![threshold; 64] }
 }
 
-/// The number and the pages listed, and the time of the best of three.
-fn search(t: &mut Tables, radius: u32, query: &[u8]) -> (u32, Vec<u16>, Duration) {
-    let mut output = vec![0u16; 65_535];
-    let mut best = Duration::MAX;
-    let mut given = None;
-    for _ in 0..3 {
-        let start = Instant::now();
-        let found = calls::search(&mut t.lend(), 0, radius, query, &mut output);
-        best = best.min(start.elapsed());
-        given = Some(found);
+/// What the plain walk says that a search gives, with so much room for the list.
+fn wanted(t: &Tables, s: &Settings, reader: u32, radius: u32, query: &[u8], room: usize) -> (Given, Vec<u16>) {
+    let Some(met) = met(t, s, radius, query) else {
+        return (Given { number: 14, value: 0 }, vec![]);
+    };
+    let hit = |&p: &usize| met[p] && is_hit(&t.settings, &t.pages, &t.sketches, reader, radius, query, p);
+    let list: Vec<u16> = (0..s.pages as usize).filter(hit).map(|p| p as u16).collect();
+    let value = list.len() as u32;
+    if list.len() > room {
+        return (Given { number: 13, value }, vec![]);
     }
-    let found = given.unwrap();
-    let count = if found.number == 0 { found.value as usize } else { 0 };
-    (found.number, output[..count].to_vec(), best)
+    (Given { number: 0, value }, list)
 }
 
-/// What the plain walk says that the search gives.
-fn wanted(t: &Tables, s: &Settings, reader: u32, radius: u32, query: &[u8]) -> (u32, Vec<u16>) {
-    let Some(met) = met(t, s, radius, query) else {
-        return (14, vec![]);
-    };
-    let (cap, m) = (s.pages as usize, s.m as usize);
-    let hit = |&p: &usize| {
-        met[p]
-            && t.pages[p] == 1
-            && t.opens(reader, t.pages[cap + p])
-            && t.sketches[p * m..p * m + m].iter().zip(query).filter(|(a, b)| a != b).count() <= radius as usize
-    };
-    (0, (0..cap).filter(hit).map(|p| p as u16).collect())
+/// What a search gives, and what it has listed: a list is in the beginning of the output, and the rest stays as it was.
+fn search(t: &mut Tables, reader: u32, radius: u32, query: &[u8], room: usize) -> (Given, Vec<u16>) {
+    let mut output = vec![0xbeef_u16; room];
+    let given = calls::search(&mut t.lend(), reader, radius, query, &mut output);
+    let rest = output.split_off(if given.number == 0 { given.value as usize } else { 0 });
+    assert!(rest.iter().all(|&w| w == 0xbeef));
+    (given, output)
 }
 
 #[test]
@@ -65,22 +51,16 @@ fn as_a_plain_walk_has_it() {
     let mut numbers = [0u32; 16];
     for round in 0..4_000 {
         let s = small_settings(&mut random);
-        let (mut t, _, sketches) = filled(&mut random, &s, 40);
-        if round % 4 == 0 {
-            scramble(&mut random, &mut t, &s);
-        } else {
-            damage(&mut random, &mut t, &s);
-        }
+        let (mut t, sketches) = damaged(&mut random, &s, round);
         for _ in 0..8 {
             let (reader, radius, query) = (random.below(4) as u32, random.below(65) as u32, sketches.near(&mut random, 5));
-            let (number, list) = wanted(&t, &s, reader, radius, &query);
-            let mut output = vec![0u16; s.pages as usize];
-            let given = calls::search(&mut t.lend(), reader, radius, &query, &mut output);
-            assert_eq!((given.number, &output[..given.value as usize]), (number, &list[..]), "{s:?}");
-            numbers[number as usize] += 1;
+            let room = if random.below(2) == 0 { s.pages as usize } else { random.below(4) as usize };
+            let want = wanted(&t, &s, reader, radius, &query, room);
+            assert_eq!(search(&mut t, reader, radius, &query, room), want, "{s:?}");
+            numbers[want.0.number as usize] += 1;
         }
     }
-    assert!(numbers[0] > 1_000 && numbers[14] > 1_000, "{numbers:?}");
+    assert!(numbers[0] > 1_000 && numbers[13] > 1_000 && numbers[14] > 1_000, "{numbers:?}");
 }
 
 /// Node x of a chain: its link, byte, state and the link of all its heads.
@@ -157,22 +137,35 @@ fn full_store(s: &Settings, random: &mut Random) -> Tables {
     t
 }
 
+/// A search by reader 0, and the processor time of the best of five.
+fn timed(t: &mut Tables, radius: u32, query: &[u8]) -> (Given, Duration) {
+    let mut output = vec![0u16; 65_535];
+    let mut run = || {
+        let start = processor_time();
+        let given = calls::search(&mut t.lend(), 0, radius, query, &mut output);
+        (given, processor_time() - start)
+    };
+    let (given, first) = run();
+    (given, (0..4).map(|_| run().1).fold(first, Duration::min))
+}
+
 #[test]
 fn no_damage_makes_it_slow() {
     let mut random = Random::new(72);
     // the slowest search of a sound store of full capacity: every page is met in every block, and listed
     let s = settings(4, 32, 4, 65_535, 262_144, 32);
     let mut t = full_store(&s, &mut random);
-    let (number, list, sound) = search(&mut t, 64, &[0; 32]);
-    assert_eq!((number, list.len()), (0, 65_535));
+    let (given, sound) = timed(&mut t, 64, &[0; 32]);
+    assert_eq!(given, Given { number: 0, value: 65_535 });
     println!("a sound store of 65,535 pages, all listed: {:.2} ms", sound.as_secs_f64() * 1e3);
 
+    let stopped = Given { number: 14, value: 0 };
     let mut slowest = Duration::ZERO;
     let mut report = |name: &str, nodes: u32, t: &mut Tables, s: &Settings, radius: u32, query: &[u8]| {
-        let (number, list, time) = search(t, radius, query);
-        assert_eq!((number, list), wanted(t, s, 0, radius, query), "{name}");
-        println!("{name}, {nodes} nodes: {number} in {:.3} ms", time.as_secs_f64() * 1e3);
-        assert_eq!(number, 14, "{name}");
+        assert_eq!(wanted(t, s, 0, radius, query, 65_535), (stopped, vec![]), "{name}");
+        let (given, time) = timed(t, radius, query);
+        assert_eq!(given, stopped, "{name}");
+        println!("{name}, {nodes} nodes: 14 in {:.3} ms", time.as_secs_f64() * 1e3);
         slowest = slowest.max(time);
     };
     for nodes in [64, 8_192, 65_536, 262_144] {
@@ -190,5 +183,5 @@ fn no_damage_makes_it_slow() {
     let mut t = full_store(&s, &mut random);
     let query = two_words(&mut t, &s);
     report("two words of a sound store", 262_144, &mut t, &s, 2, &query);
-    assert!(slowest < 4 * sound + Duration::from_millis(20), "{slowest:?}, {sound:?}");
+    assert!(slowest < sound, "{slowest:?}, {sound:?}");
 }

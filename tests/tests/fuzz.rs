@@ -4,8 +4,8 @@ use std::time::{Duration, Instant};
 use vetchdawn_tests::calls::{self, Lent};
 use vetchdawn_tests::guard::{Guarded, GuardedTables};
 use vetchdawn_tests::random::Random;
-use vetchdawn_tests::stores::{any_tables, damage, scramble, small_settings, Sketches};
-use vetchdawn_tests::tables::{lengths, Settings, Tables};
+use vetchdawn_tests::stores::{any_tables, cut_short, damage, scramble, small_settings, Sketches};
+use vetchdawn_tests::tables::{is_hit, opens, Settings, Tables};
 
 /// A number that is mostly below `n`.
 fn around(random: &mut Random, n: u64) -> u32 {
@@ -39,37 +39,11 @@ fn tables(random: &mut Random, s: &Settings, sketches: &Sketches) -> Tables {
             _ => {}
         }
     }
-    let [nodes, pages, sketches, working] = lengths(s.m, s.q, s.pages, s.nodes);
-    t.settings.truncate(391);
-    t.nodes.truncate(nodes);
-    t.pages.truncate(pages);
-    t.sketches.truncate(sketches);
-    t.working.truncate(working);
+    t.cut(&s.lengths());
     if random.below(12) == 0 {
-        match random.below(5) {
-            0 => t.settings.truncate(random.below(391) as usize),
-            1 => t.nodes.truncate(random.below(nodes as u64) as usize),
-            2 => t.pages.truncate(random.below(pages as u64) as usize),
-            3 => t.sketches.truncate(random.below(sketches as u64) as usize),
-            _ => t.working.truncate(random.below(working as u64) as usize),
-        }
+        cut_short(random, &mut t, s, 5);
     }
     t
-}
-
-/// The settings that the table shows now, as far as listing goes: m, and the capacity for pages.
-fn shown(t: &Lent) -> (usize, usize) {
-    (t.settings[2] as usize, t.settings[4] as usize)
-}
-
-/// Is the page marked live, open to the reader, and within the radius of its row?
-fn may_be_listed(t: &Lent, reader: u32, radius: u32, query: &[u8], page: usize) -> bool {
-    let (m, cap) = shown(t);
-    let register = Tables { settings: t.settings.to_vec(), ..Tables::default() };
-    page < cap
-        && t.pages[page] == 1
-        && register.opens(reader, t.pages[cap + page])
-        && t.sketches[page * m..page * m + m].iter().zip(query).filter(|(a, b)| a != b).count() <= radius as usize
 }
 
 fn search(random: &mut Random, t: &mut Lent, s: &Settings, query: &[u8]) -> u32 {
@@ -83,7 +57,8 @@ fn search(random: &mut Random, t: &mut Lent, s: &Settings, query: &[u8]) -> u32 
     assert!(output.get()[count..].iter().all(|&w| w == 0xbeef));
     let list = &output.get()[..count];
     assert!(list.windows(2).all(|w| w[0] < w[1]));
-    assert!(list.iter().all(|&p| may_be_listed(t, reader, radius, query.get(), p as usize)), "a page that must not be listed");
+    let hit = |p: u16| is_hit(t.settings, t.pages, t.sketches, reader, radius, query.get(), p as usize);
+    assert!(list.iter().all(|&p| hit(p)), "a page that must not be listed");
     given.number
 }
 
@@ -108,9 +83,8 @@ fn call(random: &mut Random, t: &mut Lent, s: &Settings, sketches: &Sketches) ->
             let reader = around(random, 4);
             let number = match calls::lent_show(t, reader, page) {
                 Ok((start, length)) => {
-                    let (m, cap) = shown(t);
-                    let register = Tables { settings: t.settings.to_vec(), ..Tables::default() };
-                    assert!((start, length) == (page as usize * m, m) && register.opens(reader, t.pages[cap + page as usize]));
+                    let (m, cap) = (t.settings[2] as usize, t.settings[4] as usize);
+                    assert!((start, length) == (page as usize * m, m) && opens(t.settings, reader, t.pages[cap + page as usize]));
                     0
                 }
                 Err(number) => number,

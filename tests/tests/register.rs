@@ -1,7 +1,8 @@
 //! Opening, the rights register and showing through C, against plain Rust: numbers and every table, word by word.
 use vetchdawn_tests::calls;
 use vetchdawn_tests::random::Random;
-use vetchdawn_tests::tables::{lengths, Settings, Tables, MARK, SETTINGS};
+use vetchdawn_tests::stores::cut_short;
+use vetchdawn_tests::tables::{Lengths, Settings, Tables, FREE, MARK, MEMBERS, SETTINGS};
 
 /// A number within its limits, now and then at or past them.
 fn near(random: &mut Random, low: u32, high: u32) -> u32 {
@@ -42,21 +43,21 @@ fn words(random: &mut Random, n: usize) -> Vec<u32> {
 
 /// Tables full of anything: long enough for the settings, with a rest behind, or one of them too short.
 fn tables(random: &mut Random, s: &Settings) -> Tables {
-    let [nodes, pages, sketches, working] = if s.pages < 200 && s.nodes < 2_000 && s.m <= 64 && s.q <= 8 { lengths(s.m, s.q, s.pages, s.nodes) } else { [40, 40, 40, 40] };
-    let mut sizes = [SETTINGS, nodes, pages, sketches, working];
-    for size in &mut sizes {
-        *size += random.below(3) as usize;
+    let small = s.pages < 200 && s.nodes < 2_000 && s.m <= 64 && s.q <= 8;
+    let mut l = if small { s.lengths() } else { Lengths { settings: SETTINGS, nodes: 40, pages: 40, sketches: 40, working: 40 } };
+    for length in l.each() {
+        *length += random.below(3) as usize;
     }
     if random.below(6) == 0 {
-        let short = random.below(5) as usize;
-        sizes[short] = sizes[short].saturating_sub(1 + random.below(4) as usize);
+        let short = l.each().into_iter().nth(random.below(5) as usize).unwrap();
+        *short = short.saturating_sub(1 + random.below(4) as usize);
     }
     Tables {
-        settings: words(random, sizes[0]),
-        nodes: words(random, sizes[1]),
-        pages: words(random, sizes[2]),
-        sketches: random.bytes(sizes[3], 256),
-        working: words(random, sizes[4]),
+        settings: words(random, l.settings),
+        nodes: words(random, l.nodes),
+        pages: words(random, l.pages),
+        sketches: random.bytes(l.sketches, 256),
+        working: words(random, l.working),
     }
 }
 
@@ -75,12 +76,12 @@ fn opened(random: &mut Random) -> (Settings, Tables) {
         }
         if random.below(3) == 0 {
             for _ in 0..300 {
-                let at = 70 + random.below(320) as usize;
+                let at = MEMBERS + random.below((FREE - MEMBERS) as u64) as usize;
                 t.settings[at] = random.next() as u32;
             }
         }
         if random.below(8) == 0 {
-            let at = random.below(70) as usize;
+            let at = random.below(MEMBERS as u64) as usize;
             t.settings[at] = if random.below(2) == 0 { random.next() as u32 } else { t.settings[at] ^ (1 << random.below(32)) };
         }
         return (s, t);
@@ -109,14 +110,7 @@ fn opening() {
 #[test]
 fn opening_at_full_capacity() {
     let s = Settings { b: 4, m: 32, q: 4, pages: 65_535, nodes: 262_144, thresholds: vec![32; 64] };
-    let [nodes, pages, sketches, working] = lengths(s.m, s.q, s.pages, s.nodes);
-    let mut ours = Tables {
-        settings: vec![7; SETTINGS],
-        nodes: vec![7; nodes],
-        pages: vec![7; pages],
-        sketches: vec![7; sketches],
-        working: vec![7; working],
-    };
+    let mut ours = Tables::filled_with(7, &s);
     let mut plain = ours.clone();
     assert_eq!((calls::open(&mut ours, &s), plain.open(&s)), (0, 0));
     assert!(ours == plain);
@@ -127,10 +121,9 @@ fn rights() {
     let mut random = Random::new(12);
     let mut numbers = [0u32; 16];
     for _ in 0..2_000 {
-        let (_, mut ours) = opened(&mut random);
+        let (s, mut ours) = opened(&mut random);
         if random.below(12) == 0 {
-            let n = random.below(SETTINGS as u64 + 1) as usize;
-            ours.settings.truncate(n);
+            cut_short(&mut random, &mut ours, &s, 1);
         }
         let mut plain = ours.clone();
         for _ in 0..40 {
@@ -155,11 +148,8 @@ fn showing() {
     let mut numbers = [0u32; 16];
     for _ in 0..4_000 {
         let (s, mut t) = opened(&mut random);
-        match random.below(16) {
-            0 => t.pages.truncate((2 + s.q as usize) * s.pages as usize - 1),
-            1 => t.sketches.truncate(s.m as usize * s.pages as usize - 1),
-            2 => t.settings.truncate(SETTINGS - 1),
-            _ => {}
+        if random.below(4) == 0 {
+            cut_short(&mut random, &mut t, &s, 4);
         }
         for _ in 0..40 {
             let (reader, page) = (near(&mut random, 0, 255), near(&mut random, 0, s.pages - 1));
@@ -180,14 +170,12 @@ fn table_lengths() {
         let mut s = settings(&mut random);
         s.pages = near(&mut random, 1, 65_535);
         s.nodes = near(&mut random, s.q.clamp(1, 8), 262_144);
-        let got = calls::lengths(s.b, s.m, s.q, s.pages, s.nodes);
-        let within = (1..=8).contains(&s.b) && (1..=64).contains(&s.m) && (1..=8.min(s.m)).contains(&s.q) && (1..=65_535).contains(&s.pages) && (s.q..=262_144).contains(&s.nodes);
-        if within {
-            let [nodes, pages, sketches, working] = lengths(s.m, s.q, s.pages, s.nodes).map(|n| n as u32);
-            assert_eq!(got, (0, [SETTINGS as u32, nodes, pages, sketches, working]), "{s:?}");
+        let got = calls::lengths(&s);
+        if s.within_limits() {
+            assert_eq!(got, (0, s.lengths()), "{s:?}");
         } else {
             refused += 1;
-            assert_eq!(got, (4, [0; 5]), "{s:?}");
+            assert_eq!(got, (4, Lengths::default()), "{s:?}");
         }
     }
     assert!(refused > 10_000 && refused < 90_000, "{refused}");

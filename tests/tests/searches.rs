@@ -2,8 +2,8 @@
 use vetchdawn_tests::calls;
 use vetchdawn_tests::guard::{Guarded, GuardedTables};
 use vetchdawn_tests::random::Random;
-use vetchdawn_tests::stores::{damage, filled, scramble, small_settings, Sketches};
-use vetchdawn_tests::tables::{lengths, Settings, Tables};
+use vetchdawn_tests::stores::{cut_short, damaged, filled, small_settings, Sketches};
+use vetchdawn_tests::tables::{is_hit, Settings};
 
 fn radius_of(random: &mut Random) -> u32 {
     match random.below(12) {
@@ -37,9 +37,8 @@ fn query_of(random: &mut Random, s: &Settings, sketches: &Sketches) -> Vec<u8> {
 
 /// The working table as a search past question 6 leaves it.
 fn cleared(before: &[u32], s: &Settings) -> Vec<u32> {
-    let needed = lengths(s.m, s.q, s.pages, s.nodes)[3];
     let mut after = before.to_vec();
-    after[..needed].fill(0);
+    after[..s.lengths().working].fill(0);
     after
 }
 
@@ -101,30 +100,14 @@ fn short_tables() {
     for _ in 0..600 {
         let s = small_settings(&mut random);
         let (mut t, _, sketches) = filled(&mut random, &s, 20);
-        let short = random.below(5);
-        match short {
-            0 => t.settings.truncate(random.below(391) as usize),
-            1 => t.nodes.truncate(random.below(10 * u64::from(s.nodes)) as usize),
-            2 => t.pages.truncate(random.below(u64::from((2 + s.q) * s.pages)) as usize),
-            3 => t.sketches.truncate(random.below(u64::from(s.m * s.pages)) as usize),
-            _ => t.working.truncate(random.below(lengths(s.m, s.q, s.pages, s.nodes)[3] as u64) as usize),
-        }
+        let number = cut_short(&mut random, &mut t, &s, 5);
         let before = t.clone();
         let query = sketches.near(&mut random, 2);
         let mut output = vec![7u16; 60];
         let given = calls::search(&mut t.lend(), 1, 3, &query, &mut output);
-        assert_eq!((given.number, given.value), (if short == 0 { 5 } else { 6 }, 0));
+        assert_eq!((given.number, given.value), (number, 0));
         assert!(t == before && output == vec![7u16; 60]);
     }
-}
-
-/// Is the page marked live, open to the reader, and within the radius of its row?
-fn may_be_listed(t: &Tables, s: &Settings, reader: u32, radius: u32, query: &[u8], page: u16) -> bool {
-    let (p, m, page) = (s.pages as usize, s.m as usize, page as usize);
-    page < p
-        && t.pages[page] == 1
-        && t.opens(reader, t.pages[p + page])
-        && t.sketches[page * m..page * m + m].iter().zip(query).filter(|(a, b)| a != b).count() <= radius as usize
 }
 
 #[test]
@@ -133,17 +116,8 @@ fn damaged_tables() {
     let mut numbers = [0u32; 16];
     for round in 0..3_000 {
         let s = small_settings(&mut random);
-        let (mut t, _, sketches) = filled(&mut random, &s, 40);
-        if round % 4 == 0 {
-            scramble(&mut random, &mut t, &s);
-        } else {
-            damage(&mut random, &mut t, &s);
-        }
-        t.nodes.truncate(10 * s.nodes as usize);
-        t.pages.truncate(((2 + s.q) * s.pages) as usize);
-        t.sketches.truncate((s.m * s.pages) as usize);
-        t.settings.truncate(391);
-        t.working.truncate(lengths(s.m, s.q, s.pages, s.nodes)[3]);
+        let (mut t, sketches) = damaged(&mut random, &s, round);
+        t.cut(&s.lengths());
         let mut lent = GuardedTables::new(&t);
         for _ in 0..8 {
             let (reader, radius, query) = (random.below(4) as u32, random.below(65) as u32, sketches.near(&mut random, 5));
@@ -169,7 +143,7 @@ fn damaged_tables() {
             };
             assert!(output.get()[list.len()..].iter().all(|&w| w == 0xbeef));
             assert!(list.windows(2).all(|w| w[0] < w[1]));
-            assert!(list.iter().all(|&page| may_be_listed(&t, &s, reader, radius, query.get(), page)));
+            assert!(list.iter().all(|&page| is_hit(&t.settings, &t.pages, &t.sketches, reader, radius, query.get(), page as usize)));
         }
     }
     assert!([0, 13, 14].iter().all(|&n| numbers[n] > 100), "{numbers:?}");

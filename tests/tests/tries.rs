@@ -2,8 +2,8 @@
 use vetchdawn_tests::calls;
 use vetchdawn_tests::guard::GuardedTables;
 use vetchdawn_tests::random::Random;
-use vetchdawn_tests::stores::{damage, filled, opened, scramble, small_settings, Sketches};
-use vetchdawn_tests::tables::{lengths, Settings, Tables, FREE, SETTINGS};
+use vetchdawn_tests::stores::{cut_short, damaged, filled, opened, small_settings, Sketches};
+use vetchdawn_tests::tables::{Settings, Tables, FREE};
 use vetchdawn_tests::trees::{whole, Index};
 
 /// An operand that is now and then out of its range.
@@ -50,9 +50,10 @@ fn compare(t: &Tables, before: &Tables, plain: &Index) {
     }
     assert_eq!(t.settings[..FREE], before.settings[..FREE]);
     assert_eq!(t.settings[FREE + 1..], before.settings[FREE + 1..]);
-    assert_eq!(t.nodes[10 * s.nodes as usize..], before.nodes[10 * s.nodes as usize..]);
-    assert_eq!(t.pages[(2 + s.q as usize) * p..], before.pages[(2 + s.q as usize) * p..]);
-    assert_eq!(t.sketches[p * m..], before.sketches[p * m..]);
+    let l = s.lengths();
+    assert_eq!(t.nodes[l.nodes..], before.nodes[l.nodes..]);
+    assert_eq!(t.pages[l.pages..], before.pages[l.pages..]);
+    assert_eq!(t.sketches[l.sketches..], before.sketches[l.sketches..]);
     assert_eq!(t.working, before.working);
 }
 
@@ -96,14 +97,8 @@ fn short_tables() {
     for _ in 0..600 {
         let s = small_settings(&mut random);
         let (mut t, _, sketches) = filled(&mut random, &s, 30);
-        let short = random.below(4);
-        match short {
-            0 => t.settings.truncate(random.below(391) as usize),
-            1 => t.nodes.truncate(random.below(10 * u64::from(s.nodes)) as usize),
-            2 => t.pages.truncate(random.below(u64::from((2 + s.q) * s.pages)) as usize),
-            _ => t.sketches.truncate(random.below(u64::from(s.m * s.pages)) as usize),
-        }
-        let want = if short == 0 { 5 } else { 6 };
+        // all but the working table, which these calls do not take
+        let want = cut_short(&mut random, &mut t, &s, 4);
         let before = t.clone();
         let (page, x) = (random.below(50) as u32, sketches.near(&mut random, 2));
         assert_eq!(calls::add(&mut t.lend(), page, 1, &x), want);
@@ -150,20 +145,11 @@ fn compare_outside_tries(before: &Tables, after: &Tables, s: &Settings, page: u3
         want.pages[p + page] = added.map_or(before.pages[p + page], |(class, _)| class);
         want.settings[FREE] = after.settings[FREE];
     }
-    let (nodes, links) = (10 * s.nodes as usize, 2 * p..(2 + s.q as usize) * p);
-    want.nodes[..nodes].copy_from_slice(&after.nodes[..nodes]);
+    let (nodes, links) = (..s.lengths().nodes, 2 * p..s.lengths().pages);
+    want.nodes[nodes].copy_from_slice(&after.nodes[nodes]);
     want.pages[links.clone()].copy_from_slice(&after.pages[links]);
     assert!(*after == want, "{number}: a word outside the tries, or of another page, changed");
     written
-}
-
-/// Cut to what is needed, so that a guard page stands right behind.
-fn cut(t: &mut Tables, s: &Settings) {
-    let [nodes, pages, sketches, _] = lengths(s.m, s.q, s.pages, s.nodes);
-    t.settings.truncate(SETTINGS);
-    t.nodes.truncate(nodes);
-    t.pages.truncate(pages);
-    t.sketches.truncate(sketches);
 }
 
 #[test]
@@ -173,14 +159,9 @@ fn damaged_tables() {
     let mut stopped_rows = [0u32; 2];
     for round in 0..6_000 {
         let s = small_settings(&mut random);
-        let (mut t, _, sketches) = filled(&mut random, &s, 40);
-        if round % 4 == 0 {
-            scramble(&mut random, &mut t, &s);
-        } else {
-            damage(&mut random, &mut t, &s);
-        }
+        let (mut t, sketches) = damaged(&mut random, &s, round);
         if random.below(2) == 0 {
-            cut(&mut t, &s);
+            t.cut(&s.lengths()); // a guard page stands right behind each
         }
         let mut lent = GuardedTables::new(&t);
         for _ in 0..10 {
@@ -213,8 +194,7 @@ fn damaged_tables() {
 /// root, two in the leaves 2 and 1. States stand from word 8 of the nodes on, head 0 of the root in word 16, page links from word 8 on.
 fn tiny(live: u32) -> Tables {
     let s = Settings { b: 8, m: 1, q: 1, pages: 4, nodes: 8, thresholds: vec![1; 64] };
-    let [nodes, pages, sketches, working] = lengths(s.m, s.q, s.pages, s.nodes);
-    let mut t = Tables { settings: vec![0; SETTINGS], nodes: vec![0; nodes], pages: vec![0; pages], sketches: vec![0; sketches], working: vec![0; working] };
+    let mut t = Tables::filled_with(0, &s);
     assert_eq!(calls::open(&mut t, &s), 0);
     for page in 0..live {
         assert_eq!(calls::add(&mut t.lend(), page, 1, &[5 + page as u8]), 0);

@@ -1,6 +1,6 @@
 -- A step is what the paper has at that offset.
 use Prim.Native.Nat.{ℕ, _+_, _-_, _<_, _≤_}
-use mathlib.Core.Path.{_≡_, refl, sym, ap, ap₂, _∙_}
+use mathlib.Core.Path.{_≡_, refl, sym, ap, _∙_}
 use mathlib.Core.Bool.{Bool, true, false, cond, false≢true}
 use mathlib.Core.List.{List}
 use native.Mathlib.Omega.{arith}
@@ -10,9 +10,8 @@ use lib.Seq.{drop-drop, take-all}
 use borrow.Author.Tests.{lt-ltb, le-ltb, eq-eqb, ne-eqb, ltb-true, eqb-true}
 use Rattle.meaning.specs.Rights.{join, leave, grant, revoke}
 use Rattle.meaning.specs.Journal.{opens, adds, drops, changes, searches, byteAt, wordAt, entries, operandBytes, taken, formAt, next, command, ended, refused, command-to}
-use Rattle.meaning.specs.Journal.{Command as PaperCommand}
 use Rattle.journal.specs.Steps.{changeMeant, meant, told, symbolsEnd, changeOf, commandOf, commandAt, stepAt, Stepped, reachedBy}
-use Rattle.journal.proofs.Questions.{behind-there}
+use Rattle.journal_form.proofs.Questions.{behind-there}
 use Rattle.journal.specs.declared.commands.Change.the-variants.{Join, Leave, Grant, Revoke}
 use Rattle.journal.specs.declared.commands.Command.{Command}
 use Rattle.journal.specs.declared.commands.Command.the-variants.{Open, Add, Drop, Register, Search}
@@ -176,8 +175,3 @@ unfolding commandAt
 symbols-there m bytes at c to st =
     let there = taken-there m bytes at c to st in
     omega (arith, ap (symbolsEnd m) (there .0), there .1 .0, there .1 .1, symbols-inside m (drop at bytes) at)
-
--- the reader has moved on
-pub taken-on : (m : ℕ) (bytes : List ℕ) (at : ℕ) (c : Command) (to : ℕ) → Stepped m bytes at (Taken c to) → at < to
-unfolding taken
-taken-on m bytes at c to st = omega (arith, taken-there m bytes at c to st .1 .0)

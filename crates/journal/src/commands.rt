@@ -1,10 +1,10 @@
 // The commands of a journal, read out of its bytes at an offset.
-use crate::form::form;
-use crate::form::operand_bytes;
+use journal_form::form;
+use journal_form::operand_bytes;
 ghost use mathlib.Core.Path.{_≡_};
 ghost use Prim.Native.Nat.{_+_, _≤_};
 ghost use lib.ListN.{length, take, drop};
-ghost use Rattle.meaning.specs.Journal.{byteAt, wordAt, taken, next, markAt};
+ghost use Rattle.meaning.specs.Journal.{byteAt, wordAt, taken, markAt};
 ghost use Rattle.journal.specs.Steps.{changeOf, commandAt, Stepped, reachedBy};
 
 // A change of the register, with its two numbers.

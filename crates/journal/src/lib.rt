@@ -1,6 +1,3 @@
-// The journal: the form of a command, the reader, and the lines that the program writes.
+// The commands of a journal, read out of its bytes, and the reader.
 pub mod commands;
-pub mod exports;
-pub mod form;
-pub mod lines;
 pub mod reading;

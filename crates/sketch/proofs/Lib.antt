@@ -1,4 +1,3 @@
-pub mod Answers
 pub mod BlockEnds
 pub mod Bytes
 pub mod Lists
@@ -6,4 +5,3 @@ pub mod Packed
 pub mod Places
 pub mod Runs
 pub mod Width
-pub mod Verdict

@@ -6,7 +6,7 @@ use Prim.Native.Nat.{ℕ, zero, suc, _+_, _-_, _<_, _≤_}
 use native.Mathlib.Nat.{add-zero, zero-add, add-suc, suc-add, le-of-suc-le-suc, not-suc-le-zero}
 use native.Mathlib.Numerals.{add-one}
 use native.Mathlib.Omega.{arith}
-use lib.ListN.{length, getD, set, drop, length-map, length-append, length-drop}
+use lib.ListN.{length, getD, set, drop, length-map}
 use lib.Seq.{drop-cons, set-at, append-snoc}
 use Rattle.meaning.specs.Lists.{upto, from, onto, all}
 
@@ -60,10 +60,6 @@ module _ {A : Type 0} (f : ℕ → A) where
   fill-more n table d h =
       rw (filled n table, filled (n + 1) table, map-upto-more n, add-one n, drop-cons table n d h)
       (set-at (map f (upto n)) (getD table n d) (drop (suc n) table) (f n) n (length-map-upto n) ∙ sym (append-snoc (map f (upto n)) (f n) (drop (suc n) table)))
-
-  pub length-fill : (n : ℕ) (table : List A) → n ≤ length table → length (onto (map f (upto n)) table) ≡ length table
-  length-fill n table h =
-      rw (filled n table) (omega (arith, length-append (map f (upto n)) (drop n table), length-map-upto n, length-drop n table))
 
 -- a test of every number below n, taken on from k
 module _ (p : ℕ → Bool) (k n : ℕ) where

@@ -1,4 +1,1 @@
 pub mod Settings
-pub mod Table
-pub mod Verdicts
-pub mod Calls

@@ -1,14 +1,14 @@
 -- Laws of the bits of a word. What holds at any width n is stated over n; a word of a table has the width 32.
 use mathlib.Core.Path.{_≡_, refl, sym, ap, ap₂, _∙_}
-use mathlib.Core.Bool.{Bool, true, false, cond, _&&_, _||_}
+use mathlib.Core.Bool.{Bool, true, false, cond, _||_}
 use mathlib.Core.Logic.{_≢_}
 use mathlib.Core.List.{List, [], _∷_}
-use Prim.Native.Nat.{ℕ, zero, suc, _+_, _-_, _*_, _/_, _%_, _^_, _≤_, _<_, max, min, suc-le-suc}
+use Prim.Native.Nat.{ℕ, zero, suc, _+_, _-_, _*_, _/_, _%_, _^_, _≤_, _<_, max, suc-le-suc}
 use native.Mathlib.Nat.{pow-suc, div-one, le-div-iff-mul-le, zero-div}
 use native.Mathlib.Omega.{arith}
 use lib.Dec.{eqb, eqb·zero-suc, eqb·suc-zero, eqb·suc-suc}
 use lib.Pow.{pow-pos, pow-mono, pow-lt, pow-add, shr-shr}
-use lib.Bits.{bitAnd, bitOr, and-high, and-step, or-step, and-shr, or-shr, or-add-and, or-lt}
+use lib.Bits.{bitAnd, bitOr, and-high, or-step, or-shr, or-add-and, or-lt}
 use lib.ListN.{length, getD}
 use borrow.Author.Tests.{eqb-true, eqb-false, eq-eqb, ne-eqb}
 use Rattle.words.specs.Bits.{bit, withBit, rising, bitsOf, lowest, ones}
@@ -61,15 +61,6 @@ pub bit-or : (a b k : ℕ) → bit (bitOr a b) k ≡ (bit a k || bit b k)
 bit-or a b k = bit-by max (_||_) acts (bitOr a b) a b k (omega (arith, or-shr a b k, or-step (a / 2 ^ k) (b / 2 ^ k)))
   where
     acts : (s t : Bool) → max (cond s 1 0) (cond t 1 0) ≡ cond (s || t) 1 0
-    acts true true = refl
-    acts true false = refl
-    acts false true = refl
-    acts false false = refl
-
-pub bit-and : (a b k : ℕ) → bit (bitAnd a b) k ≡ (bit a k && bit b k)
-bit-and a b k = bit-by min (_&&_) acts (bitAnd a b) a b k (omega (arith, and-shr a b k, and-step (a / 2 ^ k) (b / 2 ^ k)))
-  where
-    acts : (s t : Bool) → min (cond s 1 0) (cond t 1 0) ≡ cond (s && t) 1 0
     acts true true = refl
     acts true false = refl
     acts false true = refl
@@ -157,10 +148,6 @@ bit-with-same w k v = rw (bit-with w k v k, eq-eqb k k refl)
 pub bit-with-other : (w k : ℕ) (v : Bool) (j : ℕ) → j ≢ k → bit (withBit w k v) j ≡ bit w j
 bit-with-other w k v j h = rw (bit-with w k v j, ne-eqb j k h)
 
--- nothing changes where the bit is v already
-pub with-bit : (w k : ℕ) → withBit w k (bit w k) ≡ w
-with-bit w k = omega (arith, with-sum w k (bit w k))
-
 -- the last of two writes to a bit stands
 pub with-again : (w k : ℕ) (u v : Bool) → withBit (withBit w k u) k v ≡ withBit w k v
 with-again w k u v = same-bits (withBit (withBit w k u) k v) (withBit w k v) (λ j.
@@ -169,17 +156,6 @@ with-again w k u v = same-bits (withBit (withBit w k u) k v) (withBit w k v) (λ
     go : (t b : Bool) → cond t v (cond t u b) ≡ cond t v b
     go true b = refl
     go false b = refl
-
--- writes to two bits, in either order
-pub with-swap : (w j k : ℕ) (u v : Bool) → j ≢ k → withBit (withBit w j u) k v ≡ withBit (withBit w k v) j u
-with-swap w j k u v h = same-bits (withBit (withBit w j u) k v) (withBit (withBit w k v) j u) (λ i.
-    rw (bit-with (withBit w j u) k v i, bit-with (withBit w k v) j u i, bit-with w k v i, bit-with w j u i) (go i (eqb i k) (eqb i j) refl refl))
-  where
-    go : (i : ℕ) (s t : Bool) → eqb i k ≡ s → eqb i j ≡ t → cond s v (cond t u (bit w i)) ≡ cond t u (cond s v (bit w i))
-    go i true true e f = absurd (h (sym (eqb-true i j f) ∙ eqb-true i k e))
-    go i true false e f = refl
-    go i false true e f = refl
-    go i false false e f = refl
 
 -- ---- by the machine's operations
 
@@ -210,10 +186,6 @@ with-lt n w k false hw hk = rw (← with-and w k) (omega arith)
 pub bits-of-zero : bitsOf 0 ≡ []
 unfolding bitsOf rising bit
 bits-of-zero = refl
-
-pub ones-of-zero : ones 0 ≡ 0
-unfolding ones
-ones-of-zero = rw bits-of-zero
 
 pub ones-bits : (w : ℕ) → ones w ≡ length (bitsOf w)
 unfolding ones
@@ -249,10 +221,6 @@ module _ (w : ℕ) (some : w ≢ 0) (fits : w < 2 ^ 32) where
 
   pub bits-step : bitsOf w ≡ lowest w ∷ bitsOf (withBit w (lowest w) false)
   bits-step = bits-cut .1
-
-  pub ones-step : ones w ≡ suc (ones (withBit w (lowest w) false))
-  unfolding ones
-  ones-step = ap length bits-step
 
   pub cut-lt : withBit w (lowest w) false < w
   cut-lt = omega (arith, rw lowest-set at (with-sum w (lowest w) false), pow-pos (lowest w))

@@ -1,20 +1,18 @@
--- Laws of flags in a table of words, of runs of zeros and of counts over a run.
+-- Laws of flags in a table of words, and of runs of zeros.
 use mathlib.Core.Path.{_≡_, refl, ap, _∙_}
 use mathlib.Core.Bool.{Bool, true, false, cond}
 use mathlib.Core.Logic.{_≢_}
-use mathlib.Core.List.{List, _∷_, _++_, map, append-assoc}
-use Prim.Native.Nat.{ℕ, zero, suc, _+_, _-_, _*_, _/_, _%_, _≤_, _<_}
-use native.Mathlib.Nat.{add-assoc, add-zero, zero-add, add-suc, suc-mul}
-use native.Mathlib.Numerals.{add-one}
+use mathlib.Core.List.{List, _∷_, _++_, append-assoc}
+use Prim.Native.Nat.{ℕ, suc, _+_, _-_, _*_, _/_, _%_, _≤_, _<_}
+use native.Mathlib.Nat.{add-zero}
 use native.Mathlib.Omega.{arith}
 use native.Mathlib.Decide.{decLt, ℕ-discrete}
-use lib.ListN.{length, getD, set, take, drop, replicate, length-append, length-take, length-drop, length-set, length-replicate, length-map, getD-replicate, List·getD-append, take-append-drop, replicate-append-replicate}
-use lib.Seq.{getD-set-same, getD-set-other, take-set-le, take-set-lt, drop-set-lt, drop-set-add, getD-take, getD-drop, getD-append-add, length-take-le, drop-cons, set-at, set-out, set-getD, set-set}
+use lib.ListN.{length, getD, set, take, drop, replicate, length-append, length-take, length-drop, length-set, length-replicate, getD-replicate, List·getD-append, take-append-drop, replicate-append-replicate}
+use lib.Seq.{getD-set-same, getD-set-other, take-set-le, drop-set-lt, getD-take, getD-append-add, length-take-le, drop-cons, set-at, set-out, set-set}
 use lib.Dec.{eqb}
 use borrow.Author.Tests.{eqb-true, eqb-false}
-use Rattle.words.specs.Bits.{bit, withBit, rising, bitsOf, ones, flag, withFlag, zeroed, onesIn}
-use Rattle.words.proofs.Bits.{bit-zero, with-bit, with-again, bit-with-same, bit-with-other, ones-bits, ones-le}
-use Rattle.words.proofs.Rising.{rising-add, rising-map}
+use Rattle.words.specs.Bits.{bit, withBit, flag, withFlag, zeroed}
+use Rattle.words.proofs.Bits.{bit-zero, with-again, bit-with-same, bit-with-other}
 
 -- ---- a flag is a bit of a word
 
@@ -29,10 +27,6 @@ flag-bit ws base i k h =
 pub flag-take : (m : ℕ) (ws : List ℕ) (base n : ℕ) → base + n / 32 < m → flag (take m ws) base n ≡ flag ws base n
 unfolding flag
 flag-take m ws base n h = rw (getD-take m ws (base + n / 32) 0 h)
-
-pub flag-drop : (m : ℕ) (ws : List ℕ) (base n : ℕ) → flag (drop m ws) base n ≡ flag ws (m + base) n
-unfolding flag
-flag-drop m ws base n = rw (getD-drop m ws (base + n / 32) 0, add-assoc m base (n / 32))
 
 -- ---- a table with a flag set or cleared
 
@@ -89,21 +83,6 @@ module _ (ws : List ℕ) (base n : ℕ) (v : Bool) where
   unfolding withFlag
   drop-with m h = drop-set-lt m ws (base + n / 32) (withBit (getD ws (base + n / 32) 0) (n % 32) v) h
 
-  pub take-with-in : (m : ℕ) → base + n / 32 < m → take m (withFlag ws base n v) ≡ withFlag (take m ws) base n v
-  unfolding withFlag
-  take-with-in m h = rw (getD-take m ws (base + n / 32) 0 h) (take-set-lt m ws (base + n / 32) (withBit (getD ws (base + n / 32) 0) (n % 32) v) h)
-
-  pub drop-with-in : (m : ℕ) → drop m (withFlag ws (m + base) n v) ≡ withFlag (drop m ws) base n v
-  unfolding withFlag
-  drop-with-in m =
-      rw (getD-drop m ws (base + n / 32) 0, add-assoc m base (n / 32))
-      (drop-set-add m ws (base + n / 32) (withBit (getD ws (m + (base + n / 32)) 0) (n % 32) v))
-
--- nothing changes where the flag is v already
-pub with-flag : (ws : List ℕ) (base n : ℕ) → withFlag ws base n (flag ws base n) ≡ ws
-unfolding flag withFlag
-with-flag ws base n = rw (with-bit (getD ws (base + n / 32) 0) (n % 32)) (set-getD ws (base + n / 32) 0)
-
 -- the last of two writes to a flag stands
 pub with-flag-again : (ws : List ℕ) (base n : ℕ) (u v : Bool) → withFlag (withFlag ws base n u) base n v ≡ withFlag ws base n v
 unfolding withFlag
@@ -142,35 +121,10 @@ module _ (ws : List ℕ) (base n : ℕ) (fits : base + n ≤ length ws) where
       ∙ List·getD-append (zeros n) (drop (base + n) ws) 0 (i - base) r
       ∙ getD-replicate n (i - base) 0 0 (omega arith)
 
-  pub word-zeroed-out : (i : ℕ) → (base ≤ i → i < base + n → ⊥) → getD (zeroed ws base n) i 0 ≡ getD ws i 0
-  unfolding zeroed
-  word-zeroed-out i out = go (decLt i base)
-    where
-      t : length (take base ws) ≡ base
-      t = length-take-le base ws (omega arith)
-
-      go : Dec (i < base) → getD (zeroed ws base n) i 0 ≡ getD ws i 0
-      go (yes l) =
-          List·getD-append (take base ws) (zeros n ++ drop (base + n) ws) 0 i (omega (arith, t)) ∙ getD-take base ws i 0 l
-      go (no l) =
-          let m : ℕ = i - (base + n) in
-          let far : ¬ (i < base + n) = out (omega arith) in
-          let e : i ≡ length (take base ws) + (length (zeros n) + m) = omega (arith, t, length-replicate {A = ℕ} n 0) in
-          let f : base + n + m ≡ i = omega arith in
-          ap (λ (j : ℕ). getD (zeroed ws base n) j 0) e
-          ∙ getD-append-add (take base ws) (zeros n ++ drop (base + n) ws) (length (zeros n) + m) 0
-          ∙ getD-append-add (zeros n) (drop (base + n) ws) m 0
-          ∙ getD-drop (base + n) ws m 0
-          ∙ ap (λ (j : ℕ). getD ws j 0) f
-
   -- its flags
   pub flag-zeroed : (k : ℕ) → k < n * 32 → flag (zeroed ws base n) base k ≡ false
   unfolding flag
   flag-zeroed k h = rw (word-zeroed (base + k / 32) (omega arith) (omega arith)) (bit-zero (k % 32))
-
-  pub flag-zeroed-out : (b k : ℕ) → (base ≤ b + k / 32 → b + k / 32 < base + n → ⊥) → flag (zeroed ws base n) b k ≡ flag ws b k
-  unfolding flag
-  flag-zeroed-out b k out = rw (word-zeroed-out (b + k / 32) out)
 
 -- word by word
 pub zeroed-none : (ws : List ℕ) (base : ℕ) → zeroed ws base 0 ≡ ws
@@ -184,43 +138,3 @@ zeroed-next ws base n h =
     let e : base + (n + 1) ≡ suc (base + n) = omega arith in
     rw (e, ← replicate-append-replicate {A = ℕ} n 1 0, drop-cons ws (base + n) 0 h, ← append-assoc (take base ws) (zeros n) (getD ws (base + n) 0 ∷ drop (suc (base + n)) ws))
     (set-at (take base ws ++ zeros n) (getD ws (base + n) 0) (drop (suc (base + n)) ws) 0 (base + n) l ∙ simp append-assoc)
-
--- ---- counts
-
-pub ones-in-none : (ws : List ℕ) (base : ℕ) → onesIn ws base 0 ≡ 0
-unfolding onesIn
-ones-in-none ws base = refl
-
-pub ones-in-next : (ws : List ℕ) (base n : ℕ) → onesIn ws base (n + 1) ≡ onesIn ws base n + ones (getD ws (base + n) 0)
-unfolding onesIn
-ones-in-next ws base n = rw (add-one n)
-
-pub ones-in-le : (ws : List ℕ) (base n : ℕ) → onesIn ws base n ≤ n * 32
-unfolding onesIn
-ones-in-le ws base zero = omega arith
-ones-in-le ws base (suc n) = omega (arith, ones-in-le ws base n, ones-le (getD ws (base + n) 0))
-
--- ---- the set flags, rising
-
--- those of one word
-pub flags-word : (ws : List ℕ) (base i : ℕ) → rising (flag ws base) (i * 32) 32 ≡ map (λ k. i * 32 + k) (bitsOf (getD ws (base + i) 0))
-unfolding bitsOf
-flags-word ws base i =
-    rw (add-zero (i * 32)) at
-    (rising-map (λ k. i * 32 + k) (add-suc (i * 32)) (flag ws base) (bit (getD ws (base + i) 0)) 0 32 (λ k l h. flag-bit ws base i k h))
-
--- as many as are counted
-pub flags-count : (ws : List ℕ) (base n : ℕ) → length (rising (flag ws base) 0 (n * 32)) ≡ onesIn ws base n
-unfolding onesIn rising
-flags-count ws base zero = refl
-flags-count ws base (suc n) =
-    rw (
-      suc-mul n 32,
-      rising-add (flag ws base) 0 (n * 32) 32,
-      length-append (rising (flag ws base) 0 (n * 32)) (rising (flag ws base) (0 + n * 32) 32),
-      zero-add (n * 32),
-      flags-word ws base n,
-      length-map (bitsOf (getD ws (base + n) 0)) (λ k. n * 32 + k),
-      flags-count ws base n,
-      ones-bits (getD ws (base + n) 0),
-    )

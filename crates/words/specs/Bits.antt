@@ -46,8 +46,3 @@ withFlag ws base n v = set ws (base + n / 32) (withBit (getD ws (base + n / 32) 
 -- the n words from `base` on are 0, the rest is as it was
 unfoldable pub zeroed : List ℕ → ℕ → ℕ → List ℕ
 zeroed ws base n = take base ws ++ (replicate n 0 ++ drop (base + n) ws)
-
--- how many bits are set in the n words from `base` on
-unfoldable pub onesIn : List ℕ → ℕ → ℕ → ℕ
-onesIn ws base zero = 0
-onesIn ws base (suc n) = onesIn ws base n + ones (getD ws (base + n) 0)

@@ -3,9 +3,9 @@
 ghost use mathlib.Core.Path.{_≡_};
 ghost use mathlib.Core.Bool.{true, false};
 ghost use mathlib.Core.Logic.{_≢_};
-ghost use Prim.Native.Nat.{_+_, _*_, _/_, _^_, _≤_, _<_};
+ghost use Prim.Native.Nat.{_+_, _/_, _≤_, _<_};
 ghost use lib.ListN.{length};
-ghost use Rattle.words.specs.Bits.{withBit, lowest, flag, withFlag, zeroed, onesIn};
+ghost use Rattle.words.specs.Bits.{withBit, lowest, flag, withFlag, zeroed};
 
 // Is flag n of the words from `base` on set?
 pub fn has(ws: &[u32], base: usize, n: usize) -> bool
@@ -63,18 +63,4 @@ pub fn without_lowest(w: u32) -> u32
     ensures { λ r. ⌜ r ≡ withBit w (lowest w) false ⌝ }
 {
     w & (w - 1)
-}
-
-// How many bits are set in the n words from `base` on. A usize must hold the number of the run's bits.
-pub fn count(ws: &[u32], base: usize, n: usize) -> usize
-    requires { ⌜ (base + n ≤ length (now ws)) × (n * 32 < 2 ^ 64) ⌝ }
-    ensures { λ r. ⌜ r ≡ onesIn (now (ws .entry)) base n ⌝ }
-{
-    let mut total: usize = 0;
-    let mut i = 0;
-    while i < n {
-        total += u32::count_ones(ws[base + i]) as usize;
-        i += 1;
-    }
-    total
 }

@@ -2,15 +2,14 @@
 use vetchdawn_tests::calls;
 use vetchdawn_tests::random::Random;
 use vetchdawn_tests::stores::Sketches;
-use vetchdawn_tests::tables::{lengths, Settings, Tables, FREE, SETTINGS};
+use vetchdawn_tests::tables::{Settings, Tables, FREE};
 
 const PAGES: usize = 65_535;
 const NODES: u32 = 262_144;
 
 /// Nodes in use, or none where the capacity was too small.
 fn used(s: &Settings, sketches: &[Vec<u8>]) -> Option<usize> {
-    let [nodes, pages, rows, working] = lengths(s.m, s.q, s.pages, s.nodes);
-    let mut t = Tables { settings: vec![0; SETTINGS], nodes: vec![0; nodes], pages: vec![0; pages], sketches: vec![0; rows], working: vec![0; working] };
+    let mut t = Tables::filled_with(0, s);
     assert_eq!(calls::open(&mut t, s), 0);
     let mut lent = t.lend();
     for (p, x) in sketches.iter().enumerate() {

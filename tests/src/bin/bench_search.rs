@@ -5,7 +5,7 @@ use vetchdawn_tests::baselines::{Hashing, Pointers, Rows, Vertical};
 use vetchdawn_tests::calls;
 use vetchdawn_tests::random::Random;
 use vetchdawn_tests::stores::Sketches;
-use vetchdawn_tests::tables::{lengths, Settings, Tables, SETTINGS};
+use vetchdawn_tests::tables::{Settings, Tables};
 
 const QUERIES: usize = 1_000;
 const SCANS: usize = 100;
@@ -24,14 +24,7 @@ struct Case {
 
 fn store(c: &Case, rows: &Rows) -> Tables {
     let s = Settings { b: c.b, m: c.m as u32, q: c.q as u32, pages: c.n as u32, nodes: 262_144, thresholds: vec![c.threshold; 64] };
-    let [nodes, pages, sketches, working] = lengths(s.m, s.q, s.pages, s.nodes);
-    let mut t = Tables {
-        settings: vec![0; SETTINGS],
-        nodes: vec![0; nodes],
-        pages: vec![0; pages],
-        sketches: vec![0; sketches],
-        working: vec![0; working],
-    };
+    let mut t = Tables::filled_with(0, &s);
     assert_eq!(calls::open(&mut t, &s), 0);
     for p in 0..c.n {
         assert_eq!(calls::add(&mut t.lend(), p as u32, u32::from(rows.classes[p]), rows.row(p)), 0);

@@ -4,20 +4,13 @@ use vetchdawn_tests::baselines::Pointers;
 use vetchdawn_tests::calls;
 use vetchdawn_tests::random::Random;
 use vetchdawn_tests::stores::Sketches;
-use vetchdawn_tests::tables::{lengths, Settings, Tables, SETTINGS};
+use vetchdawn_tests::tables::{Settings, Tables};
 
 const PAGES: usize = 65_535;
 const ROUNDS: usize = 7;
 
 fn opened(s: &Settings) -> Tables {
-    let [nodes, pages, sketches, working] = lengths(s.m, s.q, s.pages, s.nodes);
-    let mut t = Tables {
-        settings: vec![0; SETTINGS],
-        nodes: vec![0; nodes],
-        pages: vec![0; pages],
-        sketches: vec![0; sketches],
-        working: vec![0; working],
-    };
+    let mut t = Tables::filled_with(0, s);
     assert_eq!(calls::open(&mut t, s), 0);
     t
 }

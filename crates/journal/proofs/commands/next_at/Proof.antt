@@ -6,7 +6,7 @@ use lib.ListN.{length, drop}
 use Rattle.meaning.specs.Journal.{operandBytes, form, byteAt, taken, formAt}
 use native.Mathlib.Omega.{arith}
 use Rattle.journal.proofs.Steps.{stepped, at-end, at-refusal, at-command, rest}
-use Rattle.journal.proofs.Questions.{behind-there}
+use Rattle.journal_form.proofs.Questions.{behind-there}
 use borrow.Author.Needs.{needs}
 use Rattle.journal.proofs.commands.next_at.Statement.{statement}
 use Rattle.journal.proofs.commands.next_at.Tie as tie

@@ -1,0 +1,14 @@
+-- The verdict on a distance from the count of some places.
+use mathlib.Core.Path.{_≡_}
+use Prim.Native.Nat.{ℕ, _<_, _≤_}
+use borrow.Author.Tests.{le-leb, lt-leb}
+use Rattle.comparison.specs.Verdicts.{verdictOf}
+use Rattle.comparison.specs.declared.Verdict.the-variants.{Within, Beyond}
+
+pub within : (d radius : ℕ) → d ≤ radius → Within ≡ verdictOf d radius
+unfolding verdictOf
+within d radius h = rw (le-leb d radius h)
+
+pub beyond : (d radius : ℕ) → radius < d → Beyond ≡ verdictOf d radius
+unfolding verdictOf
+beyond d radius h = rw (lt-leb d radius h)

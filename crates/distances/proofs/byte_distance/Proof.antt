@@ -1,0 +1,71 @@
+-- `byte_distance` is `byteDistance`: the entry of `distanceTable` at b's row and v.
+use mathlib.Core.Bool.{Bool, true, false, cond, not}
+use mathlib.Core.List.{List, [], _∷_}
+use mathlib.Core.Path.{_≡_, ap₂, _∙_}
+use Prim.Native.Nat.{ℕ, suc, _+_, _*_, _-_, _/_, _%_, _<_, _≤_}
+use native.Mathlib.Omega.{arith}
+use lib.Dec.{eqb}
+use lib.ListN.{length, getD}
+use borrow.Author.Needs.{needs}
+use Rattle.meaning.specs.Lists.{count, upto, from}
+use Rattle.meaning.specs.Sketch.{byteDistance, group, perByte}
+use Rattle.sketch.specs.Settings.{Bits}
+use Rattle.distances.specs.Table.{distanceTable}
+use Rattle.sketch.proofs.Runs.{length-from, map-upto-at}
+use Rattle.sketch.proofs.Width.{z-most}
+use Rattle.distances.proofs.byte_distance.Statement.{statement}
+use Rattle.distances.proofs.byte_distance.Tie as tie
+
+count-most : {A : Type 0} (p : A → Bool) (xs : List A) → count p xs ≤ length xs
+unfolding count
+count-most p [] = omega arith
+count-most p (x ∷ xs) = go (p x) (count-most p xs)
+  where
+    go : (t : Bool) → count p xs ≤ length xs → cond t 1 0 + count p xs ≤ suc (length xs)
+    go true h = omega arith
+    go false h = omega arith
+
+byte-distance-most : (b v : ℕ) → byteDistance b v ≤ 8
+unfolding byteDistance upto
+byte-distance-most b v =
+    omega (
+      arith,
+      count-most (λ (i : ℕ). not (eqb (group b v i) 0)) (from 0 (perByte b)),
+      length-from 0 (perByte b),
+      z-most b,
+    )
+
+entry : (b v : ℕ) → Bits b → v < 256 → getD distanceTable ((b - 1) * 256 + v) 0 ≡ byteDistance b v
+unfolding distanceTable
+entry b v h hv =
+    let k : ℕ = (b - 1) * 256 + v in
+    let row : k / 256 + 1 ≡ b = omega arith in
+    let place : k % 256 ≡ v = omega arith in
+    map-upto-at (λ (i : ℕ). byteDistance (i / 256 + 1) (i % 256)) 0 2048 k (omega arith)
+    ∙ ap₂ byteDistance row place
+
+found : (c : tie.After-result)
+    → getD (c .before .args .table .now) ((c .before .args .b - 1) * 256 + c .before .args .v) 0 ≡ byteDistance (c .before .args .b) (c .before .args .v)
+found c = rw (c .before .pre .0) (entry (c .before .args .b) (c .before .args .v) (c .before .pre .1) (omega arith))
+
+sub-result : tie.Need-sub-result
+sub-result c = search needs
+
+mul-result : tie.Need-mul-result
+mul-result c = search needs
+
+add-result : tie.Need-add-result
+add-result c = search needs
+
+element-copy-out-result : tie.Need-element-copy-out-result
+element-copy-out-result c = search needs
+
+cast-result : tie.Need-cast-result
+cast-result c = omega (arith, found c, byte-distance-most (c .before .args .b) (c .before .args .v))
+
+returns : tie.Need-returns
+returns c = found c
+
+pub byte-distance-spec : {M : Type 1} → statement M
+byte-distance-spec =
+    tie.close (tie.spec sub-result mul-result add-result element-copy-out-result cast-result returns)
