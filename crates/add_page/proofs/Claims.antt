@@ -13,9 +13,9 @@ use Rattle.meaning.specs.Trie.{Children, pagesIn, pagesAmong}
 use Rattle.layout.specs.Nodes.{headAt, chainAt}
 use Rattle.layout.specs.Pages.{nextAt}
 use Rattle.layout.proofs.Rows.{rows-apart}
-use Rattle.trie.specs.Heap.{hit, pageClaims}
-use Rattle.trie.specs.Phys.{Phys, Buckets, Chain, leafP, innerP, end, bucket, stop, link, root, tree, childrenB, childrenC, pageCells, noHeads, cells, cellsB, cellsC, Below, Sound, SoundB, SoundC}
-use Rattle.trie.proofs.Frame.{hit-other}
+use Rattle.children.specs.Heap.{hit, pageClaims}
+use Rattle.children.specs.Phys.{Phys, Buckets, Chain, leafP, innerP, end, bucket, stop, link, root, tree, childrenB, childrenC, pageCells, noHeads, cells, cellsB, cellsC, Below, Sound, SoundB, SoundC}
+use Rattle.children.proofs.Frame.{hit-other}
 use Rattle.trie_laws.specs.Sound.{Stands}
 use Rattle.trie_laws.specs.Block.{EachFrom}
 use Rattle.meaning.proofs.Lists.{count-append}

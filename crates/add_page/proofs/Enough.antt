@@ -12,11 +12,11 @@ use Rattle.meaning.specs.Forest.{blockBytes, bytesOfSketch}
 use Rattle.layout.specs.Pages.{nextAt}
 use Rattle.sketch.proofs.Places.{part-range}
 use Rattle.sketch_laws.proofs.Packing.{pack-byte}
-use Rattle.trie.specs.Heap.{Cells, Heap, _⊕_}
+use Rattle.children.specs.Heap.{Cells, Heap, _⊕_}
 use Rattle.layout.specs.Tables.{NodeTable, PageTable}
-use Rattle.trie.specs.Phys.{Phys, root, tree, first, cells, freeCells, Below, State}
-use Rattle.trie.specs.Phys.{Sound as SoundNodes}
-use Rattle.trie.proofs.Frame.{Less, less}
+use Rattle.children.specs.Phys.{Phys, root, tree, first, cells, freeCells, Below, State}
+use Rattle.children.specs.Phys.{Sound as SoundNodes}
+use Rattle.children.proofs.Frame.{Less, less}
 use Rattle.trie_laws.specs.Block.{SoundBlock, EachFrom}
 use Rattle.trie_laws.specs.Needed.{needed, sumFrom}
 use Rattle.trie_laws.proofs.Pages.{stands-any}

@@ -13,11 +13,11 @@ use Rattle.meaning.specs.Forest.{blockBytes, bytesOfSketch, eachFrom, totalNode
 use Rattle.layout.specs.Nodes.{mostNodes}
 use Rattle.layout.specs.Lengths.{pagesLength}
 use Rattle.layout.specs.Pages.{nextAt, linksAt}
-use Rattle.trie.specs.Heap.{Cells, Heap, nil, page, _⊕_}
+use Rattle.children.specs.Heap.{Cells, Heap, nil, page, _⊕_}
 use Rattle.blocks.specs.Tables.{RowTable}
-use Rattle.trie.specs.Phys.{Phys, root, tree, first, cells, freeCells, Below, State}
-use Rattle.trie.proofs.Frame.{Less, less, nodes-kept, pages-kept}
-use Rattle.trie.proofs.Spot.{root-below}
+use Rattle.children.specs.Phys.{Phys, root, tree, first, cells, freeCells, Below, State}
+use Rattle.children.proofs.Frame.{Less, less, nodes-kept, pages-kept}
+use Rattle.children.proofs.Spot.{root-below}
 use Rattle.trie_laws.specs.Block.{SoundBlock, EachFrom}
 use Rattle.trie_laws.specs.Needed.{sumFrom}
 use Rattle.trie_laws.proofs.Nodes.{insert-nodes}

@@ -20,7 +20,7 @@ use Rattle.layout.specs.Pages.{isLive, classOf, withPage}
 use Rattle.layout.proofs.Words.{live-written, class-written, live-written-other, class-written-other}
 use Rattle.layout.proofs.Written.{settings-set}
 use Rattle.layout.proofs.Tests.{and-left}
-use Rattle.trie.specs.Phys.{tree}
+use Rattle.children.specs.Phys.{tree}
 use Rattle.trie_laws.specs.Sound.{withPage as withLive}
 use Rattle.trie_laws.specs.Block.{SoundBlock, EachFrom}
 use Rattle.trie_laws.proofs.Lists.{holds, fails, truth}

@@ -12,9 +12,9 @@ use Rattle.layout.specs.Lengths.{nodesLength, sketchesLength}
 use Rattle.layout.specs.Header.{headerOf, bare}
 use Rattle.layout.specs.Pages.{withRow, withPage, linksAt}
 use Rattle.layout.proofs.Rows.{row-inside, length-with-row}
-use Rattle.trie.specs.Heap.{Heap, _⊕_}
+use Rattle.children.specs.Heap.{Heap, _⊕_}
 use Rattle.blocks.specs.Tables.{RowTable}
-use Rattle.trie.specs.Phys.{Phys, tree, first, freeCells, Below}
+use Rattle.children.specs.Phys.{Phys, tree, first, freeCells, Below}
 use Rattle.trie_laws.specs.Sound.{Stands}
 use Rattle.trie_laws.specs.Block.{SoundBlock, EachFrom}
 use Rattle.trie_laws.specs.Needed.{sumFrom}

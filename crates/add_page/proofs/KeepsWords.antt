@@ -8,9 +8,9 @@ use mathlib.Core.List.{List, [], _∷_}
 use lib.ListN.{length, getD}
 use Rattle.layout.specs.Pages.{nextAt, withPage}
 use Rattle.layout.proofs.Words.{behind-written, link-behind}
-use Rattle.trie.specs.Heap.{Cells, Heap, Holds, nodeClaims, pageClaims, nil, node, page, _⊕_}
-use Rattle.trie.specs.Phys.{Phys, freeCells}
-use Rattle.trie.proofs.Frame.{hit-other, hit-same}
+use Rattle.children.specs.Heap.{Cells, Heap, Holds, nodeClaims, pageClaims, nil, node, page, _⊕_}
+use Rattle.children.specs.Phys.{Phys, freeCells}
+use Rattle.children.proofs.Frame.{hit-other, hit-same}
 use Rattle.promises.specs.Sound.{triesCells, Rooted}
 use Rattle.add_page.proofs.Claims.{trie-none}
 use Rattle.add_page.proofs.Grows.{spareCells}

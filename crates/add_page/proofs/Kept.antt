@@ -19,15 +19,16 @@ use Rattle.blocks.specs.declared.Level.{Level}
 use Rattle.blocks.specs.declared.Rows.{Rows}
 use Rattle.trie.specs.declared.leaf.Got.the-variants.{Node, Full}
 use Rattle.trie.specs.declared.leaf.Got.the-variants as got
-use Rattle.trie.specs.declared.place.Place.{Place}
-use Rattle.trie.specs.declared.place.Place.the-variants.{Found, Missing, Broken}
+use Rattle.children.specs.declared.place.Place.{Place}
+use Rattle.children.specs.declared.place.Place.the-variants.{Found, Missing, Broken}
 use Rattle.trie.specs.declared.span.Span.{Span}
 use Rattle.trie.specs.declared.span.Span.the-variants.{Enough, Short}
 use Rattle.trie.specs.declared.span.Span.the-variants as spans
 use Rattle.blocks.specs.Tables.{RowTable}
 use Rattle.blocks.specs.Packed.{pageByte, levelAt}
-use Rattle.trie.specs.Model.{Inside, Made, made, findPlace, linkLeaf, nodeIn, freshLeaf, madeAt, childLeaf}
-use Rattle.trie.proofs.Places.{find-inside}
+use Rattle.children.specs.Places.{Inside, findPlace}
+use Rattle.trie.specs.Model.{Made, made, linkLeaf, nodeIn, freshLeaf, madeAt, childLeaf}
+use Rattle.children.proofs.Places.{find-inside}
 use Rattle.blocks.proofs.Bytes.{level-table, byte-small}
 use Rattle.trie.specs.declared.path.Reach.{Reach}
 use Rattle.trie.specs.declared.path.Reach.the-variants.{Leaf, Gap}

@@ -13,8 +13,8 @@ use Rattle.meaning.specs.Ledger.{add}
 use Rattle.meaning.specs.Forest.{forestAfter, totalNodes}
 use Rattle.layout.specs.Settings.{freeAt}
 use Rattle.trie.specs.declared.span.Span.the-variants.{Enough, Short}
-use Rattle.trie.specs.Heap.{Cells, nil, _⊕_}
-use Rattle.trie.proofs.Frame.{Less, less}
+use Rattle.children.specs.Heap.{Cells, nil, _⊕_}
+use Rattle.children.proofs.Frame.{Less, less}
 use Rattle.trie.proofs.Spans.{span-right, frees-linked}
 use Rattle.trie_laws.specs.Block.{SoundBlock, EachFrom}
 use Rattle.trie_laws.specs.Needed.{sumFrom}

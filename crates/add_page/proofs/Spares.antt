@@ -8,9 +8,9 @@ use mathlib.Core.Logic.{by-cases, _⊎_, inl, inr, ⊎-elim}
 use mathlib.Core.List.{List, [], _∷_, map}
 use lib.ListN.{getD}
 use Rattle.layout.specs.Pages.{nextAt}
-use Rattle.trie.specs.Heap.{Heap, Holds, nodeClaims, pageClaims, nil, _⊕_}
-use Rattle.trie.specs.Phys.{Phys, tree, freeCells}
-use Rattle.trie.proofs.Frame.{hit-other, hit-same}
+use Rattle.children.specs.Heap.{Heap, Holds, nodeClaims, pageClaims, nil, _⊕_}
+use Rattle.children.specs.Phys.{Phys, tree, freeCells}
+use Rattle.children.proofs.Frame.{hit-other, hit-same}
 use Rattle.trie_laws.specs.Sound.{Stands}
 use Rattle.trie_laws.specs.Block.{EachFrom}
 use Rattle.promises.specs.Sound.{triesCells, Rooted}

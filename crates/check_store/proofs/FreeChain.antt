@@ -9,8 +9,8 @@ use lib.Dec.{ltb, eqb}
 use lib.ListN.{length, getD}
 use Rattle.meaning.specs.Lists.{count}
 use Rattle.layout.specs.Nodes.{stateAt, freeState}
-use Rattle.trie.specs.Heap.{Holds}
-use Rattle.trie.specs.Phys.{first, freeCells, Below}
+use Rattle.children.specs.Heap.{Holds}
+use Rattle.children.specs.Phys.{first, freeCells, Below}
 use Rattle.meaning.proofs.Lists.{and-first, and-second}
 use Rattle.node_check.specs.declared.leaf.Left.the-variants.{Some, Failed}
 use Rattle.node_check.specs.Leaf.{bare}

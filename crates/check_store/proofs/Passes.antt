@@ -15,7 +15,7 @@ use Rattle.meaning.specs.Ledger.{Settings}
 use Rattle.meaning.specs.Forest.{totalNodes}
 use Rattle.words.specs.Bits.{flag, zeroed}
 use Rattle.words.proofs.Flags.{length-zeroed, flag-zeroed}
-use Rattle.trie.specs.Phys.{Phys, tree}
+use Rattle.children.specs.Phys.{Phys, tree}
 use Rattle.trie_check_laws.specs.Found.{one}
 use Rattle.trie_check_laws.proofs.RightTests.{passed as taken}
 use Rattle.check_store.specs.Lent.{Lent}

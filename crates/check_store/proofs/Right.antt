@@ -15,8 +15,8 @@ use Rattle.meaning.specs.Ledger.{Settings}
 use Rattle.meaning.specs.Forest.{blockBytes}
 use Rattle.layout.specs.Settings.{freeAt}
 use Rattle.layout.specs.Pages.{isLive}
-use Rattle.trie.specs.Heap.{Holds}
-use Rattle.trie.specs.Phys.{Phys, tree}
+use Rattle.children.specs.Heap.{Holds}
+use Rattle.children.specs.Phys.{Phys, tree}
 use Rattle.trie_laws.specs.Sound.{Stands}
 use Rattle.trie_laws.specs.Block.{SoundBlock, EachFrom}
 use Rattle.meaning.proofs.Lists.{and-first, and-second}

@@ -15,9 +15,9 @@ use Rattle.meaning.specs.Forest.{blockBytes, totalNodes}
 use Rattle.words.specs.Bits.{flag}
 use Rattle.layout.specs.Nodes.{mostNodes}
 use Rattle.layout.specs.Pages.{nextAt, isLive}
-use Rattle.trie.specs.Heap.{Holds}
-use Rattle.trie.specs.Phys.{Phys, root, tree, cells}
-use Rattle.trie.specs.Phys.{Sound as SoundNodes}
+use Rattle.children.specs.Heap.{Holds}
+use Rattle.children.specs.Phys.{Phys, root, tree, cells}
+use Rattle.children.specs.Phys.{Sound as SoundNodes}
 use Rattle.meaning.specs.Trie.{pagesIn}
 use Rattle.trie_laws.specs.Walk.{soundWalk}
 use Rattle.blocks.specs.RowBytes.{rowBytes, rowsOf}

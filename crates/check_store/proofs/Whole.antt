@@ -19,8 +19,8 @@ use Rattle.layout.specs.Nodes.{stateAt}
 use Rattle.layout.specs.Settings.{freeAt}
 use Rattle.layout.specs.Pages.{isLive}
 use Rattle.sketch_laws.proofs.Lists.{count-same}
-use Rattle.trie.specs.Heap.{Holds}
-use Rattle.trie.specs.Phys.{Phys, tree}
+use Rattle.children.specs.Heap.{Holds}
+use Rattle.children.specs.Phys.{Phys, tree}
 use Rattle.trie_laws.specs.Block.{SoundBlock, EachFrom}
 use Rattle.meaning.proofs.Lists.{and-intro, and-first, and-second}
 use Rattle.trie_laws.proofs.Pages.{stands-any, stands-all, stands-length}

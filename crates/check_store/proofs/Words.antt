@@ -11,9 +11,9 @@ use lib.ListN.{getD}
 use Rattle.meaning.specs.Lists.{count}
 use Rattle.layout.specs.Nodes.{stateAt}
 use Rattle.layout.specs.Pages.{nextAt}
-use Rattle.trie.specs.Heap.{Holds, nodeClaims, pageClaims, _⊕_}
-use Rattle.trie.specs.Phys.{Phys, tree, cells, freeCells, Below}
-use Rattle.trie.specs.Phys.{Sound as SoundNodes}
+use Rattle.children.specs.Heap.{Holds, nodeClaims, pageClaims, _⊕_}
+use Rattle.children.specs.Phys.{Phys, tree, cells, freeCells, Below}
+use Rattle.children.specs.Phys.{Sound as SoundNodes}
 use Rattle.meaning.specs.Trie.{pagesIn}
 use Rattle.trie_check_laws.specs.Uses.{uses}
 use Rattle.trie_check_laws.proofs.Claims.{owner, trie-words, state-claims, free-words, uses-beyond, used-state, free-zero}

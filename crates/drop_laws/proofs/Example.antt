@@ -19,9 +19,9 @@ use Rattle.meaning.specs.Questions.{inLimits, asked}
 use Rattle.layout.specs.Settings.{settingsOf, header, showsOpening}
 use Rattle.layout.specs.Lengths.{nodesLength, pagesLength, sketchesLength}
 use Rattle.layout.specs.Pages.{isLive, classOf, rowOf}
-use Rattle.trie.specs.Heap.{Cells, nil, _⊕_}
-use Rattle.trie.specs.Model.{placeFrom, findPlace}
-use Rattle.trie.specs.Phys.{Phys, Buckets, noHeads, leafP, innerP, end, bucket, stop, link}
+use Rattle.children.specs.Heap.{Cells, nil, _⊕_}
+use Rattle.children.specs.Places.{placeFrom, findPlace}
+use Rattle.children.specs.Phys.{Phys, Buckets, noHeads, leafP, innerP, end, bucket, stop, link}
 use Rattle.trie_laws.specs.Sound.{filled, soundTrie, Stands}
 use Rattle.trie.specs.Descend.{descend, descendTo}
 use Rattle.blocks.specs.RowBytes.{reduced, rowBytes}

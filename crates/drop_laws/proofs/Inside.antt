@@ -14,7 +14,7 @@ use Rattle.layout.specs.Nodes.{stateAt, withLink, freeState, leafState, nodeWor
 use Rattle.layout.specs.Pages.{nextAt, linksAt}
 use Rattle.layout.proofs.Rows.{rows-apart}
 use Rattle.layout.proofs.Words.{link-behind}
-use Rattle.trie.specs.Model.{linkAt}
+use Rattle.children.specs.Places.{linkAt}
 use Rattle.trie.specs.declared.path.Reach.{Reach}
 use Rattle.trie.specs.declared.path.Reach.the-variants.{Leaf, Gap}
 use Rattle.trie.specs.declared.path.Reach.the-variants as reach

@@ -11,9 +11,9 @@ use Rattle.meaning.specs.Trie.{Tree, byteAt, remove, nodes}
 use Rattle.meaning.specs.Ledger.{Settings}
 use Rattle.meaning.specs.Forest.{blockBytes, eachFrom, totalNodes}
 use Rattle.layout.specs.Pages.{nextAt}
-use Rattle.trie.specs.Heap.{Cells, Heap, page, _⊕_}
-use Rattle.trie.specs.Phys.{Phys, root, tree, first, cells, freeCells, Below, State}
-use Rattle.trie.proofs.Frame.{Less, less, nodes-kept, pages-kept}
+use Rattle.children.specs.Heap.{Cells, Heap, page, _⊕_}
+use Rattle.children.specs.Phys.{Phys, root, tree, first, cells, freeCells, Below, State}
+use Rattle.children.proofs.Frame.{Less, less, nodes-kept, pages-kept}
 use Rattle.trie_laws.specs.Block.{SoundBlock, EachFrom}
 use Rattle.trie_laws.proofs.Nodes.{remove-nodes}
 use Rattle.trie_laws.proofs.Pages.{stands-any}

@@ -18,9 +18,9 @@ use Rattle.layout.specs.Pages.{nextAt, isLive, rowOf, withoutPage, linksAt}
 use Rattle.layout.proofs.Tests.{and-left}
 use Rattle.layout.proofs.Words.{live-struck, live-struck-other, class-struck, live-kept, class-kept, link-behind}
 use Rattle.layout.proofs.Written.{settings-set}
-use Rattle.trie.specs.Heap.{Cells, Heap, hit, pageClaims, nil, page, _⊕_}
-use Rattle.trie.specs.Phys.{Phys, tree, freeCells}
-use Rattle.trie.proofs.Frame.{less, hit-other, hit-same, page-write}
+use Rattle.children.specs.Heap.{Cells, Heap, hit, pageClaims, nil, page, _⊕_}
+use Rattle.children.specs.Phys.{Phys, tree, freeCells}
+use Rattle.children.proofs.Frame.{less, hit-other, hit-same, page-write}
 use Rattle.trie_laws.specs.Block.{SoundBlock, EachFrom}
 use Rattle.trie_laws.specs.Sound.{withoutPage as without}
 use Rattle.trie_laws.proofs.Block.{remove-forest, remove-same}

@@ -9,8 +9,8 @@ use mathlib.Core.Bool.{Bool, true, false, cond}
 use lib.Dec.{eqb}
 use borrow.Author.Tests.{eqb-true, ne-eqb}
 use Rattle.meaning.specs.Lists.{from}
-use Rattle.trie.specs.Heap.{hit, nodeClaims, pageClaims}
-use Rattle.trie.specs.Phys.{Phys, leafP, noHeads, freeCells}
+use Rattle.children.specs.Heap.{hit, nodeClaims, pageClaims}
+use Rattle.children.specs.Phys.{Phys, leafP, noHeads, freeCells}
 use Rattle.layout.specs.Nodes.{headAt}
 use Rattle.promises.specs.Sound.{triesCells}
 

@@ -17,8 +17,8 @@ use Rattle.layout.specs.Nodes.{nodeWords, headAt, stateAt, freeState}
 use Rattle.layout.specs.Pages.{isLive}
 use Rattle.layout.specs.Lengths.{nodesLength}
 use Rattle.layout.proofs.Limits.{bounds}
-use Rattle.trie.specs.Heap.{Holds}
-use Rattle.trie.specs.Phys.{tree, first, noHeads, freeCells, Below}
+use Rattle.children.specs.Heap.{Holds}
+use Rattle.children.specs.Phys.{tree, first, noHeads, freeCells, Below}
 use Rattle.trie_laws.proofs.Block.{fresh-forest}
 use Rattle.trie_laws.proofs.Forest.{total-fresh}
 use Rattle.promises.specs.Tables.{Tables, given}

@@ -6,3 +6,4 @@ pub mod Pages
 pub mod Working
 pub mod Lengths
 pub mod Tables
+pub mod States

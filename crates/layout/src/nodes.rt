@@ -1,7 +1,11 @@
-// The words of the node table: a link with a byte above it, and where the words of a node stand.
+// The words of the node table: a link with a byte above it, where the words of a node stand, and what a node is by its state.
 ghost use mathlib.Core.Path.{_≡_};
 ghost use Prim.Native.Nat.{_≤_, _<_};
-ghost use Rattle.layout.specs.Nodes.{mostNodes, linkBase, linkOf, byteOf, chainWord, withLink, stateAt, headAt};
+ghost use lib.ListN.{set};
+ghost use Rattle.layout.specs.Nodes.{mostNodes, linkBase, linkOf, byteOf, chainWord, withLink, stateAt, headAt, freeState, innerState, leafState};
+ghost use Rattle.layout.specs.Pages.{mostPages};
+ghost use Rattle.layout.specs.Tables.{NodeTable};
+ghost use Rattle.layout.specs.States.{kindOf, firstOf};
 
 // The words of a node.
 pub const WORDS: usize = 10;
@@ -11,6 +15,13 @@ pub const STEPS: usize = 10;
 
 // A chain word is a link and, times this, a byte.
 pub const LINKS: u32 = 524288;
+
+// The states of a node: free, inner, and that of a leaf without pages. A leaf's is above it by the link to its first page.
+const FREE: u32 = 0;
+
+const INNER: u32 = 1;
+
+const LEAF: u32 = 2;
 
 // The link in a chain word or a head.
 pub fn link_of(w: u32) -> u32
@@ -55,4 +66,67 @@ pub fn head_at(cap: usize, x: usize, g: usize) -> usize
     ensures { λ r. ⌜ r ≡ headAt cap x g ⌝ }
 {
     2 * cap + 8 * x + g
+}
+
+pub enum Kind {
+    Free,
+    Inner,
+    // by the link to its first page
+    Leaf(u32),
+}
+
+// What node x is.
+pub fn kind_of(nodes: &[u32], cap: usize, x: usize) -> Kind
+    requires { ⌜ NodeTable cap (now nodes) ⌝ }
+    requires { ⌜ x < cap ⌝ }
+    ensures { λ r. ⌜ r ≡ kindOf (now (nodes .entry)) cap x ⌝ }
+{
+    let state = nodes[state_at(cap, x)];
+    if state == FREE {
+        return Kind::Free;
+    }
+    if state == INNER {
+        return Kind::Inner;
+    }
+    Kind::Leaf(state - LEAF)
+}
+
+// The link to the first page of leaf x; 0 of another node.
+pub fn first_page(nodes: &[u32], cap: usize, x: usize) -> u32
+    requires { ⌜ NodeTable cap (now nodes) ⌝ }
+    requires { ⌜ x < cap ⌝ }
+    ensures { λ r. ⌜ r ≡ firstOf (kindOf (now (nodes .entry)) cap x) ⌝ }
+{
+    let kind = kind_of(nodes, cap, x);
+    match kind {
+        Kind::Free => 0,
+        Kind::Inner => 0,
+        Kind::Leaf(first) => first,
+    }
+}
+
+pub fn set_free(nodes: &mut [u32], cap: usize, x: usize)
+    requires { ⌜ NodeTable cap (now nodes) ⌝ }
+    requires { ⌜ x < cap ⌝ }
+    ensures { λ r. ⌜ now (nodes .exit) ≡ set (now (nodes .entry)) (stateAt cap x) freeState ⌝ }
+{
+    nodes[state_at(cap, x)] = FREE;
+}
+
+pub fn set_inner(nodes: &mut [u32], cap: usize, x: usize)
+    requires { ⌜ NodeTable cap (now nodes) ⌝ }
+    requires { ⌜ x < cap ⌝ }
+    ensures { λ r. ⌜ now (nodes .exit) ≡ set (now (nodes .entry)) (stateAt cap x) innerState ⌝ }
+{
+    nodes[state_at(cap, x)] = INNER;
+}
+
+// Node x is a leaf, its first page at a link.
+pub fn set_leaf(nodes: &mut [u32], cap: usize, x: usize, first: u32)
+    requires { ⌜ NodeTable cap (now nodes) ⌝ }
+    requires { ⌜ x < cap ⌝ }
+    requires { ⌜ first ≤ mostPages ⌝ }
+    ensures { λ r. ⌜ now (nodes .exit) ≡ set (now (nodes .entry)) (stateAt cap x) (leafState first) ⌝ }
+{
+    nodes[state_at(cap, x)] = LEAF + first;
 }

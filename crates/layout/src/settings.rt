@@ -1,6 +1,6 @@
 // The settings table: question 4, the opening that the table shows, its thresholds, the free link, and writing an opening.
 ghost use mathlib.Core.Path.{_≡_};
-ghost use Prim.Native.Nat.{_≤_, _<_};
+ghost use Prim.Native.Nat.{_≤_};
 ghost use lib.Dec.{ltb};
 ghost use lib.ListN.{length, getD, set};
 ghost use lib.Seq.{paste};
@@ -92,15 +92,6 @@ pub fn opening(settings: &[u32]) -> Opening
         return Opening::Refused(6);
     }
     Opening::Shown(header(settings))
-}
-
-// The threshold of level k.
-pub fn threshold(settings: &[u32], k: usize) -> usize
-    requires { ⌜ settingsLength ≤ length (now settings) ⌝ }
-    requires { ⌜ k < 64 ⌝ }
-    ensures { λ r. ⌜ r ≡ getD (settingsOf (now (settings .entry)) .thresholds) k 0 ⌝ }
-{
-    settings[THRESHOLDS + k] as usize
 }
 
 // The thresholds of all levels: a part of the table itself.

@@ -11,9 +11,9 @@ use Rattle.meaning.specs.Trie.{Tree}
 use Rattle.meaning.specs.Forest.{bytesOfSketch, totalNodes}
 use Rattle.layout.specs.Settings.{freeAt}
 use Rattle.layout.specs.Pages.{nextAt, isLive}
-use Rattle.trie.specs.Heap.{Cells, nil, _⊕_, Heap}
-use Rattle.trie.specs.Phys.{Phys, root, tree, first, cells, freeCells, Below}
-use Rattle.trie.specs.Phys.{Sound as SoundNodes}
+use Rattle.children.specs.Heap.{Cells, nil, _⊕_, Heap}
+use Rattle.children.specs.Phys.{Phys, root, tree, first, cells, freeCells, Below}
+use Rattle.children.specs.Phys.{Sound as SoundNodes}
 use Rattle.trie_laws.specs.Block.{SoundBlock, EachFrom}
 use Rattle.promises.specs.Tables.{Tables, given, pageClass, pageRow}
 

@@ -21,7 +21,7 @@ use Rattle.layout.proofs.Tests.{and-left, and-right, and-both}
 use Rattle.rights.specs.Register.{opens}
 use Rattle.sketch_laws.proofs.Walk.{met-somewhere}
 use Rattle.meaning.specs.Trie.{pagesIn as pagesUpon}
-use Rattle.trie.specs.Phys.{tree}
+use Rattle.children.specs.Phys.{tree}
 use Rattle.trie_laws.specs.Block.{SoundBlock}
 use Rattle.trie_laws.proofs.Block.{each-get}
 use Rattle.trie_laws.proofs.Pages.{stands-any}

@@ -19,9 +19,9 @@ use Rattle.layout.specs.Pages.{nextAt}
 use Rattle.layout.specs.Working.{mapWords}
 use Rattle.sketch_laws.proofs.Packing.{pack-lt}
 use Rattle.sketch_laws.proofs.Blocks.{block-length, block-range, block-packed}
-use Rattle.trie.specs.Heap.{Holds}
-use Rattle.trie.specs.Phys.{Phys, root, tree, cells}
-use Rattle.trie.specs.Phys.{Sound as SoundNodes}
+use Rattle.children.specs.Heap.{Holds}
+use Rattle.children.specs.Phys.{Phys, root, tree, cells}
+use Rattle.children.specs.Phys.{Sound as SoundNodes}
 use Rattle.trie_laws.specs.Block.{SoundBlock, EachFrom}
 use Rattle.meaning.proofs.Lists.{and-intro, all-append}
 use Rattle.trie_laws.proofs.Lists.{count-upto}

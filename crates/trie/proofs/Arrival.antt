@@ -9,11 +9,11 @@ use mathlib.Core.List.{List}
 use lib.ListN.{length, getD}
 use Rattle.meaning.specs.Trie.{Tree, inner, Children, byteAt}
 use Rattle.layout.specs.Nodes.{mostNodes}
-use Rattle.trie.specs.declared.place.Place.the-variants.{Found, Missing}
-use Rattle.trie.specs.Heap.{Cells, Holds, node}
-use Rattle.trie.specs.Model.{findPlace}
-use Rattle.trie.specs.Phys.{Phys, Buckets, Chain, root, tree, childrenB, cells, State, leafP, innerP, link}
-use Rattle.trie.proofs.Spot.{starts, begins, headC, answer, SpotB, spot}
+use Rattle.children.specs.declared.place.Place.the-variants.{Found, Missing}
+use Rattle.children.specs.Heap.{Cells, Holds, node}
+use Rattle.children.specs.Places.{findPlace}
+use Rattle.children.specs.Phys.{Phys, Buckets, Chain, root, tree, childrenB, cells, State, leafP, innerP, link}
+use Rattle.children.proofs.Spot.{starts, begins, headC, answer, SpotB, spot}
 use Rattle.trie_laws.specs.Path.{hasBelow, hasPath, subtree, pathOf, depth}
 use Rattle.trie_laws.specs.Sound.{soundTrie}
 use Rattle.trie_laws.proofs.Sound.{inner-parts}
@@ -23,7 +23,7 @@ use Rattle.trie.specs.declared.path.Reach.the-variants.{Leaf, Gap, Broke
 use Rattle.trie.specs.Descend.{descend, descendTo}
 use Rattle.trie.proofs.Descends.{desc-leaf, desc-found, desc-gap}
 use Rattle.trie.proofs.Paths.{path-depth}
-use Rattle.trie.proofs.Spots.{spot-none}
+use Rattle.children.proofs.Spots.{spot-none}
 use Rattle.trie.proofs.Way.{Way, start, onward}
 
 -- Y are page p's bytes, and the trie is not deeper than they are long

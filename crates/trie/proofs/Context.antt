@@ -5,11 +5,11 @@ use mathlib.Core.List.{List}
 use native.Mathlib.Omega.{arith}
 use Rattle.meaning.specs.Trie.{Tree, inner, Children, child, nodes}
 use Rattle.layout.specs.Nodes.{chainWord, stateAt, innerState, mostNodes}
-use Rattle.trie.specs.Heap.{Cells, nil, node, _⊕_}
-use Rattle.trie.specs.Phys.{Phys, Buckets, Chain, root, tree, childrenB, childrenC, freeCells, cells, cellsC, Sound, SoundC, State, innerP, link}
-use Rattle.trie.proofs.Frame.{Less, less, less-right, Same}
+use Rattle.children.specs.Heap.{Cells, nil, node, _⊕_}
+use Rattle.children.specs.Phys.{Phys, Buckets, Chain, root, tree, childrenB, childrenC, freeCells, cells, cellsC, Sound, SoundC, State, innerP, link}
+use Rattle.children.proofs.Frame.{Less, less, less-right, Same}
 use Rattle.trie.proofs.Abstract.{Kept, Walks}
-use Rattle.trie.proofs.Spot.{SpotB}
+use Rattle.children.proofs.Spot.{SpotB}
 
 module _ (cap pcap base : ℕ) (small : cap ≤ mostNodes) (byte : ℕ → ℕ) where
   -- from level k, where the root is node top, to level j, where the hole is for a subtree with the root hole

@@ -6,9 +6,9 @@ use native.Mathlib.Omega.{arith}
 use borrow.Author.Tests.{le-ltb, lt-ltb, eq-eqb, ne-eqb}
 use lib.ListN.{length, getD}
 use Rattle.layout.specs.Nodes.{stateAt}
-use Rattle.trie.specs.declared.place.Place.{Place}
-use Rattle.trie.specs.declared.place.Place.the-variants.{Found, Missing, Broken as NoPlace}
-use Rattle.trie.specs.Model.{findPlace}
+use Rattle.children.specs.declared.place.Place.{Place}
+use Rattle.children.specs.declared.place.Place.the-variants.{Found, Missing, Broken as NoPlace}
+use Rattle.children.specs.Places.{findPlace}
 use Rattle.trie.specs.declared.path.Reach.{Reach}
 use Rattle.trie.specs.declared.path.Reach.the-variants.{Leaf, Gap, Broken}
 use Rattle.trie.specs.Descend.{onward, atNode, descend}

@@ -4,57 +4,20 @@ use mathlib.Core.Path.{_≡_, refl, sym, subst}
 use mathlib.Core.List.{List, [], _∷_}
 use mathlib.Core.Bool.{false}
 use native.Mathlib.Omega.{arith}
-use borrow.Author.Tests.{eqb-false}
 use lib.ListN.{getD, length-set}
-use Rattle.meaning.specs.Trie.{Children, nodes}
+use Rattle.meaning.specs.Trie.{nodes}
 use Rattle.layout.specs.Nodes.{chainWord, withLink, stateAt, freeState, innerState, leafState, mostNodes}
 use Rattle.trie.specs.declared.leaf.Got.the-variants.{Node}
-use Rattle.trie.specs.Heap.{Cells, Holds, Heap, nil, node, _⊕_}
-use Rattle.trie.specs.Model.{linkAt, linkLeaf, freshLeaf, made}
-use Rattle.trie.specs.Phys.{Phys, Buckets, Chain, root, childrenC, first, noHeads, freeCells, cells, cellsC, SoundC, State, leafP, innerP, stop, link}
-use Rattle.trie.proofs.Frame.{Less, less, Same, node-write3, nodes-kept}
-use Rattle.trie.proofs.Abstract.{Above}
+use Rattle.children.specs.Heap.{Cells, Holds, Heap, node, _⊕_}
+use Rattle.children.specs.Places.{linkAt}
+use Rattle.trie.specs.Model.{linkLeaf, freshLeaf, made}
+use Rattle.children.specs.Phys.{Phys, Buckets, Chain, first, noHeads, freeCells, cells, cellsC, State, leafP, innerP, link}
+use Rattle.children.proofs.Frame.{Less, less, node-write3, nodes-kept}
 use Rattle.trie.proofs.Steps.{fresh-made}
-use Rattle.trie.proofs.Spot.{starts, root-below, SpotB}
-
--- a chain's first word, and what it links to
-abbrev pub linkC : Chain → ℕ
-linkC stop = 0
-linkC (link b t ch) = root t + 1
-
-module _ (cap base : ℕ) where
-  abbrev pub afterC : Chain → Cells
-  afterC stop = nil
-  afterC (link b t ch) = cells cap base t ⊕ cellsC cap base ch (root t) b
-
-  pub chain-head : (ch : Chain) (s y : ℕ) → Same (cellsC cap base ch s y) (node s (chainWord y (linkC ch)) ⊕ afterC ch)
-  chain-head stop s y =
-      record {
-        to = record { holds = λ N P h. (h, tt); nodes = λ a. omega arith; pages = λ a. omega arith };
-        back = record { holds = λ N P h. h .0; nodes = λ a. omega arith; pages = λ a. omega arith };
-      }
-  chain-head (link b t ch) s y =
-      record {
-        to = record { holds = λ N P h. h; nodes = λ a. omega arith; pages = λ a. omega arith };
-        back = record { holds = λ N P h. h; nodes = λ a. omega arith; pages = λ a. omega arith };
-      }
+use Rattle.children.proofs.Chains.{linkC, afterC, chain-head, link-below, past}
+use Rattle.children.proofs.Spot.{starts, SpotB}
 
 module _ (cap pcap base : ℕ) (small : cap ≤ mostNodes) where
-  pub link-below : (ch : Chain) (lo hi : ℕ) → SoundC cap pcap ch lo hi → linkC ch ≤ cap
-  link-below stop lo hi g = omega arith
-  link-below (link b t ch) lo hi g = omega (arith, root-below cap pcap base small t (g .2))
-
-  pub past : (ch : Chain) (b hi : ℕ) → starts ch b ≡ false → SoundC cap pcap ch b hi → SoundC cap pcap ch (suc b) hi
-  past stop b hi e g = tt
-  past (link c t ch) b hi e g = (more (eqb-false c b e) (g .0), g .1, g .2, g .3)
-    where
-      more : (c ≡ b → ⊥) → b ≤ c → suc b ≤ c
-      more z l = omega arith
-
-  pub tail-above : (ch : Chain) (b hi : ℕ) (later : Children) → starts ch b ≡ false → SoundC cap pcap ch b hi → Above b later → Above b (childrenC ch later)
-  tail-above stop b hi later e g l = l
-  tail-above (link c t ch) b hi later e g l = past (link c t ch) b hi e g .0
-
   module _ {N P : List ℕ} {free n f b : ℕ} {bs : Buckets} {fs : List ℕ} {G : Cells}
       (st : State cap pcap base N P free (innerP n bs) (f ∷ fs) G) (s : SpotB cap pcap base small bs n 0 b) (lb : b < 256) (gap : starts (s .tail) b ≡ false) where
     abbrev pub withLeaf : Phys
@@ -99,14 +62,14 @@ module _ (cap pcap base : ℕ) (small : cap ≤ mostNodes) where
     fresh-state =
         let h : Heap N P (node f (first fs) ⊕ node (stateAt cap f) freeState ⊕ node (s .slot) (chainWord (s .byte) (linkC (s .tail))) ⊕ R) =
         less apart (subst (λ (y : Buckets). Heap N P (cells cap base (innerP n y) ⊕ freeCells cap (f ∷ fs) ⊕ G)) (sym (s .whole)) (st .heap)) in
-        let l : linkC (s .tail) ≤ cap = link-below (s .tail) b (32 * (b / 32) + 32) (s .from) in
+        let l : linkC (s .tail) ≤ cap = link-below cap pcap base small (s .tail) b (32 * (b / 32) + 32) (s .from) in
         let w : getD N (s .slot) 0 ≡ chainWord (s .byte) (linkC (s .tail)) = h .holds .1 .1 .0 in
         let y : chainWord b (linkAt N (s .slot)) ≡ chainWord b (linkC (s .tail)) = omega arith in
         let z : withLink (getD N (s .slot) 0) (f + 1) ≡ chainWord (s .byte) (f + 1) = omega arith in
         let lf : f < cap = st .below .0 in
         record {
           heap = less together (rw (y, z) (node-write3 (chainWord b (linkC (s .tail))) (leafState 0) (chainWord (s .byte) (f + 1)) h (omega arith) (omega arith) (omega (arith, s .within (st .sound .0)))));
-          sound = (st .sound .0, s .sound x (omega arith, omega arith, (lf, tt), past (s .tail) b (32 * (b / 32) + 32) gap (s .from)));
+          sound = (st .sound .0, s .sound x (omega arith, omega arith, (lf, tt), past cap pcap base small (s .tail) b (32 * (b / 32) + 32) gap (s .from)));
           nodeTable = nodes-kept (simp length-set) (st .nodeTable);
           pageTable = st .pageTable;
           chain = h .holds .0;

@@ -8,10 +8,10 @@ use borrow.Author.Tests.{ltb-true}
 use lib.Dec.{ltb, eqb}
 use lib.ListN.{length, getD}
 use Rattle.layout.specs.Nodes.{stateAt, freeState, innerState, nodeWords}
-use Rattle.trie.specs.declared.place.Place.{Place}
-use Rattle.trie.specs.declared.place.Place.the-variants.{Found, Missing, Broken as NoPlace}
-use Rattle.trie.specs.Model.{findPlace, Inside as PlaceInside}
-use Rattle.trie.proofs.Places.{find-inside}
+use Rattle.children.specs.declared.place.Place.{Place}
+use Rattle.children.specs.declared.place.Place.the-variants.{Found, Missing, Broken as NoPlace}
+use Rattle.children.specs.Places.{findPlace, Inside as PlaceInside}
+use Rattle.children.proofs.Places.{find-inside}
 use Rattle.trie.specs.declared.path.Reach.{Reach}
 use Rattle.trie.specs.declared.path.Reach.the-variants.{Leaf, Broken}
 use Rattle.trie.specs.Descend.{onward, atNode, descend, descendTo, Inside}

@@ -1,14 +1,10 @@
-pub mod Frame
 pub mod Abstract
 pub mod Steps
-pub mod Places
-pub mod Spot
 pub mod Context
 pub mod Fresh
 pub mod Spans
 pub mod Descends
 pub mod Inside
 pub mod Paths
-pub mod Spots
 pub mod Way
 pub mod Arrival

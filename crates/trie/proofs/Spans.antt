@@ -10,10 +10,10 @@ use native.Mathlib.Decide.{ℕ-discrete}
 use lib.ListN.{length, getD}
 use Rattle.trie.specs.declared.span.Span.{Span}
 use Rattle.trie.specs.declared.span.Span.the-variants.{Enough, Short}
-use Rattle.trie.specs.Heap.{Cells, hit, pageClaims, Holds}
+use Rattle.children.specs.Heap.{Cells, hit, pageClaims, Holds}
 use Rattle.trie.specs.Model.{spanFrom}
-use Rattle.trie.specs.Phys.{first, pageCells, freeCells, Below, State, leafP}
-use Rattle.trie.proofs.Frame.{hit-other, hit-same}
+use Rattle.children.specs.Phys.{first, pageCells, freeCells, Below, State, leafP}
+use Rattle.children.proofs.Frame.{hit-other, hit-same}
 use Rattle.trie.proofs.Steps.{span-out, span-end, span-next}
 
 -- each number of a list links to the next, from base on

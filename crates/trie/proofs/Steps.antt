@@ -1,5 +1,5 @@
 -- The models, one step at a time.
-use Prim.Native.Nat.{ℕ, suc, _+_, _*_, _-_, _<_, _≤_}
+use Prim.Native.Nat.{ℕ, _+_, _-_, _<_, _≤_}
 use mathlib.Core.Path.{_≡_, refl, ap, _∙_, sym}
 use mathlib.Core.List.{List}
 use mathlib.Core.Bool.{cond}
@@ -7,52 +7,17 @@ use native.Mathlib.Omega.{arith}
 use borrow.Author.Tests.{le-ltb, lt-ltb, eq-eqb, ne-eqb}
 use lib.Dec.{ltb, eqb}
 use lib.ListN.{getD}
-use Rattle.layout.specs.Nodes.{nodeWords}
 use Rattle.trie.specs.declared.leaf.Got.{Got}
 use Rattle.trie.specs.declared.leaf.Got.the-variants.{Node, Full}
 use Rattle.trie.specs.declared.leaf.Got.the-variants as got
-use Rattle.trie.specs.declared.place.Place.{Place}
-use Rattle.trie.specs.declared.place.Place.the-variants.{Found, Missing, Broken}
+use Rattle.children.specs.declared.place.Place.{Place}
+use Rattle.children.specs.declared.place.Place.the-variants.{Found, Missing, Broken}
 use Rattle.trie.specs.declared.span.Span.{Span}
 use Rattle.trie.specs.declared.span.Span.the-variants.{Enough, Short}
 use Rattle.trie.specs.declared.span.Span.the-variants as spans
-use Rattle.trie.specs.Model.{Inside, linkAt, childAt, byteIn, placeFrom, findPlace, linkLeaf, made, nodeIn, freshLeaf, childLeaf, spanFrom}
-
-pub suc-pred : (f : ℕ) → (f ≡ 0 → ⊥) → f ≡ suc (f - 1)
-suc-pred f h = omega arith
-
--- `placeFrom` at each way out of a turn. R is what the walk comes to in the end
-module _ (N : List ℕ) (cap b s f : ℕ) (R : Place) (inv : placeFrom N cap b s f ≡ R) where
-  pub place-out : f ≡ 0 → Broken ≡ R
-  unfolding placeFrom
-  place-out e = rw e at inv
-
-  module _ (h : f ≡ 0 → ⊥) where
-    place-step :
-        cond (eqb (linkAt N s) 0) (Missing s)
-        (cond (ltb cap (linkAt N s)) Broken
-        (cond (ltb (byteIn N (childAt N s)) b) (placeFrom N cap b (childAt N s) (f - 1))
-        (cond (eqb (byteIn N (childAt N s)) b) (Found s (childAt N s)) (Missing s)))) ≡ R
-    unfolding placeFrom
-    place-step = ap (placeFrom N cap b s) (sym (suc-pred f h)) ∙ inv
-
-    pub place-none : linkAt N s ≡ 0 → Missing s ≡ R
-    place-none e = rw (eq-eqb _ _ e) at place-step
-
-    module _ (e : linkAt N s ≡ 0 → ⊥) where
-      pub place-broken : cap < linkAt N s → Broken ≡ R
-      place-broken l = rw (ne-eqb _ _ e, lt-ltb _ _ l) at place-step
-
-      module _ (l : linkAt N s ≤ cap) where
-        pub place-go : byteIn N (childAt N s) < b → placeFrom N cap b (childAt N s) (f - 1) ≡ R
-        place-go m = rw (ne-eqb _ _ e, le-ltb _ _ l, lt-ltb _ _ m) at place-step
-
-        module _ (m : b ≤ byteIn N (childAt N s)) where
-          pub place-found : byteIn N (childAt N s) ≡ b → Found s (childAt N s) ≡ R
-          place-found q = rw (ne-eqb _ _ e, le-ltb _ _ l, le-ltb _ _ m, eq-eqb _ _ q) at place-step
-
-          pub place-past : (byteIn N (childAt N s) ≡ b → ⊥) → Missing s ≡ R
-          place-past q = rw (ne-eqb _ _ e, le-ltb _ _ l, le-ltb _ _ m, ne-eqb _ _ q) at place-step
+use Rattle.children.proofs.Steps.{suc-pred}
+use Rattle.children.specs.Places.{findPlace}
+use Rattle.trie.specs.Model.{linkLeaf, made, nodeIn, freshLeaf, childLeaf, spanFrom}
 
 -- `freshLeaf`, by each way
 module _ (N : List ℕ) (cap s b free : ℕ) where
@@ -68,16 +33,6 @@ module _ (N : List ℕ) (cap s b free : ℕ) where
     pub fresh-made : (ns : List ℕ) → free - 1 < cap → ns ≡ linkLeaf N cap s (free - 1) b → made ns (Node (free - 1) (getD N (free - 1) 0)) ≡ freshLeaf N cap s b free
     unfolding freshLeaf
     fresh-made ns l e = rw (ne-eqb free 0 h, le-ltb cap free (omega arith), e) refl
-
--- the bounds that a match tells
-pub found-in : (cap : ℕ) (r : Place) (s c : ℕ) → r ≡ Found s c → Inside cap r → c < cap
-found-in cap r s c e h = rw e at (h .child)
-
-pub found-slot : (cap : ℕ) (r : Place) (s c : ℕ) → r ≡ Found s c → Inside cap r → s < nodeWords cap
-found-slot cap r s c e h = rw e at (h .slot)
-
-pub missing-in : (cap : ℕ) (r : Place) (s : ℕ) → r ≡ Missing s → Inside cap r → s < nodeWords cap
-missing-in cap r s e h = rw e at (h .slot)
 
 pub got-in : (cap : ℕ) (r : Got) (n f : ℕ) → r ≡ Node n f → nodeIn r ≤ cap → n < cap
 got-in cap r n f e h = rw e at h

@@ -6,13 +6,13 @@ use mathlib.Core.Bool.{true}
 use mathlib.Core.List.{List}
 use Rattle.meaning.specs.Trie.{byteAt}
 use Rattle.layout.specs.Nodes.{mostNodes}
-use Rattle.trie.specs.Heap.{Cells, _⊕_}
-use Rattle.trie.specs.Phys.{Phys, Buckets, Chain, root, tree, Sound, SoundC, State, innerP, link}
-use Rattle.trie.proofs.Spot.{SpotB}
+use Rattle.children.specs.Heap.{Cells, _⊕_}
+use Rattle.children.specs.Phys.{Phys, Buckets, Chain, root, tree, Sound, SoundC, State, innerP, link}
+use Rattle.children.proofs.Spot.{SpotB}
 use Rattle.trie.proofs.Context.{Context, whole, inside, enter, leave}
 use Rattle.trie_laws.specs.Path.{hasBelow, below, setBelow, hasPath, subtree, replace, pathOf}
 use Rattle.trie.proofs.Paths.{path-next, sub-next, rep-next}
-use Rattle.trie.proofs.Spots.{from-here, spot-has, spot-child, spot-set}
+use Rattle.children.proofs.Spots.{from-here, spot-has, spot-child, spot-set}
 
 module _ (cap pcap base : ℕ) (small : cap ≤ mostNodes) (bytesOf : ℕ → List ℕ) (p : ℕ) where
   -- u stands in t at the end of k bytes of page p

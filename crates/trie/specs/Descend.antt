@@ -5,9 +5,9 @@ use mathlib.Core.List.{List}
 use lib.Dec.{ltb, eqb}
 use lib.ListN.{length, getD}
 use Rattle.layout.specs.Nodes.{stateAt, freeState, innerState, nodeWords}
-use Rattle.trie.specs.declared.place.Place.{Place}
-use Rattle.trie.specs.declared.place.Place.the-variants.{Found, Missing, Broken as NoPlace}
-use Rattle.trie.specs.Model.{findPlace}
+use Rattle.children.specs.declared.place.Place.{Place}
+use Rattle.children.specs.declared.place.Place.the-variants.{Found, Missing, Broken as NoPlace}
+use Rattle.children.specs.Places.{findPlace}
 use Rattle.trie.specs.declared.path.Reach.{Reach}
 use Rattle.trie.specs.declared.path.Reach.the-variants.{Leaf, Gap, Broken}
 

@@ -1,4 +1,2 @@
-pub mod Heap
 pub mod Model
-pub mod Phys
 pub mod Descend

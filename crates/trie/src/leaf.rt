@@ -4,8 +4,8 @@ ghost use Prim.Native.Nat.{_*_, _<_, _≤_};
 ghost use Rattle.layout.specs.Nodes.{nodeWords};
 ghost use Rattle.layout.specs.Tables.{NodeTable};
 ghost use Rattle.trie.specs.Model.{linkLeaf, made, freshLeaf, childLeaf, nodeIn};
-use crate::place::Place;
-use crate::place::find_place;
+use children::place::Place;
+use children::place::find_place;
 use layout::nodes::LINKS;
 use layout::nodes::with_link;
 

@@ -1,5 +1,4 @@
 // One block's trie in the node table and the page table: where things stand in it.
 pub mod leaf;
 pub mod path;
-pub mod place;
 pub mod span;

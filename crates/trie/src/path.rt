@@ -4,8 +4,8 @@ ghost use Prim.Native.Nat.{_<_};
 ghost use lib.ListN.{length};
 ghost use Rattle.layout.specs.Tables.{NodeTable};
 ghost use Rattle.trie.specs.Descend.{descendTo, Inside};
-use crate::place::Place;
-use crate::place::find_place;
+use children::place::Place;
+use children::place::find_place;
 
 // A node, a slot and the node's level: a leaf and the slot that links to it, 0 at the root; or an inner node without a child for the
 // next byte, and the slot where that child belongs.

@@ -14,9 +14,9 @@ use borrow.Author.Tests.{ltb-true, ltb-false, lt-ltb, le-ltb, eqb-true, ne-eqb}
 use Rattle.meaning.specs.Lists.{count}
 use Rattle.meaning.specs.Trie.{nodes}
 use Rattle.layout.specs.Nodes.{chainAt, stateAt, headAt, freeState, nodeWords}
-use Rattle.trie.specs.Heap.{hit, nodeClaims, Holds}
-use Rattle.trie.specs.Phys.{Phys, leafP, innerP, Buckets, end, bucket, Chain, stop, link, root, tree, noHeads, pageCells, freeCells, cells, cellsB, cellsC, Below, Sound, SoundB, SoundC}
-use Rattle.trie.proofs.Frame.{hit-same, hit-other}
+use Rattle.children.specs.Heap.{hit, nodeClaims, Holds}
+use Rattle.children.specs.Phys.{Phys, leafP, innerP, Buckets, end, bucket, Chain, stop, link, root, tree, noHeads, pageCells, freeCells, cells, cellsB, cellsC, Below, Sound, SoundB, SoundC}
+use Rattle.children.proofs.Frame.{hit-same, hit-other}
 use Rattle.trie.proofs.Spans.{sumTo, sum-add, sum-none, sum-hit}
 use Rattle.trie_laws.proofs.Lists.{eqb-comm}
 use Rattle.trie_check_laws.specs.Uses.{uses, usesB, usesC}

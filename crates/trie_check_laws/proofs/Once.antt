@@ -11,8 +11,8 @@ use Rattle.meaning.specs.Lists.{all, any, count, from, upto}
 use Rattle.meaning.specs.Trie.{Children, child, byteAt, pagesIn, pagesAmong}
 use Rattle.layout.specs.Nodes.{headAt}
 use Rattle.layout.specs.Pages.{isLive}
-use Rattle.trie.specs.Heap.{Holds}
-use Rattle.trie.specs.Phys.{Phys, leafP, innerP, Buckets, end, bucket, Chain, stop, link, root, tree, childrenB, childrenC, pageCells, cells, cellsB, cellsC, Below, Sound, SoundB, SoundC}
+use Rattle.children.specs.Heap.{Holds}
+use Rattle.children.specs.Phys.{Phys, leafP, innerP, Buckets, end, bucket, Chain, stop, link, root, tree, childrenB, childrenC, pageCells, cells, cellsB, cellsC, Below, Sound, SoundB, SoundC}
 use Rattle.trie_laws.specs.Sound.{soundTrie, soundFrom, Stands}
 use Rattle.meaning.proofs.Lists.{and-intro, not-so, count-append, all-append}
 use Rattle.trie_laws.proofs.Lists.{Truth, holds, fails, truth, less, same, more, compared, any-count, any-none, all-each}

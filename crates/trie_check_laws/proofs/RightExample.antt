@@ -8,7 +8,7 @@ use Rattle.meaning.specs.Sketch.{perByte, symbolsAt, packable, packedLength}
 use Rattle.meaning.specs.Trie.{nodes, byteAt}
 use Rattle.words.specs.Bits.{bit, withBit, flag, withFlag}
 use Rattle.layout.specs.Pages.{isLive}
-use Rattle.trie.specs.Phys.{Phys, tree}
+use Rattle.children.specs.Phys.{Phys, tree}
 use Rattle.blocks.specs.Packed.{rowByte, pageByte, levelAt}
 use Rattle.node_check.specs.declared.leaf.Left.the-variants.{Some}
 use Rattle.node_check.specs.Mark.{markOnce}

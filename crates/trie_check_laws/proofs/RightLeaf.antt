@@ -13,8 +13,8 @@ use Rattle.meaning.specs.Lists.{all}
 use Rattle.meaning.specs.Trie.{byteAt}
 use Rattle.layout.specs.Nodes.{stateAt, headAt, freeState, innerState, leafState}
 use Rattle.layout.specs.Pages.{isLive}
-use Rattle.trie.specs.Heap.{Holds}
-use Rattle.trie.specs.Phys.{first, pageCells, noHeads, Below}
+use Rattle.children.specs.Heap.{Holds}
+use Rattle.children.specs.Phys.{first, pageCells, noHeads, Below}
 use Rattle.blocks.specs.Packed.{pageByte, levelAt}
 use Rattle.trie_laws.specs.Path.{follows}
 use Rattle.meaning.proofs.Lists.{and-intro}

@@ -10,8 +10,8 @@ use lib.ListN.{length}
 use borrow.Author.Tests.{eqb-true, eqb-false, ltb-true, ltb-false}
 use Rattle.words.specs.Bits.{flag, withFlag}
 use Rattle.words.proofs.Flags.{length-with, flag-with}
-use Rattle.trie.specs.Heap.{hit}
-use Rattle.trie.proofs.Frame.{hit-other, hit-same}
+use Rattle.children.specs.Heap.{hit}
+use Rattle.children.proofs.Frame.{hit-other, hit-same}
 use Rattle.node_check.specs.declared.mark.Window.{Window}
 use Rattle.node_check.specs.Mark.{Noted, noted, markOnce}
 use Rattle.trie_check_laws.specs.Found.{one}

@@ -13,9 +13,9 @@ use Rattle.meaning.specs.Sketch.{packable}
 use Rattle.meaning.specs.Trie.{Tree, inner, Children, none, child, nodes, nodesIn, pagesIn, pagesAmong}
 use Rattle.layout.specs.Nodes.{chainWord, stateAt, headAt, innerState}
 use Rattle.layout.specs.Pages.{isLive}
-use Rattle.trie.specs.Heap.{Holds}
-use Rattle.trie.specs.Phys.{Phys, innerP, Buckets, end, bucket, Chain, stop, link, root, tree, childrenB, childrenC, cells, cellsB, Sound, SoundB, SoundC}
-use Rattle.trie.proofs.Fresh.{linkC, afterC, chain-head}
+use Rattle.children.specs.Heap.{Holds}
+use Rattle.children.specs.Phys.{Phys, innerP, Buckets, end, bucket, Chain, stop, link, root, tree, childrenB, childrenC, cells, cellsB, Sound, SoundB, SoundC}
+use Rattle.children.proofs.Chains.{linkC, afterC, chain-head}
 use Rattle.trie_laws.specs.Sound.{filled}
 use Rattle.trie_laws.specs.Walk.{soundWalk, walkFrom}
 use Rattle.meaning.proofs.Lists.{and-intro, and-first, and-second, all-append}

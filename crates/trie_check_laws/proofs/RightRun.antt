@@ -7,7 +7,7 @@ use lib.ListN.{length, set, take, length-append}
 use lib.Seq.{take-set-le}
 use Rattle.meaning.specs.Trie.{nodes, nodesIn, pagesIn, pagesAmong}
 use Rattle.words.specs.Bits.{flag}
-use Rattle.trie.specs.Phys.{Phys, end, bucket, stop, link, tree}
+use Rattle.children.specs.Phys.{Phys, end, bucket, stop, link, tree}
 use Rattle.node_check.specs.declared.frame.Frame.{Frame}
 use Rattle.node_check.specs.Frame.{pastChild, nextChain}
 use Rattle.trie_visit.specs.Visit.{Given}

@@ -13,7 +13,7 @@ use Rattle.meaning.specs.Lists.{all}
 use Rattle.meaning.specs.Trie.{leaf, inner, nodes, nodesIn, pagesIn, pagesAmong}
 use Rattle.words.specs.Bits.{flag}
 use Rattle.layout.specs.Nodes.{leafState, innerState, stateAt, stepsFor}
-use Rattle.trie.specs.Phys.{Phys, leafP, innerP, bucket, tree, first}
+use Rattle.children.specs.Phys.{Phys, leafP, innerP, bucket, tree, first}
 use Rattle.trie_laws.specs.Sound.{filled}
 use Rattle.trie_laws.specs.Path.{follows}
 use Rattle.trie_laws.specs.Walk.{soundWalk}

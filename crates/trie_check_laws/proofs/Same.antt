@@ -5,9 +5,9 @@ use mathlib.Core.Path.{_≡_, refl, sym, ap, ap₂, _∙_}
 use mathlib.Core.List.{List, [], _∷_}
 use lib.ListN.{getD}
 use Rattle.layout.specs.Nodes.{chainWord, stateAt, headAt, mostNodes}
-use Rattle.trie.specs.Heap.{Holds}
-use Rattle.trie.specs.Phys.{Phys, leafP, innerP, Buckets, end, bucket, Chain, stop, link, root, first, pageCells, cells, cellsB, cellsC, Sound, SoundB, SoundC}
-use Rattle.trie.proofs.Fresh.{linkC, chain-head, link-below}
+use Rattle.children.specs.Heap.{Holds}
+use Rattle.children.specs.Phys.{Phys, leafP, innerP, Buckets, end, bucket, Chain, stop, link, root, first, pageCells, cells, cellsB, cellsC, Sound, SoundB, SoundC}
+use Rattle.children.proofs.Chains.{linkC, chain-head, link-below}
 
 -- the pages of a leaf, by its first one
 pub same-pages : (base : ℕ) (N P : List ℕ) (ps qs : List ℕ) → Holds (pageCells base ps) N P → Holds (pageCells base qs) N P → first ps ≡ first qs → ps ≡ qs

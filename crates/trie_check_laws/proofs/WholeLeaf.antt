@@ -15,8 +15,8 @@ use Rattle.meaning.specs.Trie.{byteAt}
 use Rattle.layout.specs.Nodes.{headAt}
 use Rattle.layout.specs.Pages.{isLive}
 use Rattle.blocks.specs.declared.Rows.{Rows}
-use Rattle.trie.specs.Heap.{Holds}
-use Rattle.trie.specs.Phys.{leafP, innerP, Buckets, first, noHeads, pageCells, cells, Below}
+use Rattle.children.specs.Heap.{Holds}
+use Rattle.children.specs.Phys.{leafP, innerP, Buckets, first, noHeads, pageCells, cells, Below}
 use Rattle.blocks.specs.Packed.{pageByte, levelAt}
 use Rattle.trie_laws.specs.Path.{follows}
 use Rattle.meaning.proofs.Lists.{and-intro, and-first, and-second}

@@ -9,8 +9,8 @@ use lib.ListN.{length}
 use borrow.Author.Tests.{ltb-true, ltb-false, eqb-true, eqb-false}
 use Rattle.words.specs.Bits.{flag, withFlag}
 use Rattle.words.proofs.Flags.{length-with, flag-with}
-use Rattle.trie.specs.Heap.{hit}
-use Rattle.trie.proofs.Frame.{hit-same, hit-other}
+use Rattle.children.specs.Heap.{hit}
+use Rattle.children.proofs.Frame.{hit-same, hit-other}
 use Rattle.node_check.specs.declared.mark.Window.{Window}
 use Rattle.node_check.specs.Mark.{noted, markOnce}
 use Rattle.trie_check_laws.specs.Found.{one}

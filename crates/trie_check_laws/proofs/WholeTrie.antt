@@ -12,11 +12,11 @@ use Rattle.meaning.specs.Trie.{nodes}
 use Rattle.words.specs.Bits.{flag}
 use Rattle.layout.specs.Nodes.{chainWord, chainAt, headAt, stepsFor, mostNodes, nodeSteps}
 use Rattle.layout.specs.Pages.{isLive}
-use Rattle.trie.specs.Heap.{Holds, hit}
-use Rattle.trie.specs.Phys.{Phys, leafP, innerP, Buckets, end, bucket, Chain, stop, link, root, first, tree, cells, cellsB, cellsC, Below, SoundB, SoundC}
-use Rattle.trie.specs.Phys.{Sound as SoundNodes}
-use Rattle.trie.proofs.Spot.{root-below}
-use Rattle.trie.proofs.Fresh.{linkC, chain-head, link-below}
+use Rattle.children.specs.Heap.{Holds, hit}
+use Rattle.children.specs.Phys.{Phys, leafP, innerP, Buckets, end, bucket, Chain, stop, link, root, first, tree, cells, cellsB, cellsC, Below, SoundB, SoundC}
+use Rattle.children.specs.Phys.{Sound as SoundNodes}
+use Rattle.children.proofs.Spot.{root-below}
+use Rattle.children.proofs.Chains.{linkC, chain-head, link-below}
 use Rattle.trie_laws.specs.Sound.{filled}
 use Rattle.node_check.specs.declared.frame.Frame.{Frame}
 use Rattle.node_check.specs.declared.frame.Step.the-variants as step

@@ -8,9 +8,9 @@ use Rattle.meaning.specs.Lists.{all}
 use Rattle.meaning.specs.Trie.{nodes, byteAt, pagesIn}
 use Rattle.words.specs.Bits.{flag}
 use Rattle.layout.specs.Pages.{isLive}
-use Rattle.trie.specs.Heap.{Holds}
-use Rattle.trie.specs.Phys.{Phys, root, tree, cells}
-use Rattle.trie.specs.Phys.{Sound as SoundNodes}
+use Rattle.children.specs.Heap.{Holds}
+use Rattle.children.specs.Phys.{Phys, root, tree, cells}
+use Rattle.children.specs.Phys.{Sound as SoundNodes}
 use Rattle.blocks.specs.Packed.{pageByte, levelAt}
 use Rattle.trie_laws.specs.Walk.{soundWalk}
 use Rattle.trie_visit.specs.Visit.{Given}

@@ -1,7 +1,7 @@
 -- How often a node stands in a trie.
 use Prim.Native.Nat.{ℕ, _+_}
-use Rattle.trie.specs.Heap.{hit}
-use Rattle.trie.specs.Phys.{Phys, leafP, innerP, Buckets, end, bucket, Chain, stop, link}
+use Rattle.children.specs.Heap.{hit}
+use Rattle.children.specs.Phys.{Phys, leafP, innerP, Buckets, end, bucket, Chain, stop, link}
 
 abbrev mutual
   pub uses : Phys → ℕ → ℕ

@@ -8,7 +8,8 @@ use borrow.Author.Tests.{le-ltb, lt-ltb, eq-eqb, ne-eqb}
 use lib.Dec.{ltb, eqb}
 use lib.ListN.{length, getD}
 use Rattle.meaning.specs.Trie.{Tree, leaf, inner, Children, none, child, byteAt, push, putLeaf, split, addLeaf, insert, insertIn, nodes, nodesIn}
-use Rattle.trie.proofs.Abstract.{Skips, Above, Kept, Leaves, Walks}
+use Rattle.children.proofs.Abstract.{Skips, Above, Leaves}
+use Rattle.trie.proofs.Abstract.{Kept, Walks}
 
 -- a page put into the child leaf of a byte
 pub put-skips : (b p : ℕ) → Skips b (putLeaf b p)

@@ -12,12 +12,12 @@ use Rattle.layout.specs.Nodes.{stateAt, innerState, leafState, mostNodes}
 use Rattle.trie.specs.declared.leaf.Got.the-variants.{Node}
 use Rattle.blocks.specs.declared.Rows.{Rows}
 use Rattle.trie.specs.declared.span.Span.the-variants.{Enough, Short}
-use Rattle.trie.specs.Heap.{Cells, node, page, _⊕_}
+use Rattle.children.specs.Heap.{Cells, node, page, _⊕_}
 use Rattle.blocks.specs.Tables.{RowTable}
 use Rattle.blocks.specs.Packed.{pageByte, levelAt}
 use Rattle.trie.specs.Model.{spanFrom}
-use Rattle.trie.specs.Phys.{Phys, root, tree, empty, first, pageCells, noHeads, freeCells, cells, Below, State, leafP, innerP}
-use Rattle.trie.proofs.Frame.{Less, less, node-write, nodes-kept}
+use Rattle.children.specs.Phys.{Phys, root, tree, empty, first, pageCells, noHeads, freeCells, cells, Below, State, leafP, innerP}
+use Rattle.children.proofs.Frame.{Less, less, node-write, nodes-kept}
 use Rattle.trie.proofs.Context.{below}
 use Rattle.blocks.proofs.Bytes.{level-table, byte-small}
 use Rattle.trie.proofs.Spans.{Linked, spanOf, span-right, pages-linked, leaf-most}

@@ -9,15 +9,16 @@ use Rattle.meaning.specs.Trie.{Tree, leaf, inner, Children, child, byteAt, addL
 use Rattle.layout.specs.Nodes.{mostNodes}
 use Rattle.blocks.specs.declared.Rows.{Rows}
 use Rattle.trie.specs.declared.leaf.Got.the-variants.{Node}
-use Rattle.trie.specs.Heap.{Cells, page, _⊕_}
+use Rattle.children.specs.Heap.{Cells, page, _⊕_}
 use Rattle.blocks.specs.Tables.{RowTable}
 use Rattle.blocks.specs.Packed.{pageByte, levelAt}
 use Rattle.trie.specs.Model.{linkLeaf, made, freshLeaf}
-use Rattle.trie.specs.Phys.{Phys, root, tree, childrenB, childrenC, Sound, SoundC, State, leafP, innerP, link}
-use Rattle.trie.proofs.Frame.{same-swap}
-use Rattle.trie.proofs.Abstract.{Above}
+use Rattle.children.specs.Phys.{Phys, root, tree, childrenB, childrenC, Sound, SoundC, State, leafP, innerP, link}
+use Rattle.children.proofs.Frame.{same-swap}
+use Rattle.children.proofs.Abstract.{Above}
 use Rattle.trie.proofs.Context.{Context, inside, enter, leave, beside}
-use Rattle.trie.proofs.Fresh.{past, tail-above, fresh-state, fresh-is}
+use Rattle.children.proofs.Chains.{past, tail-above}
+use Rattle.trie.proofs.Fresh.{fresh-state, fresh-is}
 use Rattle.trie.specs.declared.path.Reach.{Reach}
 use Rattle.trie.specs.declared.path.Reach.the-variants.{Leaf, Gap, Broken}
 use Rattle.trie.specs.Descend.{descendTo}

@@ -7,9 +7,9 @@ use native.Mathlib.Omega.{arith}
 use lib.ListN.{getD, set, length-set}
 use Rattle.meaning.specs.Trie.{nodes}
 use Rattle.layout.specs.Nodes.{stateAt, leafState}
-use Rattle.trie.specs.Heap.{Cells, Heap, node, page, _⊕_}
-use Rattle.trie.specs.Phys.{first, pageCells, noHeads, freeCells, cells, State, leafP}
-use Rattle.trie.proofs.Frame.{Less, less, same-swap, node-write, page-write, nodes-kept, pages-kept}
+use Rattle.children.specs.Heap.{Cells, Heap, node, page, _⊕_}
+use Rattle.children.specs.Phys.{first, pageCells, noHeads, freeCells, cells, State, leafP}
+use Rattle.children.proofs.Frame.{Less, less, same-swap, node-write, page-write, nodes-kept, pages-kept}
 use Rattle.trie.proofs.Context.{below}
 use Rattle.trie_insert.specs.Pages.{pushNodes, pushPages, pushPage, pushed}
 use Rattle.trie_insert.proofs.Steps.{push-done}

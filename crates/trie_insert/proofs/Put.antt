@@ -8,16 +8,18 @@ use lib.ListN.{length, getD}
 use Rattle.meaning.specs.Trie.{leaf, Children, child, push, putLeaf, nodes, nodesIn}
 use Rattle.layout.specs.Nodes.{mostNodes}
 use Rattle.trie.specs.declared.leaf.Got.the-variants.{Node}
-use Rattle.trie.specs.declared.place.Place.the-variants.{Found, Missing}
-use Rattle.trie.specs.Heap.{Cells, page, _⊕_}
-use Rattle.trie.specs.Model.{findPlace, linkLeaf, made, childLeaf}
-use Rattle.trie.specs.Phys.{Phys, Buckets, Chain, childrenB, childrenC, Sound, SoundC, State, leafP, innerP, link}
-use Rattle.trie.proofs.Frame.{same-swap}
-use Rattle.trie.proofs.Abstract.{Leaves}
+use Rattle.children.specs.declared.place.Place.the-variants.{Found, Missing}
+use Rattle.children.specs.Heap.{Cells, page, _⊕_}
+use Rattle.children.specs.Places.{findPlace}
+use Rattle.trie.specs.Model.{linkLeaf, made, childLeaf}
+use Rattle.children.specs.Phys.{Phys, Buckets, Chain, childrenB, childrenC, Sound, SoundC, State, leafP, innerP, link}
+use Rattle.children.proofs.Frame.{same-swap}
+use Rattle.children.proofs.Abstract.{Leaves}
 use Rattle.trie.proofs.Steps.{child-found, child-made}
-use Rattle.trie.proofs.Spot.{starts, begins, headC, answer, SpotB}
+use Rattle.children.proofs.Spot.{starts, begins, headC, answer, SpotB}
 use Rattle.trie.proofs.Context.{Context, whole, below, rest, inside, enter, leave, beside}
-use Rattle.trie.proofs.Fresh.{past, tail-above, fresh-state, fresh-is}
+use Rattle.children.proofs.Chains.{past, tail-above}
+use Rattle.trie.proofs.Fresh.{fresh-state, fresh-is}
 use Rattle.trie_insert.specs.Pages.{pushNodes, pushPages, pushPage, After, putLeafM, pushed, after}
 use Rattle.trie_insert.proofs.Abstract.{put-skips, put-here, put-new}
 use Rattle.trie_insert.proofs.Steps.{put-done}

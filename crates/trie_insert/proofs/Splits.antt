@@ -8,12 +8,12 @@ use Rattle.meaning.specs.Trie.{child, byteAt, putLeaf, split, nodes, nodesIn}
 use Rattle.layout.specs.Nodes.{mostNodes}
 use Rattle.trie.specs.declared.leaf.Got.the-variants.{Node}
 use Rattle.blocks.specs.declared.Level.{Level}
-use Rattle.trie.specs.Heap.{Cells, page, _⊕_}
+use Rattle.children.specs.Heap.{Cells, page, _⊕_}
 use Rattle.blocks.specs.Packed.{pageByte}
-use Rattle.trie.specs.Phys.{Buckets, childrenB, first, pageCells, Below, State, innerP}
-use Rattle.trie.proofs.Frame.{same-assoc}
-use Rattle.trie.proofs.Abstract.{Leaves}
-use Rattle.trie.proofs.Spot.{spot}
+use Rattle.children.specs.Phys.{Buckets, childrenB, first, pageCells, Below, State, innerP}
+use Rattle.children.proofs.Frame.{same-assoc}
+use Rattle.children.proofs.Abstract.{Leaves}
+use Rattle.children.proofs.Spot.{spot}
 use Rattle.trie.proofs.Context.{beside}
 use Rattle.trie_insert.specs.Pages.{After, putLeafM, after}
 use Rattle.trie_insert.specs.Split.{splitFrom}

@@ -19,7 +19,7 @@ use Rattle.trie.specs.declared.span.Span.the-variants as spans
 use Rattle.blocks.specs.Tables.{RowTable}
 use Rattle.blocks.specs.Packed.{pageByte, levelAt}
 use Rattle.trie.specs.Model.{made, freshLeaf, childLeaf, spanFrom}
-use Rattle.trie.proofs.Steps.{suc-pred}
+use Rattle.children.proofs.Steps.{suc-pred}
 use Rattle.trie.specs.declared.path.Reach.{Reach}
 use Rattle.trie.specs.declared.path.Reach.the-variants.{Leaf, Gap, Broken}
 use Rattle.trie.specs.Descend.{descendTo, Inside}

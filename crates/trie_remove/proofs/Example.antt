@@ -10,9 +10,9 @@ use lib.ListN.{getD, replicate}
 use Rattle.meaning.specs.Lists.{all, any, count}
 use Rattle.meaning.specs.Sketch.{perByte, symbolsAt, packable}
 use Rattle.meaning.specs.Trie.{byteAt, pagesIn}
-use Rattle.trie.specs.Heap.{Cells, hit, nodeClaims, pageClaims, nil, node, page, _⊕_}
-use Rattle.trie.specs.Model.{placeFrom, findPlace}
-use Rattle.trie.specs.Phys.{Phys, Buckets, tree, noHeads, cells, State, leafP, innerP, end, bucket, stop, link}
+use Rattle.children.specs.Heap.{Cells, hit, nodeClaims, pageClaims, nil, node, page, _⊕_}
+use Rattle.children.specs.Places.{placeFrom, findPlace}
+use Rattle.children.specs.Phys.{Phys, Buckets, tree, noHeads, cells, State, leafP, innerP, end, bucket, stop, link}
 use Rattle.trie_laws.specs.Sound.{filled, soundTrie}
 use Rattle.meaning.proofs.Lists.{and-first, and-second, count-append}
 use Rattle.trie_laws.proofs.Lists.{holds, fails, truth, eqb-comm, any-none}

@@ -5,12 +5,12 @@ use mathlib.Core.Path.{_≡_, refl}
 use mathlib.Core.List.{List, [], _∷_}
 use lib.ListN.{getD, length-set}
 use Rattle.layout.specs.Nodes.{chainWord, withLink, stateAt, freeState, innerState, leafState, mostNodes}
-use Rattle.trie.specs.Heap.{Cells, node, _⊕_}
-use Rattle.trie.specs.Model.{linkAt}
-use Rattle.trie.specs.Phys.{Buckets, Chain, first, noHeads, freeCells, cells, SoundC, State, leafP, innerP, link}
-use Rattle.trie.proofs.Frame.{Less, less, node-write3, nodes-kept}
-use Rattle.trie.proofs.Spot.{SpotB, weaken}
-use Rattle.trie.proofs.Fresh.{linkC, afterC, chain-head, link-below}
+use Rattle.children.specs.Heap.{Cells, node, _⊕_}
+use Rattle.children.specs.Places.{linkAt}
+use Rattle.children.specs.Phys.{Buckets, Chain, first, noHeads, freeCells, cells, SoundC, State, leafP, innerP, link}
+use Rattle.children.proofs.Frame.{Less, less, node-write3, nodes-kept}
+use Rattle.children.proofs.Spot.{SpotB, weaken}
+use Rattle.children.proofs.Chains.{linkC, afterC, chain-head, link-below}
 use Rattle.trie_remove.specs.Remove.{freeChild}
 
 module _ (cap pcap base : ℕ) (small : cap ≤ mostNodes) {N P : List ℕ} {free n c b : ℕ} {bs : Buckets} {after : Chain} {fs : List ℕ} {G : Cells}

@@ -8,8 +8,8 @@ use borrow.Author.Tests.{eqb-true}
 use lib.Dec.{eqb}
 use lib.ListN.{getD}
 use Rattle.meaning.specs.Lists.{any}
-use Rattle.trie.specs.Heap.{Cells, hit, nodeClaims, pageClaims, Heap, node, page, _⊕_}
-use Rattle.trie.specs.Phys.{Phys, root, tree, freeCells, cells, State}
+use Rattle.children.specs.Heap.{Cells, hit, nodeClaims, pageClaims, Heap, node, page, _⊕_}
+use Rattle.children.specs.Phys.{Phys, root, tree, freeCells, cells, State}
 use Rattle.meaning.specs.Trie.{pagesIn}
 use Rattle.trie_laws.specs.Sound.{soundTrie}
 use Rattle.trie_laws.proofs.Lists.{holds, fails, truth}

@@ -9,9 +9,9 @@ use lib.ListN.{length, getD, set, length-set}
 use Rattle.meaning.specs.Lists.{any}
 use Rattle.meaning.specs.Trie.{without}
 use Rattle.layout.specs.Nodes.{stateAt, leafState}
-use Rattle.trie.specs.Heap.{Cells, Heap, node, page, _⊕_}
-use Rattle.trie.specs.Phys.{first, pageCells, noHeads, freeCells, cells, Below, State, leafP}
-use Rattle.trie.proofs.Frame.{Less, less, node-write, nodes-kept, pages-kept}
+use Rattle.children.specs.Heap.{Cells, Heap, node, page, _⊕_}
+use Rattle.children.specs.Phys.{first, pageCells, noHeads, freeCells, cells, Below, State, leafP}
+use Rattle.children.proofs.Frame.{Less, less, node-write, nodes-kept, pages-kept}
 use Rattle.trie_remove.specs.declared.Taken.{Taken}
 use Rattle.trie_remove.specs.declared.Taken.the-variants.{First, Inside, Missing, Broken}
 use Rattle.trie_remove.specs.declared.Removed.the-variants.{Done}

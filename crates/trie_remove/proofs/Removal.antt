@@ -10,9 +10,9 @@ use lib.ListN.{length, length-set}
 use Rattle.meaning.specs.Lists.{any}
 use Rattle.meaning.specs.Trie.{Children, leaf, inner, without, byteAt, remove, pagesIn}
 use Rattle.layout.specs.Nodes.{mostNodes}
-use Rattle.trie.specs.Heap.{Cells, page, _⊕_}
-use Rattle.trie.specs.Phys.{Phys, Chain, root, tree, childrenB, first, SoundC, State, leafP, innerP, link}
-use Rattle.trie.proofs.Frame.{same-swap}
+use Rattle.children.specs.Heap.{Cells, page, _⊕_}
+use Rattle.children.specs.Phys.{Phys, Chain, root, tree, childrenB, first, SoundC, State, leafP, innerP, link}
+use Rattle.children.proofs.Frame.{same-swap}
 use Rattle.trie.proofs.Context.{enter, beside}
 use Rattle.trie_laws.specs.Sound.{filled, soundTrie}
 use Rattle.trie_laws.specs.Needed.{frees}
@@ -22,7 +22,7 @@ use Rattle.trie_laws.proofs.Reach.{reach-leaf}
 use Rattle.trie.specs.declared.path.Reach.{Reach}
 use Rattle.trie.specs.declared.path.Reach.the-variants.{Leaf, Gap, Broken}
 use Rattle.trie.specs.Descend.{descendTo}
-use Rattle.trie.proofs.Spots.{from-here, spot-has, spot-child, spot-drop}
+use Rattle.children.proofs.Spots.{from-here, spot-has, spot-child, spot-drop}
 use Rattle.trie.proofs.Way.{Way, onward, onward-put, go-in, go-out}
 use Rattle.trie.proofs.Arrival.{Leads, Parent, AtLeaf, Arrives, arrives}
 use Rattle.trie_remove.specs.declared.Removed.the-variants.{Done}

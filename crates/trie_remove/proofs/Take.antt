@@ -9,10 +9,10 @@ use lib.Dec.{ltb, eqb}
 use lib.ListN.{length, getD, set, length-set}
 use Rattle.meaning.specs.Lists.{all, any, count}
 use Rattle.meaning.specs.Trie.{without}
-use Rattle.trie.specs.Heap.{Cells, hit, pageClaims, Heap, page, _⊕_}
+use Rattle.children.specs.Heap.{Cells, hit, pageClaims, Heap, page, _⊕_}
 use Rattle.layout.specs.Tables.{PageTable}
-use Rattle.trie.specs.Phys.{first, pageCells, Below}
-use Rattle.trie.proofs.Frame.{Less, less, page-write}
+use Rattle.children.specs.Phys.{first, pageCells, Below}
+use Rattle.children.proofs.Frame.{Less, less, page-write}
 use Rattle.meaning.proofs.Lists.{and-intro}
 use Rattle.trie_laws.proofs.Lists.{holds, fails, truth, eqb-comm}
 use Rattle.trie_laws.proofs.Distinct.{distinct-once, distinct-below}

@@ -13,10 +13,10 @@ use Rattle.meaning.specs.Trie.{byteAt, pagesIn}
 use Rattle.meaning.specs.Ledger.{Settings}
 use Rattle.layout.specs.Nodes.{stateAt, mostNodes}
 use Rattle.blocks.specs.declared.Rows.{Rows}
-use Rattle.trie.specs.Heap.{Cells, _⊕_}
+use Rattle.children.specs.Heap.{Cells, _⊕_}
 use Rattle.blocks.specs.Packed.{pageByte, levelAt}
 use Rattle.trie.specs.Model.{spanFrom}
-use Rattle.trie.specs.Phys.{Phys, root, tree, childrenB, first, Below, State, leafP}
+use Rattle.children.specs.Phys.{Phys, root, tree, childrenB, first, Below, State, leafP}
 use Rattle.trie.proofs.Context.{enter}
 use Rattle.trie.proofs.Spans.{Linked, spanOf, span-right, pages-linked, frees-linked, leaf-most}
 use Rattle.trie_laws.specs.Sound.{Agree}
@@ -29,7 +29,7 @@ use Rattle.trie_laws.proofs.Nodes.{gap-nodes}
 use Rattle.trie.specs.declared.path.Reach.{Reach}
 use Rattle.trie.specs.declared.path.Reach.the-variants.{Leaf, Gap, Broken}
 use Rattle.trie.specs.Descend.{descendTo}
-use Rattle.trie.proofs.Spots.{spot-none}
+use Rattle.children.proofs.Spots.{spot-none}
 use Rattle.trie.proofs.Way.{Way}
 use Rattle.trie.proofs.Arrival.{Leads, Arrives, arrives}
 use Rattle.trie_room.specs.declared.needed.Needed.the-variants.{Nodes}

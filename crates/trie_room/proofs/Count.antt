@@ -9,7 +9,7 @@ use mir.Val.{boolByte}
 use lib.Dec.{eqb}
 use lib.ListN.{length, getD, set, replicate}
 use lib.Seq.{getD-set-same, getD-set-other}
-use Rattle.trie.proofs.Steps.{suc-pred}
+use Rattle.children.proofs.Steps.{suc-pred}
 use Rattle.trie_laws.specs.Needed.{distinctFrom}
 use Rattle.trie_room.specs.declared.needed.Needed.{Needed}
 use Rattle.trie_room.specs.declared.needed.Needed.the-variants.{Nodes, Broken}

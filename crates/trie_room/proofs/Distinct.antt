@@ -11,7 +11,7 @@ use Rattle.meaning.specs.Lists.{any}
 use Rattle.meaning.specs.Trie.{byteAt}
 use Rattle.blocks.specs.declared.Level.{Level}
 use Rattle.blocks.specs.Packed.{pageByte}
-use Rattle.trie.specs.Phys.{first, Below}
+use Rattle.children.specs.Phys.{first, Below}
 use Rattle.trie.proofs.Spans.{Linked}
 use Rattle.trie_laws.specs.Needed.{distinct}
 use Rattle.meaning.proofs.Lists.{or-first, or-second}

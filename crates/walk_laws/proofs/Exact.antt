@@ -9,8 +9,8 @@ use lib.ListN.{length, getD, drop, length-drop}
 use Rattle.meaning.specs.Sketch.{perByte}
 use Rattle.meaning.specs.Trie.{met, nodes}
 use Rattle.layout.specs.Nodes.{mostNodes}
-use Rattle.trie.specs.Heap.{Holds}
-use Rattle.trie.specs.Phys.{Phys, root, first, tree, pageCells, cells, Below, Sound}
+use Rattle.children.specs.Heap.{Holds}
+use Rattle.children.specs.Phys.{Phys, root, first, tree, pageCells, cells, Below, Sound}
 use Rattle.trie_laws.specs.Sound.{soundTrie}
 use Rattle.walk.specs.Mark.{marks, markAll, markLeaf}
 use Rattle.walk.specs.Walk.{Given, mark, exactFrom, leafFrom, drawnFrom}

@@ -11,7 +11,7 @@ use lib.Bits.{bitXor}
 use borrow.Author.Tests.{ltb-true, lt-leb}
 use Rattle.meaning.specs.Sketch.{perByte, symbolsAt, packable, byteDistance}
 use Rattle.meaning.specs.Trie.{Children, none, metIn}
-use Rattle.trie.specs.Phys.{Phys, leafP, innerP, Buckets, end, bucket, Chain, stop, link, tree, childrenB, childrenC, SoundB, SoundC}
+use Rattle.children.specs.Phys.{Phys, leafP, innerP, Buckets, end, bucket, Chain, stop, link, tree, childrenB, childrenC, SoundB, SoundC}
 use Rattle.trie_laws.specs.Sound.{soundTrie, soundFrom}
 use Rattle.trie_laws.proofs.Sound.{inner-parts, child-parts}
 use Rattle.sketch_laws.proofs.Packing.{per-byte-le}

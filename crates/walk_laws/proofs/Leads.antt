@@ -12,8 +12,8 @@ use Rattle.meaning.specs.Sketch.{perByte, byteDistance}
 use Rattle.meaning.specs.Trie.{Children, none, child, met, metIn, nodes, nodesIn}
 use Rattle.sketch_laws.proofs.ByteDistance.{byte-distance-zero}
 use Rattle.layout.specs.Nodes.{linkOf, chainWord, headAt, linkBase, mostNodes}
-use Rattle.trie.specs.Heap.{Holds}
-use Rattle.trie.specs.Phys.{Phys, leafP, innerP, Buckets, end, bucket, Chain, stop, link, root, first, tree, childrenB, childrenC, pageCells, cells, cellsB, cellsC, Below, Sound, SoundB, SoundC}
+use Rattle.children.specs.Heap.{Holds}
+use Rattle.children.specs.Phys.{Phys, leafP, innerP, Buckets, end, bucket, Chain, stop, link, root, first, tree, childrenB, childrenC, pageCells, cells, cellsB, cellsC, Below, Sound, SoundB, SoundC}
 use Rattle.trie_laws.proofs.Lists.{less, same, more, compared}
 use Rattle.descent.specs.declared.Cursor.{Cursor}
 use Rattle.descent.specs.Cursor.{ended, ahead, arrive}

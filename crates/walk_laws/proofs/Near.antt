@@ -14,7 +14,7 @@ use Rattle.meaning.specs.Sketch.{perByte, byteDistance}
 use Rattle.meaning.specs.Trie.{Tree, leaf, inner, Children, none, child, nodes, nodesIn}
 use Rattle.meaning.proofs.Lists.{count-append}
 use Rattle.sketch_laws.specs.Packed.{sumPairs, packedDistance}
-use Rattle.trie.specs.Phys.{Phys, leafP, innerP, Buckets, end, bucket, Chain, stop, link, tree, childrenB, childrenC}
+use Rattle.children.specs.Phys.{Phys, leafP, innerP, Buckets, end, bucket, Chain, stop, link, tree, childrenB, childrenC}
 use Rattle.trie_laws.specs.Sound.{soundTrie, soundFrom}
 use Rattle.trie_laws.specs.Path.{has, childBy, hasBelow, below, hasPath}
 use Rattle.trie_laws.proofs.Lists.{less, same, more, compared, count-none}

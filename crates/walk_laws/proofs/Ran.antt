@@ -7,8 +7,8 @@ use lib.ListN.{length, getD}
 use borrow.Author.Tests.{eq-eqb, ne-eqb, lt-ltb}
 use Rattle.meaning.proofs.Stacks.{suc-pred}
 use Rattle.layout.specs.Nodes.{stateAt, stepsFor}
-use Rattle.trie.specs.Heap.{Holds}
-use Rattle.trie.specs.Phys.{first, pageCells, Below}
+use Rattle.children.specs.Heap.{Holds}
+use Rattle.children.specs.Phys.{first, pageCells, Below}
 use Rattle.descent.specs.declared.Cursor.{Cursor}
 use Rattle.walk.specs.declared.frame.Frame.{Frame}
 use Rattle.walk.specs.declared.frame.Step.{Step}

@@ -14,8 +14,8 @@ use Rattle.meaning.specs.Sketch.{perByte, byteDistance}
 use Rattle.meaning.specs.Trie.{Children, met, metIn, nodes}
 use Rattle.meaning.proofs.Lists.{all-append, and-intro}
 use Rattle.layout.specs.Nodes.{mostNodes}
-use Rattle.trie.specs.Heap.{Holds}
-use Rattle.trie.specs.Phys.{Phys, leafP, innerP, Buckets, end, bucket, Chain, stop, link, root, tree, childrenB, childrenC, cells, Below, Sound, SoundB, SoundC}
+use Rattle.children.specs.Heap.{Holds}
+use Rattle.children.specs.Phys.{Phys, leafP, innerP, Buckets, end, bucket, Chain, stop, link, root, tree, childrenB, childrenC, cells, Below, Sound, SoundB, SoundC}
 use Rattle.trie_laws.specs.Sound.{soundTrie}
 use Rattle.walk.specs.Walk.{Given}
 use Rattle.walk_laws.specs.Near.{near, nearNodes, pathsIn, pathNear}

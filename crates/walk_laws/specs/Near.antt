@@ -8,7 +8,7 @@ use lib.ListN.{length, take}
 use Rattle.meaning.specs.Sketch.{byteDistance}
 use Rattle.meaning.specs.Trie.{Tree, leaf, inner, Children, none, child}
 use Rattle.sketch_laws.specs.Packed.{packedDistance}
-use Rattle.trie.specs.Phys.{Phys, leafP, innerP, Buckets, end, bucket, Chain, stop, link}
+use Rattle.children.specs.Phys.{Phys, leafP, innerP, Buckets, end, bucket, Chain, stop, link}
 
 unfoldable mutual
   -- their numbers, within r, in the order of the walk

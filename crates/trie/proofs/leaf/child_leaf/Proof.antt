@@ -1,6 +1,7 @@
 -- `child_leaf` meets its contract.
 use native.Mathlib.Omega.{arith}
-use Rattle.trie.proofs.Steps.{found-in, missing-in, child-found, child-made, child-nowhere}
+use Rattle.children.proofs.Steps.{found-in, missing-in}
+use Rattle.trie.proofs.Steps.{child-found, child-made, child-nowhere}
 use Rattle.trie.proofs.leaf.child_leaf.Statement.{statement}
 use Rattle.trie.proofs.leaf.child_leaf.Tie as tie
 use borrow.Author.Needs.{needs}

@@ -7,7 +7,7 @@ use lib.ListN.{length}
 use Rattle.layout.specs.Nodes.{nodeWords}
 use Rattle.trie.specs.Descend.{descend, descendTo}
 use Rattle.trie.proofs.Descends.{desc-leaf, desc-free, desc-out, desc-found, desc-gap, desc-nowhere}
-use Rattle.trie.proofs.Steps.{found-in, found-slot, missing-in}
+use Rattle.children.proofs.Steps.{found-in, found-slot, missing-in}
 use Rattle.trie.proofs.path.descend_to.Statement.{statement}
 use Rattle.trie.proofs.path.descend_to.Tie as tie
 

@@ -1,5 +1,5 @@
 -- `insert_page` meets its contract.
-use Rattle.trie.proofs.Frame.{nodes-kept}
+use Rattle.children.proofs.Frame.{nodes-kept}
 use Rattle.trie_insert.proofs.Steps.{target-in, insert-grow, insert-full, insert-failed}
 use Rattle.trie_insert.proofs.insert.insert_page.Statement.{statement}
 use Rattle.trie_insert.proofs.insert.insert_page.Tie as tie

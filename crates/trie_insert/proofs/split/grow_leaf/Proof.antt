@@ -1,6 +1,6 @@
 -- `grow_leaf` meets its contract.
 use borrow.Author.Tests.{not-true, not-false}
-use Rattle.trie.proofs.Frame.{nodes-kept, pages-kept}
+use Rattle.children.proofs.Frame.{nodes-kept, pages-kept}
 use Rattle.trie_insert.proofs.Steps.{long-below, grow-none, grow-short, grow-broken, grow-split}
 use Rattle.trie_insert.proofs.split.grow_leaf.Statement.{statement}
 use Rattle.trie_insert.proofs.split.grow_leaf.Tie as tie

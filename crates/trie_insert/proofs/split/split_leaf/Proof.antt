@@ -1,5 +1,5 @@
 -- `split_leaf` meets its contract.
-use Rattle.trie.proofs.Frame.{nodes-kept}
+use Rattle.children.proofs.Frame.{nodes-kept}
 use Rattle.blocks.proofs.Bytes.{level-path}
 use Rattle.trie_insert.proofs.Steps.{split-leaf}
 use Rattle.trie_insert.proofs.split.split_leaf.Statement.{statement}

@@ -7,7 +7,7 @@ use borrow.Author.Tests.{eq-eqb, ne-eqb}
 use lib.ListN.{length, set, length-set}
 use lib.Seq.{getD-set-same, getD-set-other}
 use Rattle.meaning.specs.Trie.{nodes}
-use Rattle.trie.specs.Heap.{Cells, hit, nodeClaims, pageClaims, Holds, Heap, nil, node, page, _⊕_}
+use Rattle.children.specs.Heap.{Cells, hit, nodeClaims, pageClaims, Holds, Heap, nil, node, page, _⊕_}
 use Rattle.layout.specs.Tables.{NodeTable, PageTable}
 
 pub hit-other : {a b : ℕ} → (a ≡ b → ⊥) → hit b a ≡ 0

@@ -4,10 +4,10 @@ use mathlib.Core.Path.{_≡_, refl}
 use native.Mathlib.Omega.{arith}
 use borrow.Author.Needs.{needs}
 use Rattle.layout.specs.Nodes.{nodeWords}
-use Rattle.trie.specs.Model.{placeFrom, findPlace}
-use Rattle.trie.proofs.Steps.{place-out, place-none, place-broken, place-go, place-found, place-past}
-use Rattle.trie.proofs.place.find_place.Statement.{statement}
-use Rattle.trie.proofs.place.find_place.Tie as tie
+use Rattle.children.specs.Places.{placeFrom, findPlace}
+use Rattle.children.proofs.Steps.{place-out, place-none, place-broken, place-go, place-found, place-past}
+use Rattle.children.proofs.place.find_place.Statement.{statement}
+use Rattle.children.proofs.place.find_place.Tie as tie
 
 abbrev Inv-loop : tie.InvT-loop
 Inv-loop nodes cap n byte slot₀ left₀ slot left =

@@ -9,14 +9,14 @@ use lib.Dec.{ltb, eqb}
 use lib.ListN.{getD}
 use Rattle.meaning.specs.Trie.{Tree, Children, child, nodes, nodesIn}
 use Rattle.layout.specs.Nodes.{byteOf, chainWord, headAt, nodeWords, mostNodes}
-use Rattle.trie.specs.declared.place.Place.{Place}
-use Rattle.trie.specs.declared.place.Place.the-variants.{Found, Missing}
-use Rattle.trie.specs.Heap.{Cells, Holds, nil, node, _⊕_}
-use Rattle.trie.specs.Model.{linkAt, placeFrom, findPlace}
-use Rattle.trie.specs.Phys.{Phys, Buckets, Chain, root, tree, childrenB, childrenC, cells, cellsB, cellsC, Sound, SoundB, SoundC, leafP, innerP, end, bucket, stop, link}
-use Rattle.trie.proofs.Frame.{Same, same-trans, same-right, same-left, same-assoc, same-swap}
-use Rattle.trie.proofs.Abstract.{Skips, Above, Leaves, leaves-next}
-use Rattle.trie.proofs.Steps.{place-none, place-go, place-found, place-past}
+use Rattle.children.specs.declared.place.Place.{Place}
+use Rattle.children.specs.declared.place.Place.the-variants.{Found, Missing}
+use Rattle.children.specs.Heap.{Cells, Holds, nil, node, _⊕_}
+use Rattle.children.specs.Places.{linkAt, placeFrom, findPlace}
+use Rattle.children.specs.Phys.{Phys, Buckets, Chain, root, tree, childrenB, childrenC, cells, cellsB, cellsC, Sound, SoundB, SoundC, leafP, innerP, end, bucket, stop, link}
+use Rattle.children.proofs.Frame.{Same, same-trans, same-right, same-left, same-assoc, same-swap}
+use Rattle.children.proofs.Abstract.{Skips, Above, Leaves, leaves-next}
+use Rattle.children.proofs.Steps.{place-none, place-go, place-found, place-past}
 
 -- whether a chain begins with a byte
 abbrev pub starts : Chain → ℕ → Bool

@@ -7,8 +7,8 @@ use mathlib.Core.List.{List}
 use borrow.Author.Tests.{eqb-false, ltb-false}
 use lib.Dec.{ltb, eqb}
 use Rattle.layout.specs.Nodes.{headAt, nodeWords}
-use Rattle.trie.specs.declared.place.Place.the-variants.{Found, Missing, Broken}
-use Rattle.trie.specs.Model.{Inside, linkAt, childAt, byteIn, placeFrom, findPlace}
+use Rattle.children.specs.declared.place.Place.the-variants.{Found, Missing, Broken}
+use Rattle.children.specs.Places.{Inside, linkAt, childAt, byteIn, placeFrom, findPlace}
 
 module _ (N : List ℕ) (cap b : ℕ) where
   place-inside : (f s : ℕ) → s < nodeWords cap → Inside cap (placeFrom N cap b s f)

@@ -4,7 +4,7 @@ use mathlib.Core.Path.{_≡_}
 use mathlib.Core.List.{List, [], _∷_}
 use Rattle.meaning.specs.Trie.{Tree, leaf, inner, Children, none, child}
 use Rattle.layout.specs.Nodes.{chainWord, chainAt, stateAt, headAt, freeState, innerState, leafState}
-use Rattle.trie.specs.Heap.{Cells, Heap, nil, node, page, _⊕_}
+use Rattle.children.specs.Heap.{Cells, Heap, nil, node, page, _⊕_}
 use Rattle.layout.specs.Tables.{NodeTable, PageTable}
 
 mutual

@@ -2,7 +2,7 @@
 ghost use mathlib.Core.Path.{_≡_};
 ghost use Prim.Native.Nat.{_<_};
 ghost use Rattle.layout.specs.Tables.{NodeTable};
-ghost use Rattle.trie.specs.Model.{Inside, findPlace};
+ghost use Rattle.children.specs.Places.{Inside, findPlace};
 use layout::nodes::LINKS;
 
 // Where a byte belongs among a node's children: the slot that links to its child, with the child, or that is to.

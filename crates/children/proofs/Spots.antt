@@ -6,10 +6,10 @@ use mathlib.Core.Bool.{Bool, true, false, cond}
 use borrow.Author.Tests.{lt-ltb, le-ltb, ne-eqb}
 use Rattle.meaning.specs.Trie.{Tree, leaf, inner, Children, none, child, nodes}
 use Rattle.layout.specs.Nodes.{mostNodes}
-use Rattle.trie.specs.Phys.{Phys, Buckets, Chain, tree, childrenB, childrenC, SoundC, stop, link}
-use Rattle.trie.proofs.Abstract.{Skips, Above}
-use Rattle.trie.proofs.Spot.{starts, SpotB}
-use Rattle.trie.proofs.Fresh.{tail-above}
+use Rattle.children.specs.Phys.{Phys, Buckets, Chain, tree, childrenB, childrenC, SoundC, stop, link}
+use Rattle.children.proofs.Abstract.{Skips, Above}
+use Rattle.children.proofs.Spot.{starts, SpotB}
+use Rattle.children.proofs.Chains.{tail-above}
 use Rattle.trie_laws.specs.Path.{has, childBy, setChild, dropChild, putChild}
 use Rattle.trie_laws.proofs.Lists.{holds, fails, truth}
 use Rattle.trie_laws.proofs.Children.{has-put, child-put, set-put, drop-put, drop-nodes}

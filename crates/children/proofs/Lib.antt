@@ -1,0 +1,7 @@
+pub mod Frame
+pub mod Abstract
+pub mod Steps
+pub mod Places
+pub mod Spot
+pub mod Chains
+pub mod Spots
