@@ -24,7 +24,7 @@ use Rattle.layout.proofs.Tests.{and-left, and-right}
 use Rattle.layout.proofs.Words.{word-inside}
 use Rattle.promises.specs.Tables.{Tables, tables, given, byTables}
 use Rattle.promises.specs.Answers.{number, entered, shown56, longSettings, longFor, longNodes, longPages}
-use Rattle.add_page.specs.Admission.{admission}
+use Rattle.entry.specs.Admission.{admission}
 
 -- 6, of the tables behind the settings table
 abbrev pub longAll : List ℕ → List ℕ → List ℕ → Header → Bool

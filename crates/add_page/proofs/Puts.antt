@@ -15,14 +15,14 @@ use Rattle.trie.specs.declared.span.Span.the-variants.{Enough, Short}
 use Rattle.trie.specs.declared.span.Span.the-variants as spans
 use Rattle.promises.specs.Tables.{Tables, tables, given}
 use Rattle.promises.specs.Store.{outcome}
-use Rattle.add_page.specs.declared.insert.Inserted.{Inserted}
-use Rattle.add_page.specs.declared.insert.Inserted.the-variants.{Free}
-use Rattle.add_page.specs.declared.insert.Inserted.the-variants as insertion
-use Rattle.add_page.specs.Admission.{admission}
-use Rattle.add_page.specs.Room.{roomOf}
-use Rattle.add_page.specs.Insert.{filled, insertAll}
-use Rattle.add_page.specs.Add.{rowAdded, onFilled, putPage, onRoom, placePage, onOpening, addPage}
-use Rattle.add_page.proofs.Passed.{same-settings}
+use Rattle.add_laws.specs.declared.Inserted.{Inserted}
+use Rattle.add_laws.specs.declared.Inserted.the-variants.{Free}
+use Rattle.add_laws.specs.declared.Inserted.the-variants as insertion
+use Rattle.entry.specs.Admission.{admission}
+use Rattle.add_laws.specs.Room.{roomOf}
+use Rattle.add_laws.specs.Insert.{filled, insertAll}
+use Rattle.add_laws.specs.Add.{rowAdded, onFilled, putPage, onRoom, placePage, onOpening, addPage}
+use Rattle.add_laws.proofs.Passed.{same-settings}
 
 module _ (T : Tables) (h : Header) (header : headerOf (given T) ≡ h) (p c : ℕ) (x τ : List ℕ) (levels : τ ≡ given T .thresholds)
     (free : ℕ) (link : free ≡ getD (T .settings) freeAt 0) where

@@ -1,22 +1,18 @@
 // The page put into the trie of each block. Its row is in the sketch table by now: a split reads the rows of all pages of the leaf.
 ghost use mathlib.Core.Path.{_≡_};
 ghost use Prim.Native.Nat.{_<_};
+ghost use lib.ListN.{length};
 ghost use Rattle.layout.specs.Header.{withThresholds};
+ghost use Rattle.layout.specs.Tables.{Lent, Fits};
 ghost use Rattle.trie_insert.specs.Pages.{after};
-ghost use Rattle.add_page.specs.Lent.{Fits, Lent};
-ghost use Rattle.add_page.specs.Insert.{filled, insertBlock, insertAll};
-use crate::pack;
+ghost use Rattle.add_laws.specs.Insert.{filled, insertBlock, insertAll};
+use add_laws::Inserted;
 use blocks::block_of;
+use blocks::packed::block_bytes;
 use blocks::rows_of;
 use layout::Header;
 use trie::leaf::Got;
 use trie_insert::insert::insert_page;
-
-// The free link then, or that a link led outside.
-pub enum Inserted {
-    Free(u32),
-    Broken,
-}
 
 fn insert_block(
     nodes: &mut [u32],
@@ -29,13 +25,14 @@ fn insert_block(
     j: usize,
     free: u32,
 ) -> Got
-    requires { ⌜ Lent h (now thresholds) (now nodes) (now pages) (now sketches) ⌝ }
+    requires { ⌜ Lent h (now nodes) (now pages) (now sketches) ⌝ }
+    requires { ⌜ length (now thresholds) ≡ 64 ⌝ }
     requires { ⌜ Fits h (now sketch) ⌝ }
     requires { ⌜ p < h .pages ⌝ }
     requires { ⌜ j < h .q ⌝ }
     ensures { λ r. ⌜ after (now (nodes .exit)) (now (pages .exit)) r ≡ insertBlock (withThresholds h (now (thresholds .entry))) (now (sketches .entry)) (now (sketch .entry)) p j (now (nodes .entry)) (now (pages .entry)) free ⌝ }
 {
-    let bytes = pack::block_bytes(h, sketch, j);
+    let bytes = block_bytes(h, sketch, j);
     let block = block_of(h, j);
     let rows = rows_of(h, j);
     let n = rows.bytes;
@@ -53,6 +50,7 @@ fn insert_block(
     )
 }
 
+// The free link then, or that it stopped on unsound tables.
 pub fn insert_all(
     nodes: &mut [u32],
     pages: &mut [u32],
@@ -63,7 +61,8 @@ pub fn insert_all(
     p: usize,
     free: u32,
 ) -> Inserted
-    requires { ⌜ Lent h (now thresholds) (now nodes) (now pages) (now sketches) ⌝ }
+    requires { ⌜ Lent h (now nodes) (now pages) (now sketches) ⌝ }
+    requires { ⌜ length (now thresholds) ≡ 64 ⌝ }
     requires { ⌜ Fits h (now sketch) ⌝ }
     requires { ⌜ p < h .pages ⌝ }
     ensures { λ r. ⌜ filled (now (nodes .exit)) (now (pages .exit)) r ≡ insertAll (withThresholds h (now (thresholds .entry))) (now (sketches .entry)) (now (sketch .entry)) p (now (nodes .entry)) (now (pages .entry)) free ⌝ }

@@ -9,7 +9,7 @@ ghost use Rattle.layout.specs.Header.{bare};
 ghost use Rattle.layout.specs.Limits.{HeaderLimits};
 ghost use Rattle.layout.specs.Lengths.{nodesLength, pagesLength, sketchesLength};
 ghost use Rattle.promises.specs.Tables.{tables};
-ghost use Rattle.add_page.specs.Admission.{admission};
+ghost use Rattle.entry.specs.Admission.{admission};
 use layout::Header;
 use layout::Opening;
 

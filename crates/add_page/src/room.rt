@@ -1,11 +1,12 @@
 // Question 12, before anything is written: are the nodes that the add needs free?
 ghost use mathlib.Core.Path.{_≡_};
 ghost use Prim.Native.Nat.{_<_};
+ghost use lib.ListN.{length};
 ghost use Rattle.layout.specs.Header.{withThresholds};
-ghost use Rattle.add_page.specs.Lent.{Fits, Lent};
-ghost use Rattle.add_page.specs.Room.{blockNeeds, allNeeded, roomOf};
-use crate::pack;
+ghost use Rattle.layout.specs.Tables.{Lent, Fits};
+ghost use Rattle.add_laws.specs.Room.{blockNeeds, allNeeded, roomOf};
 use blocks::block_of;
+use blocks::packed::block_bytes;
 use blocks::rows_of;
 use layout::Header;
 use trie::span::Span;
@@ -23,12 +24,13 @@ fn block_needs(
     sketch: &[u8],
     j: usize,
 ) -> Needed
-    requires { ⌜ Lent h (now thresholds) (now nodes) (now pages) (now sketches) ⌝ }
+    requires { ⌜ Lent h (now nodes) (now pages) (now sketches) ⌝ }
+    requires { ⌜ length (now thresholds) ≡ 64 ⌝ }
     requires { ⌜ Fits h (now sketch) ⌝ }
     requires { ⌜ j < h .q ⌝ }
     ensures { λ r. ⌜ r ≡ blockNeeds (withThresholds h (now (thresholds .entry))) (now (nodes .entry)) (now (pages .entry)) (now (sketches .entry)) (now (sketch .entry)) j ⌝ }
 {
-    let bytes = pack::block_bytes(h, sketch, j);
+    let bytes = block_bytes(h, sketch, j);
     let block = block_of(h, j);
     let rows = rows_of(h, j);
     let n = rows.bytes;
@@ -53,7 +55,8 @@ fn all_needed(
     h: Header,
     sketch: &[u8],
 ) -> Needed
-    requires { ⌜ Lent h (now thresholds) (now nodes) (now pages) (now sketches) ⌝ }
+    requires { ⌜ Lent h (now nodes) (now pages) (now sketches) ⌝ }
+    requires { ⌜ length (now thresholds) ≡ 64 ⌝ }
     requires { ⌜ Fits h (now sketch) ⌝ }
     ensures { λ r. ⌜ r ≡ allNeeded (withThresholds h (now (thresholds .entry))) (now (nodes .entry)) (now (pages .entry)) (now (sketches .entry)) (now (sketch .entry)) ⌝ }
 {
@@ -85,7 +88,8 @@ pub fn room(
     sketch: &[u8],
     free: u32,
 ) -> Span
-    requires { ⌜ Lent h (now thresholds) (now nodes) (now pages) (now sketches) ⌝ }
+    requires { ⌜ Lent h (now nodes) (now pages) (now sketches) ⌝ }
+    requires { ⌜ length (now thresholds) ≡ 64 ⌝ }
     requires { ⌜ Fits h (now sketch) ⌝ }
     ensures { λ r. ⌜ r ≡ roomOf (withThresholds h (now (thresholds .entry))) (now (nodes .entry)) (now (pages .entry)) (now (sketches .entry)) (now (sketch .entry)) free ⌝ }
 {

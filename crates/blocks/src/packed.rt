@@ -1,12 +1,21 @@
 // The packed bytes of a page.
 ghost use mathlib.Core.Path.{_≡_};
 ghost use Prim.Native.Nat.{_+_, _*_, _<_, _≤_};
-ghost use lib.ListN.{length};
+ghost use lib.ListN.{length, take};
+ghost use Rattle.meaning.specs.Forest.{blockBytes, bytesOfSketch};
+ghost use Rattle.layout.specs.Header.{bare};
+ghost use Rattle.layout.specs.Limits.{HeaderLimits};
+ghost use Rattle.layout.specs.Lengths.{sketchesLength};
+ghost use Rattle.layout.specs.Tables.{Fits};
 ghost use Rattle.blocks.specs.Tables.{SketchTable};
 ghost use Rattle.blocks.specs.Packed.{rowByte, pageByte, levelAt};
+ghost use Rattle.blocks.specs.RowBytes.{rowBytes};
 use crate::Level;
 use crate::Rows;
+use crate::block_of;
+use crate::rows_of;
 use layout::Block;
+use layout::Header;
 
 // The packed byte of `count` symbols of the sketch table from `at` on, each taken modulo 2^b, so that any table gives a byte.
 pub fn row_byte(b: u32, sketches: &[u8], at: usize, count: usize) -> u32
@@ -71,4 +80,37 @@ pub fn level_at(rows: Rows, k: usize) -> Level
         from,
         count: rows.per,
     }
+}
+
+// The packed bytes of block j of a page's row, at the beginning. Symbols are taken modulo 2^b, so that every table has such bytes.
+pub fn row_bytes(h: Header, sketches: &[u8], p: usize, j: usize) -> [u8; 64]
+    requires { ⌜ HeaderLimits h ⌝ }
+    requires { ⌜ sketchesLength (bare h) ≤ length (now sketches) ⌝ }
+    requires { ⌜ p < h .pages ⌝ }
+    requires { ⌜ j < h .q ⌝ }
+    ensures { λ r. ⌜ take (blockBytes (bare h) j) r ≡ rowBytes (bare h) j (now (sketches .entry)) p ⌝ }
+{
+    let block = block_of(h, j);
+    let rows = rows_of(h, j);
+    let n = rows.bytes;
+    let mut bytes = [0u8; 64];
+    let mut k = 0;
+    while k < n {
+        let level = level_at(rows, k);
+        bytes[k] = page_byte(sketches, level, block, p) as u8;
+        k += 1;
+    }
+    bytes
+}
+
+// The packed bytes of block j of a sketch, at the beginning.
+pub fn block_bytes(h: Header, sketch: &[u8], j: usize) -> [u8; 64]
+    requires { ⌜ HeaderLimits h ⌝ }
+    requires { ⌜ Fits h (now sketch) ⌝ }
+    requires { ⌜ j < h .q ⌝ }
+    ensures { λ r. ⌜ take (blockBytes (bare h) j) r ≡ bytesOfSketch (bare h) j (now (sketch .entry)) ⌝ }
+{
+    let mut bytes = [0u8; 64];
+    sketch::blocks::pack_block(h.b as u32, h.m, h.q, j, sketch, &mut bytes);
+    bytes
 }

@@ -13,7 +13,7 @@ ghost use Rattle.promises.specs.Calls.{settingsGiven};
 ghost use Rattle.promises.specs.Readings.{startShown, lengthShown};
 ghost use Rattle.promises.specs.Store.{outcome};
 ghost use Rattle.promises.specs.Relation.{numberAlone, withList, withVerdict, Promised, OnSettings, OnStore, OnShow};
-ghost use Rattle.add_page.specs.Add.{addPage};
+ghost use Rattle.add_laws.specs.Add.{addPage};
 ghost use Rattle.drop_laws.specs.After.{dropPage};
 ghost use Rattle.search_laws.specs.Answer.{AnsweredBy};
 ghost use Rattle.open.specs.Lengths.{lengthsOf};

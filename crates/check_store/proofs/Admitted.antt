@@ -15,18 +15,18 @@ use Rattle.layout.specs.Limits.{HeaderLimits}
 use Rattle.layout.specs.Lengths.{workingLength}
 use Rattle.layout.specs.Settings.{settingsLength}
 use Rattle.layout.specs.Working.{mapWords}
+use Rattle.layout.specs.Tables.{Lent}
 use Rattle.layout.proofs.Sizes.{SameLengths, same-lengths, map-most}
 use Rattle.promises.specs.Tables.{Tables, given}
 use Rattle.promises.specs.Answers.{number, entered, shown56, longSettings, longFor}
 use Rattle.entry.specs.Entry.{tablesAsked, entry}
 use Rattle.entry.proofs.Enters.{Entered, entry-refused, entry-shown}
-use Rattle.check_store.specs.Lent.{Lent}
 
 pub record Admitted (T : Tables) (h : Header) : Type 0 where
   pub answers : number T [] (reading check) ≡ 0
   pub header : headerOf (given T) ≡ h
   pub settings : settingsLength ≤ length (T .settings)
-  pub lent : Lent (given T) (T .nodes) (T .pages) (T .sketches)
+  pub lent : Lent (headerOf (given T)) (T .nodes) (T .pages) (T .sketches)
   pub working : workingLength (given T) ≤ length (T .working)
 
 module _ (T : Tables) where
@@ -47,12 +47,9 @@ module _ (T : Tables) where
         answers = asked-first ∙ o .none;
         header = o .header;
         settings = o .settings-long;
-        lent = record {
-          limits = rw (o .header) (o .limits);
-          nodes-long = omega (arith, same .nodes, o .nodes-long);
-          pages-long = omega (arith, same .pages, o .pages-long);
-          sketches-long = omega (arith, same .sketches, o .sketches-long);
-        };
+        lent =
+            rw (o .header)
+            (record { limits = o .limits; nodes-long = o .nodes-long; pages-long = o .pages-long; sketches-long = o .sketches-long });
         working = omega (arith, same .working, o .working-long);
       }
 
@@ -71,16 +68,11 @@ module _ (T : Tables) (h : Header) (a : Admitted T h) where
   abbrev same : SameLengths (given T) h
   same = same-lengths (given T) h (a .header)
 
-  pub header-limits : HeaderLimits h
-  header-limits = rw (← (a .header)) (a .lent .limits)
+  pub lent-header : Lent h (T .nodes) (T .pages) (T .sketches)
+  lent-header = rw (← (a .header)) (a .lent)
 
-  pub lent-header : Lent (bare h) (T .nodes) (T .pages) (T .sketches)
-  lent-header = record {
-    limits = header-limits;
-    nodes-long = omega (arith, same .nodes, a .lent .nodes-long);
-    pages-long = omega (arith, same .pages, a .lent .pages-long);
-    sketches-long = omega (arith, same .sketches, a .lent .sketches-long);
-  }
+  pub header-limits : HeaderLimits h
+  header-limits = lent-header .limits
 
   pub words-most : mapWords (bare h) ≤ 2048
   words-most = map-most (bare h) header-limits

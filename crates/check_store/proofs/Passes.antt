@@ -13,12 +13,13 @@ use lib.Dec.{ltb}
 use lib.ListN.{length}
 use Rattle.meaning.specs.Ledger.{Settings}
 use Rattle.meaning.specs.Forest.{totalNodes}
+use Rattle.layout.specs.Header.{headerOf}
+use Rattle.layout.specs.Tables.{Lent}
 use Rattle.words.specs.Bits.{flag, zeroed}
 use Rattle.words.proofs.Flags.{length-zeroed, flag-zeroed}
 use Rattle.children.specs.Phys.{Phys, tree}
 use Rattle.trie_check_laws.specs.Found.{one}
 use Rattle.trie_check_laws.proofs.RightTests.{passed as taken}
-use Rattle.check_store.specs.Lent.{Lent}
 use Rattle.check_store.specs.Windows.{Passed, passed, onYes, windowAt, blocksFrom, blockGiven, testWindow, windowsFrom, testWindows}
 use Rattle.check_store.proofs.Tries.{Each, usesAll, InPlace, passed-no, blocks-right, blocks-whole, same-tries}
 
@@ -26,7 +27,7 @@ one-most : (q : Bool) → one q ≤ 1
 one-most true = omega arith
 one-most false = omega arith
 
-module _ (s : Settings) (N P S : List ℕ) (live : ℕ) (lent : Lent s N P S) (words left : ℕ) where
+module _ (s : Settings) (N P S : List ℕ) (live : ℕ) (lent : Lent (headerOf s) N P S) (words left : ℕ) where
   abbrev size : ℕ
   size = 32 * words
 

@@ -15,6 +15,8 @@ use Rattle.meaning.specs.Ledger.{Settings}
 use Rattle.meaning.specs.Forest.{blockBytes}
 use Rattle.layout.specs.Settings.{freeAt}
 use Rattle.layout.specs.Pages.{isLive}
+use Rattle.layout.specs.Header.{headerOf}
+use Rattle.layout.specs.Tables.{Lent}
 use Rattle.children.specs.Heap.{Holds}
 use Rattle.children.specs.Phys.{Phys, tree}
 use Rattle.trie_laws.specs.Sound.{Stands}
@@ -31,7 +33,6 @@ use Rattle.trie_check_laws.proofs.Once.{pages-stand}
 use Rattle.trie_check_laws.proofs.Once.{pages-once as page-once}
 use Rattle.promises.specs.Tables.{Tables, given, pageClass, pageRow}
 use Rattle.promises.specs.Sound.{triesCells, Rooted, livePage, pageBytes, SoundPage, Sound}
-use Rattle.check_store.specs.Lent.{Lent}
 use Rattle.check_store.specs.Pages.{pageFits, testPages}
 use Rattle.check_store.specs.Free.{testFree}
 use Rattle.check_store.specs.Windows.{passed, onLeft, windowAt, blockGiven, testWindows}
@@ -95,7 +96,7 @@ module _ (T : Tables) where
     sound-blocks j [] a = tt
     sound-blocks j (t ∷ ts) a = (sound-block j t (a .0), sound-blocks (suc j) ts (a .1))
 
-  module _ (lent : Lent s (T .nodes) (T .pages) (T .sketches)) (words : ℕ) (map map′ : List ℕ) (long : words ≤ length map) (enough : s .nodes ≤ 8 * (32 * words)) where
+  module _ (lent : Lent (headerOf s) (T .nodes) (T .pages) (T .sketches)) (words : ℕ) (map map′ : List ℕ) (long : words ≤ length map) (enough : s .nodes ≤ 8 * (32 * words)) where
     abbrev free : ℕ
     free = getD (T .settings) freeAt 0
 

@@ -15,6 +15,8 @@ use Rattle.meaning.specs.Forest.{blockBytes, totalNodes}
 use Rattle.words.specs.Bits.{flag}
 use Rattle.layout.specs.Nodes.{mostNodes}
 use Rattle.layout.specs.Pages.{nextAt, isLive}
+use Rattle.layout.specs.Header.{headerOf}
+use Rattle.layout.specs.Tables.{Lent}
 use Rattle.children.specs.Heap.{Holds}
 use Rattle.children.specs.Phys.{Phys, root, tree, cells}
 use Rattle.children.specs.Phys.{Sound as SoundNodes}
@@ -32,7 +34,6 @@ use Rattle.trie_check_laws.specs.Found.{Reads, Found, Marked, one}
 use Rattle.trie_check_laws.proofs.RightTrie.{test-right}
 use Rattle.trie_check_laws.proofs.WholeTrie.{test-whole}
 use Rattle.trie_check_laws.proofs.Same.{same-trie}
-use Rattle.check_store.specs.Lent.{Lent}
 use Rattle.check_store.specs.Windows.{Passed, passed, onLeft, blocksFrom, blockGiven}
 use Rattle.check_store.proofs.Fits.{fitting, root-inside}
 
@@ -97,7 +98,7 @@ module _ (s : Settings) (N P S : List ℕ) (live : ℕ) where
   reads w j l p k lp lk = level-byte s j l S k p
 
   -- ---- where the test says yes
-  module _ (lent : Lent s N P S) (w : Window) where
+  module _ (lent : Lent (headerOf s) N P S) (w : Window) where
     pub record Right (k j : ℕ) (map map′ : List ℕ) (left : ℕ) : Type 0 where
       pub tries : List Phys
       pub many : length tries ≡ k
@@ -159,7 +160,7 @@ module _ (s : Settings) (N P S : List ℕ) (live : ℕ) where
         (same-tries (suc j) ts us (omega arith) (a .1) (b .1))
 
   -- ---- tries that lie in the tables
-  module _ (lent : Lent s N P S) (w : Window) where
+  module _ (lent : Lent (headerOf s) N P S) (w : Window) where
     none : (map : List ℕ) (j : ℕ) → blocksFrom (blockGiven s N P S w) live 0 j map 0 ≡ passed map true
     unfolding blocksFrom
     none map j = refl

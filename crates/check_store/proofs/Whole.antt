@@ -18,6 +18,8 @@ use Rattle.meaning.specs.Forest.{blockBytes, totalNodes}
 use Rattle.layout.specs.Nodes.{stateAt}
 use Rattle.layout.specs.Settings.{freeAt}
 use Rattle.layout.specs.Pages.{isLive}
+use Rattle.layout.specs.Header.{headerOf}
+use Rattle.layout.specs.Tables.{Lent}
 use Rattle.sketch_laws.proofs.Lists.{count-same}
 use Rattle.children.specs.Heap.{Holds}
 use Rattle.children.specs.Phys.{Phys, tree}
@@ -31,7 +33,6 @@ use Rattle.blocks.proofs.RowBytes.{row-same}
 use Rattle.node_check.specs.declared.leaf.Left.the-variants.{Some}
 use Rattle.promises.specs.Tables.{Tables, given, pageClass, pageRow}
 use Rattle.promises.specs.Sound.{triesCells, Rooted, livePage, pageBytes, Sound}
-use Rattle.check_store.specs.Lent.{Lent}
 use Rattle.check_store.specs.Free.{testFree}
 use Rattle.check_store.specs.Windows.{passed, testWindows}
 use Rattle.check_store.specs.Store.{testStore}
@@ -110,7 +111,7 @@ module _ (T : Tables) (F : List Tree) (sound : Sound T F) where
       (λ l. omega (arith, h .words .nodes (stateAt (s .nodes) x), tries-state (s .nodes) (s .pages) x l (sound .tries) 0 (h .roots)))
       (λ l. omega (arith, tries-beyond (s .nodes) (s .pages) x (omega arith) (sound .tries) 0 (h .roots)))
 
-  module _ (lent : Lent s N P S) (words : ℕ) (map : List ℕ) (long : words ≤ length map) where
+  module _ (lent : Lent (headerOf s) N P S) (words : ℕ) (map : List ℕ) (long : words ≤ length map) where
     abbrev left : ℕ
     left = totalNodes (each tree (sound .tries))
 

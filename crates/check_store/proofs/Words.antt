@@ -17,7 +17,7 @@ use Rattle.children.specs.Phys.{Sound as SoundNodes}
 use Rattle.meaning.specs.Trie.{pagesIn}
 use Rattle.trie_check_laws.specs.Uses.{uses}
 use Rattle.trie_check_laws.proofs.Claims.{owner, trie-words, state-claims, free-words, uses-beyond, used-state, free-zero}
-use Rattle.add_page.proofs.Claims.{no-heads, trie-claims, trie-none}
+use Rattle.store.proofs.Claims.{free-none, trie-claims, trie-none, tries-behind}
 use Rattle.promises.specs.Sound.{triesCells, Rooted}
 use Rattle.check_store.proofs.Tries.{Each, usesAll}
 use Rattle.check_store.proofs.FreeChain.{free-once}
@@ -59,10 +59,6 @@ module _ (cap pcap : ℕ) where
     nodes-once a = omega (arith, tries-words a ts 0 rooted, free-words cap a fs below, either (owner cap a))
 
   -- ---- the page table
-  free-pages : (fs : List ℕ) (a : ℕ) → pageClaims (freeCells cap fs) a ≡ 0
-  free-pages [] a = refl
-  free-pages (f ∷ fs) a = omega (arith, no-heads cap f a, free-pages fs a)
-
   abbrev pub Once : ℕ → Phys → Type 0
   Once j t = (x : ℕ) → count (eqb x) (pagesIn (tree t)) ≤ 1
 
@@ -80,17 +76,12 @@ module _ (cap pcap : ℕ) where
         let at : base + (a - base) ≡ a = omega arith in
         omega (arith, ap (λ n. pageClaims (cells cap base t) n) at, trie-claims cap base (a - base) t, once (a - base)))
 
-    pub pages-before : (ts : List Phys) (j : ℕ) → Rooted cap pcap j ts → a < nextAt pcap j → pageClaims (triesCells cap pcap j ts) a ≡ 0
-    pages-before [] j r l = refl
-    pages-before (t ∷ ts) j r l =
-        omega (arith, trie-none cap pcap (nextAt pcap j) a (λ x k e. omega arith) t (r .1), pages-before ts (suc j) (r .2) (omega (arith, next j)))
-
     tries-pages : (ts : List Phys) (j : ℕ) → Rooted cap pcap j ts → Each Once j ts → pageClaims (triesCells cap pcap j ts) a ≤ 1
     tries-pages [] j r o = omega arith
     tries-pages (t ∷ ts) j r o =
         by-cases (decLt a (nextAt pcap (suc j)))
-        (λ l. omega (arith, block-once (nextAt pcap j) t (r .1) (o .0), pages-before ts (suc j) (r .2) l))
+        (λ l. omega (arith, block-once (nextAt pcap j) t (r .1) (o .0), tries-behind cap pcap a ts (suc j) (r .2) l))
         (λ l. omega (arith, trie-none cap pcap (nextAt pcap j) a (λ x k e. omega (arith, next j)) t (r .1), tries-pages ts (suc j) (r .2) (o .1)))
 
   pub pages-once : (ts : List Phys) (fs : List ℕ) → Rooted cap pcap 0 ts → Each Once 0 ts → (a : ℕ) → pageClaims (triesCells cap pcap 0 ts ⊕ freeCells cap fs) a ≤ 1
-  pages-once ts fs r o a = omega (arith, tries-pages a ts 0 r o, free-pages fs a)
+  pages-once ts fs r o a = omega (arith, tries-pages a ts 0 r o, free-none cap a fs)

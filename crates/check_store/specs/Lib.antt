@@ -1,4 +1,3 @@
-pub mod Lent
 pub mod Pages
 pub mod Free
 pub mod Windows

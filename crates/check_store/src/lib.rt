@@ -4,8 +4,8 @@ ghost use Prim.Native.Nat.{_≤_};
 ghost use lib.ListN.{length};
 ghost use Rattle.meaning.specs.Ledger.{check, reading};
 ghost use Rattle.layout.specs.Header.{bare};
+ghost use Rattle.layout.specs.Tables.{Lent};
 ghost use Rattle.promises.specs.Tables.{tables};
-ghost use Rattle.check_store.specs.Lent.{Lent};
 ghost use Rattle.check_store.specs.Windows.{passed};
 ghost use Rattle.check_store.specs.Store.{testStore};
 ghost use Rattle.promises.specs.Relation.{withVerdict, Promised};
@@ -32,7 +32,7 @@ fn test_store(
     h: Header,
     free: u32,
 ) -> bool
-    requires { ⌜ Lent (bare h) (now nodes) (now pages) (now sketches) ⌝ }
+    requires { ⌜ Lent h (now nodes) (now pages) (now sketches) ⌝ }
     requires { ⌜ length (now map) ≤ 2048 ⌝ }
     ensures { λ r. ⌜ passed (now (map .exit)) r ≡ testStore (bare h) (now (nodes .entry)) (now (pages .entry)) (now (sketches .entry)) free (length (now (map .entry))) (now (map .entry)) ⌝ }
 {

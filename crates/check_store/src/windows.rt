@@ -4,11 +4,11 @@ ghost use mathlib.Core.Path.{_≡_};
 ghost use Prim.Native.Nat.{_*_, _≤_, _<_};
 ghost use lib.ListN.{length};
 ghost use Rattle.layout.specs.Header.{bare};
+ghost use Rattle.layout.specs.Tables.{Lent};
 ghost use Rattle.trie_check.specs.Trie.{tested, testTrie};
-ghost use Rattle.check_store.specs.Lent.{Lent};
 ghost use Rattle.check_store.specs.Windows.{passed, blocksFrom, blockGiven, testWindow, testWindows};
+use blocks::block_of;
 use blocks::rows_of;
-use layout::Block;
 use layout::Header;
 use node_check::leaf::Left;
 use node_check::mark::Window;
@@ -30,18 +30,13 @@ fn test_block(
     left: u32,
     live: u32,
 ) -> Left
-    requires { ⌜ Lent (bare h) (now nodes) (now pages) (now sketches) ⌝ }
+    requires { ⌜ Lent h (now nodes) (now pages) (now sketches) ⌝ }
     requires { ⌜ window .size ≤ 32 * length (now map) ⌝ }
     requires { ⌜ j < h .q ⌝ }
     ensures { λ r. ⌜ tested (now (map .exit)) r ≡ testTrie (blockGiven (bare h) (now (nodes .entry)) (now (pages .entry)) (now (sketches .entry)) window j) j (now (map .entry)) left live ⌝ }
 {
-    let block = Block {
-        nodes: h.nodes,
-        pages: h.pages,
-        base: layout::pages::next_at(h.pages, j),
-    };
     let scope = Scope {
-        block,
+        block: block_of(h, j),
         rows: rows_of(h, j),
         window,
     };
@@ -59,7 +54,7 @@ fn test_blocks(
     budget: u32,
     live: u32,
 ) -> bool
-    requires { ⌜ Lent (bare h) (now nodes) (now pages) (now sketches) ⌝ }
+    requires { ⌜ Lent h (now nodes) (now pages) (now sketches) ⌝ }
     requires { ⌜ window .size ≤ 32 * length (now map) ⌝ }
     ensures { λ r. ⌜ passed (now (map .exit)) r ≡ blocksFrom (blockGiven (bare h) (now (nodes .entry)) (now (pages .entry)) (now (sketches .entry)) window) live (h .q) 0 (now (map .entry)) budget ⌝ }
 {
@@ -92,7 +87,7 @@ fn test_window(
     left: u32,
     live: u32,
 ) -> bool
-    requires { ⌜ Lent (bare h) (now nodes) (now pages) (now sketches) ⌝ }
+    requires { ⌜ Lent h (now nodes) (now pages) (now sketches) ⌝ }
     requires { ⌜ length (now map) ≤ 2048 ⌝ }
     ensures { λ r. ⌜ passed (now (map .exit)) r ≡ testWindow (bare h) (now (nodes .entry)) (now (pages .entry)) (now (sketches .entry)) (length (now (map .entry))) left live from (now (map .entry)) ⌝ }
 {
@@ -115,7 +110,7 @@ pub fn test_windows(
     left: u32,
     live: u32,
 ) -> bool
-    requires { ⌜ Lent (bare h) (now nodes) (now pages) (now sketches) ⌝ }
+    requires { ⌜ Lent h (now nodes) (now pages) (now sketches) ⌝ }
     requires { ⌜ length (now map) ≤ 2048 ⌝ }
     ensures { λ r. ⌜ passed (now (map .exit)) r ≡ testWindows (bare h) (now (nodes .entry)) (now (pages .entry)) (now (sketches .entry)) (length (now (map .entry))) left live (now (map .entry)) ⌝ }
 {

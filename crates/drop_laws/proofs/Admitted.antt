@@ -16,25 +16,21 @@ use Rattle.layout.specs.Settings.{settingsLength, showsOpening}
 use Rattle.layout.specs.declared.Header.{Header}
 use Rattle.layout.specs.declared.Opening.the-variants.{Shown, Refused}
 use Rattle.layout.specs.Header.{headerOf, tablesFirst, pick}
-use Rattle.layout.specs.Limits.{HeaderLimits}
 use Rattle.layout.specs.Lengths.{nodesLength, pagesLength, sketchesLength}
 use Rattle.layout.specs.Pages.{isLive}
+use Rattle.layout.specs.Tables.{Lent}
 use Rattle.layout.proofs.Openings.{shown, shows}
-use Rattle.layout.proofs.Rows.{rows-apart, row-inside}
+use Rattle.layout.proofs.Rows.{row-inside}
 use Rattle.layout.proofs.Tests.{and-left, and-right}
 use Rattle.layout.proofs.Words.{class-inside}
 use Rattle.promises.specs.Tables.{Tables, given, byTables}
 use Rattle.promises.specs.Answers.{number, entered, shown56, longSettings, longFor, longNodes, longPages}
 use Rattle.entry.proofs.Questions.{all-yes}
-use Rattle.add_page.specs.Admission.{admission}
-use Rattle.add_page.proofs.Enough.{Roomy}
+use Rattle.entry.specs.Admission.{admission}
 
 pub record Admitted (T : Tables) (p : ℕ) : Type 0 where
   pub long : settingsLength ≤ length (T .settings)
-  pub limits : HeaderLimits (headerOf (given T))
-  pub nodes-long : nodesLength (given T) ≤ length (T .nodes)
-  pub pages-long : pagesLength (given T) ≤ length (T .pages)
-  pub sketches-long : sketchesLength (given T) ≤ length (T .sketches)
+  pub lent : Lent (headerOf (given T)) (T .nodes) (T .pages) (T .sketches)
   pub page : p < given T .pages
   pub live : isLive (T .pages) p ≡ true
 
@@ -49,7 +45,7 @@ module _ (T : Tables) (p : ℕ) where
   first-asked = refl
 
   pub admitted : number T [] (drop p) ≡ 0 → Admitted T p
-  unfolding longFor longNodes longPages asked byTables
+  unfolding longFor longNodes longPages asked byTables nodesLength pagesLength sketchesLength
   admitted z =
       let yes = all-yes (tablesFirst (T .settings) (longFor (given T) T (drop p)) (asked (byTables T []) (drop p))) (omega arith) (sym first-asked ∙ z) in
       let long = leb-true settingsLength (length (T .settings)) (yes .0) in
@@ -57,10 +53,12 @@ module _ (T : Tables) (p : ℕ) where
       let behind = and-right (leb (nodesLength (given T)) (length (T .nodes))) (longPages (given T) T) fit in
       record {
         long = long;
-        limits = shown (T .settings) (headerOf (given T)) (shows (T .settings) long (and-left (showsOpening (T .settings)) (longFor (given T) T (drop p)) (yes .1 .0))) .limits;
-        nodes-long = leb-true (nodesLength (given T)) (length (T .nodes)) (and-left (leb (nodesLength (given T)) (length (T .nodes))) (longPages (given T) T) fit);
-        pages-long = leb-true (pagesLength (given T)) (length (T .pages)) (and-left (leb (pagesLength (given T)) (length (T .pages))) (leb (sketchesLength (given T)) (length (T .sketches))) behind);
-        sketches-long = leb-true (sketchesLength (given T)) (length (T .sketches)) (and-right (leb (pagesLength (given T)) (length (T .pages))) (leb (sketchesLength (given T)) (length (T .sketches))) behind);
+        lent = record {
+          limits = shown (T .settings) (headerOf (given T)) (shows (T .settings) long (and-left (showsOpening (T .settings)) (longFor (given T) T (drop p)) (yes .1 .0))) .limits;
+          nodes-long = leb-true (nodesLength (given T)) (length (T .nodes)) (and-left (leb (nodesLength (given T)) (length (T .nodes))) (longPages (given T) T) fit);
+          pages-long = leb-true (pagesLength (given T)) (length (T .pages)) (and-left (leb (pagesLength (given T)) (length (T .pages))) (leb (sketchesLength (given T)) (length (T .sketches))) behind);
+          sketches-long = leb-true (sketchesLength (given T)) (length (T .sketches)) (and-right (leb (pagesLength (given T)) (length (T .pages))) (leb (sketchesLength (given T)) (length (T .sketches))) behind);
+        };
         page = ltb-true p (given T .pages) (yes .1 .1 .0);
         live = yes .1 .1 .1 .0;
       }
@@ -68,19 +66,11 @@ module _ (T : Tables) (p : ℕ) where
 module _ (T : Tables) (p : ℕ) (a : Admitted T p) where
   pub row-in : p * given T .symbols + given T .symbols ≤ length (T .sketches)
   unfolding sketchesLength
-  row-in = row-inside (given T .symbols) (given T .pages) (length (T .sketches)) (a .page) (a .sketches-long)
+  row-in = row-inside (given T .symbols) (given T .pages) (length (T .sketches)) (a .page) (a .lent .sketches-long)
 
   pub class-in : given T .pages + p < length (T .pages)
-  class-in = omega (arith, class-inside (given T) (a .page), a .pages-long)
-
-  pub room-in : Roomy (given T) (T .nodes) (T .pages)
-  unfolding nodesLength pagesLength
-  room-in = record {
-    nodes = record { long = a .nodes-long; small = a .limits .nodes-most };
-    pages = λ j l.
-        let behind : 2 + j < 2 + given T .blocks = omega arith in
-        record { long = omega (arith, rows-apart (given T .pages) behind, a .pages-long); small = a .limits .pages-most };
-  }
+  unfolding pagesLength
+  class-in = omega (arith, class-inside (given T) (a .page), a .lent .pages-long)
 
 -- ---- what the answer to the questions tells
 apart : (h : Header) (n : ℕ) → Refused n ≡ Shown h → ⊥

@@ -1,18 +1,16 @@
 -- On any tables a removal writes words of the tries only: the tables keep their lengths, and the words outside stay.
 use Prim.Native.Nat.{ℕ, zero, suc, _+_, _*_, _-_, _≤_, _<_}
 use native.Mathlib.Omega.{arith}
-use mathlib.Core.Path.{_≡_, refl, _∙_}
+use mathlib.Core.Path.{_≡_, refl}
 use mathlib.Core.Bool.{Bool, true, false, cond}
 use mathlib.Core.List.{List}
 use borrow.Author.Tests.{eqb-false, ltb-false}
 use lib.Dec.{ltb, eqb}
-use lib.ListN.{length, getD, set, take, length-set}
-use lib.ListN.{drop as skip}
-use lib.Seq.{take-set-le, drop-set-lt}
+use lib.ListN.{length, getD, set}
 use Rattle.meaning.specs.Ledger.{Settings}
 use Rattle.layout.specs.Nodes.{stateAt, withLink, freeState, leafState, nodeWords}
 use Rattle.layout.specs.Pages.{nextAt, linksAt}
-use Rattle.layout.proofs.Rows.{rows-apart}
+use Rattle.layout.specs.Lengths.{pagesLength}
 use Rattle.layout.proofs.Words.{link-behind}
 use Rattle.children.specs.Places.{linkAt}
 use Rattle.trie.specs.declared.path.Reach.{Reach}
@@ -21,28 +19,16 @@ use Rattle.trie.specs.declared.path.Reach.the-variants as reach
 use Rattle.trie.specs.Descend.{descendTo, Inside as ReachInside}
 use Rattle.trie.proofs.Inside.{descend-inside}
 use Rattle.blocks.specs.RowBytes.{rowBytes}
+use Rattle.blocks.proofs.BlockBytes.{row-octets}
+use Rattle.blocks.proofs.Tables.{links-high}
 use Rattle.trie_remove.specs.declared.Taken.the-variants.{First}
 use Rattle.trie_remove.specs.declared.Taken.the-variants as taken
 use Rattle.trie_remove.specs.declared.Removed.the-variants.{Done, Broken}
 use Rattle.trie_remove.specs.Take.{Took, took, takeFrom, takePage}
 use Rattle.trie_remove.specs.Remove.{Freed, freed, Gone, gone, goneTo, freeChild, setFirst, removeTaken, removeAt, removeReached, removePage}
+use Rattle.store.specs.Within.{Within, Both}
+use Rattle.store.proofs.Within.{within-none, within-both, within-set, node-set}
 use Rattle.drop_laws.specs.Removal.{onRemoved, removeBlock, removeFrom, removeAll}
-
--- ---- a table of which no words but those from lo to hi were written
-pub record Within (lo hi : ℕ) (T T' : List ℕ) : Type 0 where
-  pub long : length T' ≡ length T
-  pub front : take lo T' ≡ take lo T
-  pub rest : skip hi T' ≡ skip hi T
-
-module _ {lo hi : ℕ} where
-  pub within-same : (T : List ℕ) → Within lo hi T T
-  within-same T = record { long = refl; front = refl; rest = refl }
-
-  pub within-then : {T T' T'' : List ℕ} → Within lo hi T T' → Within lo hi T' T'' → Within lo hi T T''
-  within-then a b = record { long = b .long ∙ a .long; front = b .front ∙ a .front; rest = b .rest ∙ a .rest }
-
-  pub within-set : (T : List ℕ) (i v : ℕ) → lo ≤ i → i < hi → Within lo hi T (set T i v)
-  within-set T i v l h = record { long = length-set T i v; front = take-set-le lo T i v l; rest = drop-set-lt hi T i v h }
 
 -- ---- a page out of a chain whose links lie there
 module _ (lo hi pcap base p : ℕ) (low : lo ≤ base) (high : base + pcap ≤ hi) where
@@ -51,14 +37,14 @@ module _ (lo hi pcap base p : ℕ) (low : lo ≤ base) (high : base + pcap ≤ h
 
   behind-within : (f : ℕ) (P : List ℕ) (l : ℕ) → TookIn P (takeFrom P pcap base p l f)
   unfolding takeFrom
-  behind-within zero P l = within-same P
+  behind-within zero P l = within-none
   behind-within (suc f) P l = go (eqb l 0) refl (ltb pcap l) refl (eqb (getD P (base + (l - 1)) 0) (p + 1)) (behind-within f P (getD P (base + (l - 1)) 0))
     where
       go : (z : Bool) → eqb l 0 ≡ z → (w : Bool) → ltb pcap l ≡ w → (h : Bool) → TookIn P (takeFrom P pcap base p (getD P (base + (l - 1)) 0) f) →
           TookIn P (cond z (took P taken.Missing) (cond w (took P taken.Broken) (cond h (took (set P (base + (l - 1)) (getD P (base + p) 0)) taken.Inside)
           (takeFrom P pcap base p (getD P (base + (l - 1)) 0) f))))
-      go true e w m h ih = within-same P
-      go false e true m h ih = within-same P
+      go true e w m h ih = within-none
+      go false e true m h ih = within-none
       go false e false m true ih =
           let some : l ≡ 0 → ⊥ = eqb-false l 0 e in
           let few : l ≤ pcap = ltb-false pcap l m in
@@ -70,8 +56,8 @@ module _ (lo hi pcap base p : ℕ) (low : lo ≤ base) (high : base + pcap ≤ h
   take-within P l = go (eqb l (p + 1)) (ltb pcap (getD P (base + p) 0))
     where
       go : (z w : Bool) → TookIn P (cond z (cond w (took P taken.Broken) (took P (First (getD P (base + p) 0)))) (takeFrom P pcap base p l pcap))
-      go true true = within-same P
-      go true false = within-same P
+      go true true = within-none
+      go true false = within-none
       go false w = behind-within pcap P l
 
 -- ---- a leaf with another first page
@@ -83,9 +69,9 @@ module _ (cap : ℕ) where
   unfolding freeChild
   free-within N s c free ls lc =
       let M : List ℕ = set N s (withLink (getD N s 0) (linkAt N c)) in
-      within-then (within-set N s (withLink (getD N s 0) (linkAt N c)) (omega arith) ls)
-      (within-then (within-set M (stateAt cap c) freeState (omega arith) (omega arith))
-      (within-set (set M (stateAt cap c) freeState) c free (omega arith) (omega arith)))
+      within-both (node-set cap N s (withLink (getD N s 0) (linkAt N c)) ls)
+      (within-both (node-set cap M (stateAt cap c) freeState (omega arith))
+      (node-set cap (set M (stateAt cap c) freeState) c free (omega arith)))
 
   first-within : (N : List ℕ) (n s k l free : ℕ) → n < cap → s < nodeWords cap → FreedIn N (setFirst N cap n s k l free)
   unfolding setFirst
@@ -95,16 +81,16 @@ module _ (cap : ℕ) where
       M = set N (stateAt cap n) (leafState l)
 
       put : Within 0 (nodeWords cap) N M
-      put = within-set N (stateAt cap n) (leafState l) (omega arith) (omega arith)
+      put = node-set cap N (stateAt cap n) (leafState l) (omega arith)
 
       go : (t u : Bool) → FreedIn N (cond t (freed M free) (cond u (freed M free) (freed (freeChild M cap s n free) (n + 1))))
       go true u = put
       go false true = put
-      go false false = within-then put (free-within M s n free ls ln)
+      go false false = within-both put (free-within M s n free ls ln)
 
 -- ---- both tables
 abbrev pub GoneIn : ℕ → ℕ → ℕ → List ℕ → List ℕ → Gone → Type 0
-GoneIn cap lo hi N P (gone N' P' r) = Within 0 (nodeWords cap) N N' × Within lo hi P P'
+GoneIn cap lo hi N P (gone N' P' r) = Both cap lo hi N P N' P'
 
 module _ (cap lo hi pcap base p : ℕ) (low : lo ≤ base) (high : base + pcap ≤ hi) where
   at-within : (N P : List ℕ) (n s k free : ℕ) → n < cap → s < nodeWords cap → GoneIn cap lo hi N P (removeAt N P cap pcap base n s k p free)
@@ -117,9 +103,9 @@ module _ (cap lo hi pcap base p : ℕ) (low : lo ≤ base) (high : base + pcap �
 
       go : (t : Took) → TookIn lo hi pcap base p low high P t → GoneIn cap lo hi N P (removeTaken N cap n s k free t)
       go (took P' (First l)) h = left P' (setFirst N cap n s k l free) (first-within cap N n s k l free ln ls) h
-      go (took P' taken.Inside) h = (within-same N, h)
-      go (took P' taken.Missing) h = (within-same N, h)
-      go (took P' taken.Broken) h = (within-same N, h)
+      go (took P' taken.Inside) h = (within-none, h)
+      go (took P' taken.Missing) h = (within-none, h)
+      go (took P' taken.Broken) h = (within-none, h)
 
   page-within : (N P Y : List ℕ) (root free : ℕ) → root < cap → ((k : ℕ) → getD Y k 0 < 256) → GoneIn cap lo hi N P (removePage N P cap pcap base root Y p free)
   unfolding removePage
@@ -127,33 +113,32 @@ module _ (cap lo hi pcap base p : ℕ) (low : lo ≤ base) (high : base + pcap �
     where
       go : (r : Reach) → ReachInside N cap (length Y) r → GoneIn cap lo hi N P (removeReached N P cap pcap base p free r)
       go (Leaf n s k) h = at-within N P n s k free (h .0) (h .1)
-      go (Gap n s k) h = (within-same N, within-same P)
-      go reach.Broken h = (within-same N, within-same P)
+      go (Gap n s k) h = (within-none, within-none)
+      go reach.Broken h = (within-none, within-none)
 
 -- ---- all blocks
-module _ (s : Settings) (S : List ℕ) (p : ℕ) (enough : s .blocks ≤ s .nodes) (octets : (j k : ℕ) → getD (rowBytes s j S p) k 0 < 256) where
+module _ (s : Settings) (S : List ℕ) (p : ℕ) (enough : s .blocks ≤ s .nodes) where
   abbrev pub InTries : List ℕ → List ℕ → Gone → Type 0
-  InTries = GoneIn (s .nodes) (linksAt (s .pages)) ((2 + s .blocks) * s .pages)
+  InTries = GoneIn (s .nodes) (linksAt (s .pages)) (pagesLength s)
 
   block-within : (j : ℕ) → j < s .blocks → (N P : List ℕ) (free : ℕ) → InTries N P (removeBlock s S p j N P free)
   unfolding removeBlock
   block-within j l N P free =
-      let behind : 2 + j < 2 + s .blocks = omega arith in
-      page-within (s .nodes) (linksAt (s .pages)) ((2 + s .blocks) * s .pages) (s .pages) (nextAt (s .pages) j) p
-      (omega (arith, link-behind (s .pages) j 0)) (rows-apart (s .pages) behind) N P (rowBytes s j S p) j free (omega arith) (octets j)
+      page-within (s .nodes) (linksAt (s .pages)) (pagesLength s) (s .pages) (nextAt (s .pages) j) p
+      (omega (arith, link-behind (s .pages) j 0)) (links-high s j l) N P (rowBytes s j S p) j free (omega arith) (row-octets s S p j)
 
   from-within : (k j : ℕ) → j + k ≤ s .blocks → (N P : List ℕ) (free : ℕ) → InTries N P (removeFrom s S p k j N P free)
   unfolding removeFrom
-  from-within zero j l N P free = (within-same N, within-same P)
+  from-within zero j l N P free = (within-none, within-none)
   from-within (suc k) j l N P free =
       go (removeBlock s S p j N P free) (block-within j (omega arith) N P free) (from-within k (suc j) (omega arith))
     where
-      next : (N' P' : List ℕ) (r : Gone) → Within 0 (nodeWords (s .nodes)) N N' → Within (linksAt (s .pages)) ((2 + s .blocks) * s .pages) P P' → InTries N' P' r → InTries N P r
-      next N' P' (gone N'' P'' r) a b h = (within-then a (h .0), within-then b (h .1))
+      next : (N' P' : List ℕ) → Both (s .nodes) (linksAt (s .pages)) (pagesLength s) N P N' P' → (r : Gone) → InTries N' P' r → InTries N P r
+      next N' P' e (gone N'' P'' r) h = (within-both (e .0) (h .0), within-both (e .1) (h .1))
 
       go : (r : Gone) → InTries N P r → ((N' P' : List ℕ) (free' : ℕ) → InTries N' P' (removeFrom s S p k (suc j) N' P' free')) →
           InTries N P (onRemoved (λ N' P' free'. removeFrom s S p k (suc j) N' P' free') r)
-      go (gone N' P' (Done free')) h ih = next N' P' (removeFrom s S p k (suc j) N' P' free') (h .0) (h .1) (ih N' P' free')
+      go (gone N' P' (Done free')) h ih = next N' P' h (removeFrom s S p k (suc j) N' P' free') (ih N' P' free')
       go (gone N' P' Broken) h ih = h
 
   pub all-within : (N P : List ℕ) (free : ℕ) → InTries N P (removeAll s S p N P free)

@@ -18,21 +18,19 @@ use Rattle.trie_laws.specs.Block.{SoundBlock, EachFrom}
 use Rattle.trie_laws.proofs.Nodes.{remove-nodes}
 use Rattle.trie_laws.proofs.Pages.{stands-any}
 use Rattle.trie.proofs.Arrival.{Leads, sound-leads}
+use Rattle.blocks.specs.Tables.{Roomy}
 use Rattle.blocks.specs.RowBytes.{rowBytes}
+use Rattle.blocks.proofs.BlockBytes.{row-length, row-octets}
 use Rattle.trie_remove.specs.declared.Removed.the-variants.{Done}
 use Rattle.trie_remove.specs.Remove.{Gone, gone}
 use Rattle.trie_remove.proofs.Removal.{RemoveDone, remove-right}
 use Rattle.promises.specs.Sound.{triesCells, Rooted}
-use Rattle.add_page.proofs.Enough.{Roomy, one-out}
+use Rattle.store.proofs.Cells.{one-out, one-back}
 use Rattle.drop_laws.specs.Removal.{onRemoved, removeBlock, removeFrom}
-use Rattle.drop_laws.proofs.Bytes.{row-length, row-octets}
 
 -- a trie put beside, and the page's link given up
 past : (x y z v g : Cells) → Less (x ⊕ z ⊕ v ⊕ y ⊕ g) (y ⊕ z ⊕ x ⊕ g)
 past x y z v g = record { holds = λ N P h. search; nodes = λ a. omega arith; pages = λ a. omega arith }
-
-back : (x y z g : Cells) → Less (y ⊕ z ⊕ x ⊕ g) ((x ⊕ y) ⊕ z ⊕ g)
-back x y z g = record { holds = λ N P h. search; nodes = λ a. omega arith; pages = λ a. omega arith }
 
 -- page p taken out of the trie of block j
 abbrev pub Removes : (ℕ → ℕ → List ℕ) → ℕ → ℕ → Tree → Tree
@@ -62,7 +60,7 @@ module _ (s : Settings) (S : List ℕ) (p : ℕ) (inside : p * s .symbols + s .s
       sound-leads (bytes j) (s .bits) (blockLength (s .symbols) (s .blocks) j) p t (rowBytes s j S p)
       (rw (row-length s S p inside j l) (b .sound))
       (λ k m. ap (λ (ys : List ℕ). getD ys k 0) (mine j l))
-      (row-octets s S p inside j)
+      (row-octets s S p j)
 
   one : (j : ℕ) (t : Phys) {N P : List ℕ} {free : ℕ} {fs : List ℕ} (G : Cells) → j < s .blocks →
       State (s .nodes) (s .pages) (nextAt (s .pages) j) N P free t fs G → root t ≡ j → SoundBlock s bytes live j (tree t) →
@@ -118,7 +116,7 @@ module _ (s : Settings) (S : List ℕ) (p : ℕ) (inside : p * s .symbols + s .s
         to = A .trieTo ∷ E .to;
         freesTo = E .freesTo;
         is = ap (onRemoved (λ N' P' free'. removeFrom s S p (length ts) (suc j) N' P' free')) (A .is) ∙ E .is;
-        heap = less (back X (triesCells (s .nodes) (s .pages) (suc j) (E .to)) (freeCells (s .nodes) (E .freesTo)) G) (E .heap);
+        heap = less (one-back X (triesCells (s .nodes) (s .pages) (suc j) (E .to)) (freeCells (s .nodes) (E .freesTo)) G) (E .heap);
         roots = (A .root ∙ r .0, A .state .sound, E .roots);
         chain = E .chain;
         below = E .below;

@@ -1,4 +1,3 @@
-pub mod Bytes
 pub mod Removes
 pub mod Inside
 pub mod Leaves

@@ -1,5 +1,5 @@
 -- `dropPage` keeps the promise of a drop.
-use Prim.Native.Nat.{ℕ, _+_, _*_}
+use Prim.Native.Nat.{ℕ}
 use native.Mathlib.Omega.{arith}
 use mathlib.Core.Path.{_≡_, refl, sym, ap, _∙_, subst}
 use mathlib.Core.Logic.{_≢_, inl, inr}
@@ -9,6 +9,7 @@ use Rattle.meaning.specs.Trie.{Tree}
 use Rattle.meaning.specs.Ledger.{drop}
 use Rattle.meaning.specs.Forest.{forestAfter}
 use Rattle.layout.specs.Pages.{linksAt}
+use Rattle.layout.specs.Lengths.{pagesLength}
 use Rattle.layout.specs.declared.Opening.{Opening}
 use Rattle.layout.specs.declared.Opening.the-variants.{Shown, Refused}
 use Rattle.layout.specs.Settings.{freeAt}
@@ -19,13 +20,12 @@ use Rattle.promises.specs.Tables.{Tables, given, rowsOf}
 use Rattle.promises.specs.Answers.{number}
 use Rattle.promises.specs.Sound.{Sound}
 use Rattle.promises.specs.Store.{Outcome, outcome, DropPromise}
-use Rattle.add_page.specs.Admission.{admission}
-use Rattle.add_page.proofs.Adds.{same-tables, same-stopped}
+use Rattle.entry.specs.Admission.{admission}
+use Rattle.store.proofs.Same.{same-tables, same-stopped}
 use Rattle.drop_laws.specs.Removal.{removeAll}
 use Rattle.drop_laws.specs.After.{withTries, dropped, onGone, onOpening, dropPage}
-use Rattle.drop_laws.proofs.Bytes.{row-octets}
 use Rattle.drop_laws.proofs.Inside.{GoneIn, all-within}
-use Rattle.drop_laws.proofs.Admitted.{Admitted, admitted, number-same, row-in, told-refused, told-shown}
+use Rattle.drop_laws.proofs.Admitted.{Admitted, admitted, number-same, told-refused, told-shown}
 use Rattle.drop_laws.proofs.Rest.{tries-rest, dropped-rest, dropped-page}
 use Rattle.drop_laws.proofs.Sounds.{DropSound, drop-sound}
 
@@ -57,10 +57,10 @@ module _ (T : Tables) (p : ℕ) (z : number T [] (drop p) ≡ 0) (N P : List ℕ
   known : Admitted T p
   known = admitted T p z
 
-  within : GoneIn (given T .nodes) (linksAt (given T .pages)) ((2 + given T .blocks) * given T .pages) (T .nodes) (T .pages) (gone N P r)
+  within : GoneIn (given T .nodes) (linksAt (given T .pages)) (pagesLength (given T)) (T .nodes) (T .pages) (gone N P r)
   within =
-      subst (GoneIn (given T .nodes) (linksAt (given T .pages)) ((2 + given T .blocks) * given T .pages) (T .nodes) (T .pages)) is
-      (all-within (given T) (T .sketches) p (known .limits .nodes-least) (row-octets (given T) (T .sketches) p (row-in T p known)) (T .nodes) (T .pages) (getD (T .settings) freeAt 0))
+      subst (GoneIn (given T .nodes) (linksAt (given T .pages)) (pagesLength (given T)) (T .nodes) (T .pages)) is
+      (all-within (given T) (T .sketches) p (known .lent .limits .nodes-least) (T .nodes) (T .pages) (getD (T .settings) freeAt 0))
 
   -- the page left every trie
   drop-done : (free : ℕ) → r ≡ Done free → DropPromise T p 0 (dropped T p N P free)

@@ -1,5 +1,5 @@
 -- On any tables: what a drop leaves outside the tries.
-use Prim.Native.Nat.{ℕ, _+_, _*_, _<_}
+use Prim.Native.Nat.{ℕ, _+_, _<_}
 use native.Mathlib.Omega.{arith}
 use mathlib.Core.Path.{_≡_, refl, sym, ap, _∙_}
 use mathlib.Core.List.{List}
@@ -12,38 +12,38 @@ use Rattle.layout.specs.Pages.{withoutPage, linksAt}
 use Rattle.layout.proofs.Words.{live-inside}
 use Rattle.promises.specs.Tables.{Tables, given}
 use Rattle.promises.specs.Store.{SameRest, pageWords}
+use Rattle.store.specs.Within.{Within}
 use Rattle.drop_laws.specs.After.{withTries, dropped}
-use Rattle.drop_laws.proofs.Inside.{Within}
 
 module _ (T : Tables) (N P : List ℕ) (nodes : Within 0 (nodeWords (given T .nodes)) (T .nodes) N)
-    (pages : Within (linksAt (given T .pages)) ((2 + given T .blocks) * given T .pages) (T .pages) P) where
+    (pages : Within (linksAt (given T .pages)) (pagesLength (given T)) (T .pages) P) where
   pub tries-rest : SameRest T (withTries T N P)
-  unfolding nodesLength pagesLength
+  unfolding nodesLength
   tries-rest = record {
     settings = refl;
-    nodes = nodes .long;
-    pages = pages .long;
+    nodes = nodes .same;
+    pages = pages .same;
     sketches = refl;
     working = refl;
     header = refl;
     settings-rest = refl;
-    nodes-rest = nodes .rest;
-    pages-rest = pages .rest;
+    nodes-rest = nodes .back;
+    pages-rest = pages .back;
   }
 
   module _ (p free : ℕ) (page : p < given T .pages) where
     pub dropped-rest : SameRest T (dropped T p N P free)
-    unfolding nodesLength pagesLength withoutPage
+    unfolding nodesLength withoutPage
     dropped-rest = record {
       settings = length-set (T .settings) freeAt free;
-      nodes = nodes .long;
-      pages = length-set P p _ ∙ pages .long;
+      nodes = nodes .same;
+      pages = length-set P p _ ∙ pages .same;
       sketches = refl;
       working = refl;
       header = take-set-le freeAt (T .settings) freeAt free (omega arith);
       settings-rest = drop-set-lt (freeAt + 1) (T .settings) freeAt free (omega arith);
-      nodes-rest = nodes .rest;
-      pages-rest = drop-set-lt (pagesLength (given T)) P p 0 (live-inside (given T) page) ∙ pages .rest;
+      nodes-rest = nodes .back;
+      pages-rest = drop-set-lt (pagesLength (given T)) P p 0 (live-inside (given T) page) ∙ pages .back;
     }
 
     pub dropped-page : pageWords T (withoutPage P p) ≡ pageWords T (withoutPage (T .pages) p)

@@ -1,5 +1,5 @@
 -- A drop on a sound store leaves a sound store, whose tries are without the page.
-use Prim.Native.Nat.{ℕ, suc, _+_, _*_, _≤_, _<_}
+use Prim.Native.Nat.{ℕ, _+_, _≤_, _<_}
 use native.Mathlib.Decide.{ℕ-discrete}
 use native.Mathlib.Omega.{arith}
 use mathlib.Core.Path.{_≡_, refl, sym, ap, _∙_, subst}
@@ -14,9 +14,10 @@ use Rattle.meaning.specs.Trie.{Tree}
 use Rattle.meaning.specs.Ledger.{Settings, drop}
 use Rattle.meaning.specs.Forest.{bytesOfSketch, bytesIn, eachFrom, forestAfter, totalNodes}
 use Rattle.layout.specs.Settings.{freeAt, settingsOf}
-use Rattle.layout.specs.Pages.{nextAt, isLive, rowOf, withoutPage, linksAt}
+use Rattle.layout.specs.Lengths.{pagesLength}
+use Rattle.layout.specs.Pages.{isLive, rowOf, withoutPage, linksAt}
 use Rattle.layout.proofs.Tests.{and-left}
-use Rattle.layout.proofs.Words.{live-struck, live-struck-other, class-struck, live-kept, class-kept, link-behind}
+use Rattle.layout.proofs.Words.{live-struck, live-struck-other, class-struck, live-kept, class-kept}
 use Rattle.layout.proofs.Written.{settings-set}
 use Rattle.children.specs.Heap.{Cells, Heap, hit, pageClaims, nil, page, _⊕_}
 use Rattle.children.specs.Phys.{Phys, tree, freeCells}
@@ -27,20 +28,20 @@ use Rattle.trie_laws.proofs.Block.{remove-forest, remove-same}
 use Rattle.trie_laws.proofs.Forest.{each-length}
 use Rattle.blocks.specs.RowBytes.{rowBytes}
 use Rattle.blocks.proofs.RowBytes.{row-same}
+use Rattle.blocks.proofs.Tables.{roomy}
 use Rattle.trie_remove.specs.declared.Removed.the-variants.{Done}
 use Rattle.trie_remove.specs.Remove.{gone}
 use Rattle.promises.specs.Tables.{Tables, given, pageClass, pageRow, rowsOf}
-use Rattle.promises.specs.Sound.{triesCells, Rooted, livePage, pageBytes, SoundPage, Sound}
-use Rattle.add_page.proofs.Claims.{trie-none}
-use Rattle.add_page.proofs.Spares.{free-none}
-use Rattle.add_page.proofs.NewBytes.{live-bytes}
-use Rattle.add_page.proofs.Question12.{beside-none}
+use Rattle.promises.specs.Sound.{triesCells, livePage, pageBytes, SoundPage, Sound}
+use Rattle.store.specs.Within.{Within}
+use Rattle.store.proofs.Claims.{free-none, tries-behind}
+use Rattle.store.proofs.Cells.{beside-none}
+use Rattle.store.proofs.LiveBytes.{live-bytes}
 use Rattle.drop_laws.specs.Removal.{removeFrom, removeAll}
 use Rattle.drop_laws.specs.After.{dropped}
-use Rattle.drop_laws.proofs.Bytes.{row-octets}
-use Rattle.drop_laws.proofs.Inside.{Within, GoneIn, all-within}
+use Rattle.drop_laws.proofs.Inside.{GoneIn, all-within}
 use Rattle.drop_laws.proofs.Leaves.{Removes, LeftFrom, remove-from}
-use Rattle.drop_laws.proofs.Admitted.{Admitted, row-in, class-in, room-in}
+use Rattle.drop_laws.proofs.Admitted.{Admitted, row-in, class-in}
 
 -- ---- a word of the page table that no one claims may be written
 unclaimed : {N P : List ℕ} {xs : Cells} (a w : ℕ) → pageClaims xs a ≡ 0 → a < length P → Heap N P xs → Heap N (set P a w) xs
@@ -52,16 +53,6 @@ unclaimed {N} {P} {xs} a w z l h = less (record { holds = λ N P h. h .1; nodes 
     with : Heap N P (page a (getD P a 0) ⊕ xs)
     with = record { holds = (refl, h .holds); nodes = λ b. omega (arith, h .nodes b); pages = once }
 
--- the tries claim links alone
-tries-behind : (N P a : ℕ) → a < 2 * P → (ts : List Phys) (j : ℕ) → Rooted N P j ts → pageClaims (triesCells N P j ts) a ≡ 0
-tries-behind N P a l [] j r = refl
-tries-behind N P a l (t ∷ ts) j r =
-    omega (
-      arith,
-      trie-none N P (nextAt P j) a (λ x lx e. omega (arith, link-behind P j x)) t (r .1),
-      tries-behind N P a l ts (suc j) (r .2),
-    )
-
 -- the same property by equal names
 each-same : (s s' : Settings) (b b' : ℕ → ℕ → List ℕ) (v v' : ℕ → Bool) (F F' : List Tree) → s' ≡ s → b' ≡ b → v' ≡ v → F' ≡ F →
     EachFrom (SoundBlock s b v) 0 F → EachFrom (SoundBlock s' b' v') 0 F'
@@ -69,7 +60,7 @@ each-same s s' b b' v v' F F' e f g h k = rw (e, f, g, h) k
 
 -- ---- the pages after a drop
 module _ (T : Tables) (p : ℕ) (a : Admitted T p) (N P : List ℕ) (free : ℕ)
-    (kept : Within (linksAt (given T .pages)) ((2 + given T .blocks) * given T .pages) (T .pages) P) where
+    (kept : Within (linksAt (given T .pages)) (pagesLength (given T)) (T .pages) P) where
   abbrev T' : Tables
   T' = dropped T p N P free
 
@@ -77,7 +68,7 @@ module _ (T : Tables) (p : ℕ) (a : Admitted T p) (N P : List ℕ) (free : ℕ)
   given-same = settings-set (T .settings) freeAt free (omega arith)
 
   class-long : given T .pages + p < length P
-  class-long = omega (arith, class-in T p a, kept .long)
+  class-long = omega (arith, class-in T p a, kept .same)
 
   bytes-same : pageBytes T' ≡ pageBytes T
   unfolding pageBytes pageRow
@@ -142,7 +133,7 @@ module _ (T : Tables) (F : List Tree) (S : Sound T F) (p : ℕ) (a : Admitted T 
       (removeFrom (given T) (T .sketches) p (length (S .tries)) 0 (T .nodes) (T .pages) (getD (T .settings) freeAt 0))
   left =
       let H = S .holding in
-      remove-from (given T) (T .sketches) p (row-in T p a) (livePage T) here (pageBytes T) mine (S .tries) 0 (room-in T p a) (S .free) (H .chain) (H .below) nil
+      remove-from (given T) (T .sketches) p (row-in T p a) (livePage T) here (pageBytes T) mine (S .tries) 0 (roomy (given T) (T .nodes) (T .pages) (T .sketches) (a .lent)) (S .free) (H .chain) (H .below) nil
       (omega (arith, H .blocks)) (less (beside-none _ _) (H .words)) (H .roots) (rw (S .forest) (S .blocks))
 
   left-is : removeAll (given T) (T .sketches) p (T .nodes) (T .pages) (getD (T .settings) freeAt 0) ≡ gone (left .nodesTo) (left .pagesTo) (Done (left .freeTo))
@@ -150,10 +141,10 @@ module _ (T : Tables) (F : List Tree) (S : Sound T F) (p : ℕ) (a : Admitted T 
   left-is =
       ap (λ (k : ℕ). removeFrom (given T) (T .sketches) p k 0 (T .nodes) (T .pages) (getD (T .settings) freeAt 0)) (sym (S .holding .blocks)) ∙ left .is
 
-  kept : Within (linksAt (given T .pages)) ((2 + given T .blocks) * given T .pages) (T .pages) (left .pagesTo)
+  kept : Within (linksAt (given T .pages)) (pagesLength (given T)) (T .pages) (left .pagesTo)
   kept =
-      subst (GoneIn (given T .nodes) (linksAt (given T .pages)) ((2 + given T .blocks) * given T .pages) (T .nodes) (T .pages)) left-is
-      (all-within (given T) (T .sketches) p (a .limits .nodes-least) (row-octets (given T) (T .sketches) p (row-in T p a)) (T .nodes) (T .pages) (getD (T .settings) freeAt 0)) .1
+      subst (GoneIn (given T .nodes) (linksAt (given T .pages)) (pagesLength (given T)) (T .nodes) (T .pages)) left-is
+      (all-within (given T) (T .sketches) p (a .lent .limits .nodes-least) (T .nodes) (T .pages) (getD (T .settings) freeAt 0)) .1
 
   forest-is : eachFrom (Removes (pageBytes T) p) 0 F ≡ forestAfter (given T) (rowsOf T) (drop p) F
   unfolding forestAfter
@@ -163,8 +154,8 @@ module _ (T : Tables) (F : List Tree) (S : Sound T F) (p : ℕ) (a : Admitted T 
   unfolding withoutPage
   words-left =
       unclaimed p 0
-      (omega (arith, a .page, tries-behind (given T .nodes) (given T .pages) p (omega (arith, a .page)) (left .to) 0 (left .roots), free-none (given T .nodes) p (left .freesTo)))
-      (omega (arith, class-in T p a, kept .long))
+      (omega (arith, a .page, tries-behind (given T .nodes) (given T .pages) p (left .to) 0 (left .roots) (omega (arith, a .page)), free-none (given T .nodes) p (left .freesTo)))
+      (omega (arith, class-in T p a, kept .same))
       (less (record { holds = λ N P h. (h .0, h .1 .0); nodes = λ b. omega arith; pages = λ b. omega arith }) (left .heap))
 
   blocks-left : length (left .to) ≡ given T .blocks

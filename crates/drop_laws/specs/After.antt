@@ -11,7 +11,7 @@ use Rattle.promises.specs.Tables.{Tables, given}
 use Rattle.promises.specs.Store.{Outcome, outcome}
 use Rattle.trie_remove.specs.declared.Removed.the-variants.{Done, Broken}
 use Rattle.trie_remove.specs.Remove.{Gone, gone}
-use Rattle.add_page.specs.Admission.{admission}
+use Rattle.entry.specs.Admission.{admission}
 use Rattle.drop_laws.specs.Removal.{removeAll}
 
 -- with other words of the tries

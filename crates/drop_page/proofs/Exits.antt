@@ -8,7 +8,8 @@ use Rattle.meaning.specs.Ledger.{drop}
 use Rattle.layout.specs.declared.Header.{Header}
 use Rattle.layout.specs.declared.Opening.the-variants.{Shown, Refused}
 use Rattle.layout.specs.Header.{bare}
-use Rattle.layout.specs.Lengths.{nodesLength, pagesLength, sketchesLength}
+use Rattle.layout.specs.Lengths.{pagesLength}
+use Rattle.layout.specs.Tables.{Lent}
 use Rattle.layout.specs.Pages.{withoutPage}
 use Rattle.layout.specs.Settings.{settingsLength, freeAt}
 use Rattle.layout.proofs.Words.{live-inside}
@@ -18,13 +19,12 @@ use Rattle.promises.specs.Store.{outcome, DropPromise}
 use Rattle.trie_remove.specs.declared.Removed.{Removed}
 use Rattle.trie_remove.specs.declared.Removed.the-variants.{Done, Broken}
 use Rattle.trie_remove.specs.Remove.{gone}
-use Rattle.add_page.specs.Admission.{admission}
+use Rattle.entry.specs.Admission.{admission}
 use Rattle.drop_laws.specs.Removal.{removeAll}
 use Rattle.drop_laws.specs.After.{onGone, onOpening, dropPage}
 use Rattle.drop_laws.proofs.Removes.{remove-bare}
 use Rattle.drop_laws.proofs.Admitted.{Admitted, admitted, told-shown}
 use Rattle.drop_laws.proofs.Promise.{drop-promise}
-use Rattle.drop_page.specs.Lent.{Lent}
 
 module _ (ws N P S : List ℕ) (p : ℕ) where
   abbrev T : Tables
@@ -49,16 +49,14 @@ module _ (ws N P S : List ℕ) (p : ℕ) where
     settings-long = known .long
 
     pub lent : Lent h N P S
-    unfolding nodesLength pagesLength sketchesLength
-    lent =
-        rw (told-shown T p h e .1)
-        (record { limits = known .limits; nodes-long = known .nodes-long; pages-long = known .pages-long; sketches-long = known .sketches-long })
+    lent = rw (told-shown T p h e .1) (known .lent)
 
     pub page-in : p < h .pages
     page-in = rw (told-shown T p h e .1) (known .page)
 
     pub live-in : p < length P
-    live-in = omega (arith, live-inside (given T) (known .page), known .pages-long)
+    unfolding pagesLength
+    live-in = omega (arith, live-inside (given T) (known .page), known .lent .pages-long)
 
     module _ (N' P' : List ℕ) (r : Removed) (free : ℕ) (f : free ≡ getD ws freeAt 0) (g : gone N' P' r ≡ removeAll (bare h) S p N P free) where
       comes-to : removeAll (given T) S p N P (getD ws freeAt 0) ≡ gone N' P' r

@@ -1,3 +1,3 @@
 pub mod Admits
-pub mod Tables
+pub mod Blocks
 pub mod Exits

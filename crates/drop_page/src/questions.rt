@@ -3,7 +3,7 @@ ghost use mathlib.Core.Path.{_≡_};
 ghost use mathlib.Core.List.{[]};
 ghost use Rattle.meaning.specs.Ledger.{drop};
 ghost use Rattle.promises.specs.Tables.{tables};
-ghost use Rattle.add_page.specs.Admission.{admission};
+ghost use Rattle.entry.specs.Admission.{admission};
 use layout::Opening;
 
 // The opening where none of them says no, else the number of the first that does.

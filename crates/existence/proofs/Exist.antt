@@ -15,8 +15,8 @@ use Rattle.promises.specs.Sound.{Sound}
 use Rattle.promises.specs.Store.{Outcome, outcome, AddPromise, DropPromise}
 use Rattle.promises.specs.Relation.{Answer, numberAlone, toStore, withOpening, withWorking, Promised}
 use Rattle.promises.proofs.Readings.{law}
-use Rattle.add_page.specs.Add.{addPage}
-use Rattle.add_page.proofs.Adds.{add-promise}
+use Rattle.add_laws.specs.Add.{addPage}
+use Rattle.add_laws.proofs.Adds.{add-promise}
 use Rattle.drop_laws.specs.After.{dropPage}
 use Rattle.drop_laws.proofs.Promise.{drop-promise}
 use Rattle.history.specs.History.{event, History, begun, called, judged}

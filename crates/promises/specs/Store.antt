@@ -4,7 +4,7 @@
 -- What the promises of add and drop leave open on a sound store: the numbers of the nodes that are no roots, as which node a fresh leaf
 -- takes and the order of the free chain; the chain words of roots; the links of pages that are not live. On unsound tables: the answer
 -- among 0, 12 and 14; the free link, the nodes and the links of pages. A second statement of both calls settles all this, on any
--- tables, by an equation: their `Outcome` is `addPage` (add_page/specs/Add.antt), `dropPage` (drop_laws/specs/After.antt).
+-- tables, by an equation: their `Outcome` is `addPage` (add_laws/specs/Add.antt), `dropPage` (drop_laws/specs/After.antt).
 use Prim.Native.Nat.{ℕ, _+_, _*_, _≤_, _<_}
 use mathlib.Core.Path.{_≡_}
 use mathlib.Core.Bool.{Bool, true, false, cond, _&&_}

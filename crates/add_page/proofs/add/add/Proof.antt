@@ -4,7 +4,7 @@ use mathlib.Core.List.{[]}
 use borrow.Author.Needs.{needs}
 use Rattle.promises.specs.Tables.{Tables, tables}
 use Rattle.add_page.proofs.Puts.{add-refused, add-placed}
-use Rattle.add_page.proofs.Adds.{add-promise}
+use Rattle.add_laws.proofs.Adds.{add-promise}
 use Rattle.add_page.proofs.add.add.Statement.{statement}
 use Rattle.add_page.proofs.add.add.Tie as tie
 

@@ -3,7 +3,7 @@ use mathlib.Core.Path.{_∙_}
 use mathlib.Core.List.{[]}
 use borrow.Author.Needs.{needs}
 use Rattle.promises.specs.Tables.{Tables, tables}
-use Rattle.add_page.proofs.Passed.{Passed, told-shown}
+use Rattle.add_laws.proofs.Passed.{Passed, told-shown}
 use Rattle.add_page.proofs.Puts.{place-short, place-broken, place-enough}
 use Rattle.add_page.proofs.add.place_page.Statement.{statement}
 use Rattle.add_page.proofs.add.place_page.Tie as tie
@@ -27,7 +27,7 @@ thresholds-requires c κs = passed (entry (c .before .before)) .long
 room-requires : tie.Need-room-requires
 room-requires c κs =
     let ok = passed (entry (c .before .before .before .before .before .before)) in
-    (rw (c .before .before .before .thresholds .ensures) (ok .lent), ok .fits)
+    (ok .lent, (rw (c .before .before .before .thresholds .ensures) (ok .levels), ok .fits))
 
 enum-told : tie.Need-enum-told
 enum-told c = search needs

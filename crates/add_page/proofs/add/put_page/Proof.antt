@@ -2,7 +2,7 @@
 use mathlib.Core.List.{[]}
 use borrow.Author.Needs.{needs}
 use Rattle.promises.specs.Tables.{Tables, tables}
-use Rattle.add_page.proofs.Passed.{Passed, told-shown, row-fits, lent-row, class-fits}
+use Rattle.add_laws.proofs.Passed.{Passed, told-shown, row-fits, lent-row, class-fits}
 use Rattle.add_page.proofs.Puts.{put-free, put-broken}
 use Rattle.add_page.proofs.add.put_page.Statement.{statement}
 use Rattle.add_page.proofs.add.put_page.Tie as tie
@@ -30,8 +30,8 @@ insert-all-requires : tie.Need-insert-all-requires
 insert-all-requires c κs =
     let k = c .before .before .before .before .before .before .before .before .before .before in
     let ok = passed (entry k) in (
-      rw (c .before .before .before .thresholds .ensures) (lent-row _ _ _ _ ok _ (c .before .before .before .before .before .before .before .before .before .write-row .ensures)),
-      (ok .fits, ok .page),
+      lent-row _ _ _ _ ok _ (c .before .before .before .before .before .before .before .before .before .write-row .ensures),
+      (rw (c .before .before .before .thresholds .ensures) (ok .levels), (ok .fits, ok .page)),
     )
 
 enum-known-inserted : tie.Need-enum-known-inserted

@@ -5,9 +5,9 @@ use mathlib.Core.Path.{_≡_}
 use borrow.Author.Needs.{needs}
 use lib.ListN.{length}
 use Rattle.layout.specs.Header.{withThresholds}
-use Rattle.add_page.specs.Insert.{insertFrom, insertAll}
-use Rattle.add_page.proofs.Tables.{lent-kept}
-use Rattle.add_page.proofs.Inserts.{insert-start, insert-done, insert-more, insert-full, insert-failed}
+use Rattle.add_laws.specs.Insert.{insertFrom, insertAll}
+use Rattle.blocks.proofs.Tables.{lent-kept}
+use Rattle.add_laws.proofs.Inserts.{insert-start, insert-done, insert-more, insert-full, insert-failed}
 use Rattle.add_page.proofs.insert.insert_all.Statement.{statement}
 use Rattle.add_page.proofs.insert.insert_all.Tie as tie
 
@@ -27,8 +27,8 @@ insert-block-requires : tie.Need-insert-block-requires Inv-loop μ-loop
 insert-block-requires c κs =
     let loop = c .before .before .before in
     let entry = loop .before .before .before .before .before .before in (
-      lent-kept _ _ _ _ _ _ _ (entry .pre .0) (loop .loop .inv .2) (loop .loop .inv .3),
-      (entry .pre .1 .0, (entry .pre .1 .1, c .before .before .loop-test .taken)),
+      lent-kept _ _ _ _ _ _ (entry .pre .0) (loop .loop .inv .2) (loop .loop .inv .3),
+      (entry .pre .1 .0, (entry .pre .1 .1 .0, (entry .pre .1 .1 .1, c .before .before .loop-test .taken))),
     )
 
 enum-known-got : tie.Need-enum-known-got Inv-loop μ-loop

@@ -4,8 +4,9 @@ use mathlib.Core.Path.{_≡_, sym, ap, _∙_}
 use borrow.Author.Needs.{needs}
 use lib.Seq.{length-take-le}
 use Rattle.layout.specs.Header.{bare}
-use Rattle.add_page.proofs.Tables.{InTables, in-tables}
-use Rattle.add_page.proofs.Inserts.{insert-one}
+use Rattle.blocks.specs.Tables.{InTables}
+use Rattle.blocks.proofs.Tables.{in-tables}
+use Rattle.add_page.proofs.Blocks.{insert-one}
 use Rattle.add_page.proofs.insert.insert_block.Statement.{statement}
 use Rattle.add_page.proofs.insert.insert_block.Tie as tie
 
@@ -23,24 +24,24 @@ abbrev entry : tie.After-rows-of → tie.Start
 entry c = c .before .before .before .before .before .before .before .before
 
 tables : (c : tie.After-rows-of) →
-    InTables (entry c .args .thresholds .now) (entry c .args .nodes .now) (entry c .args .pages .now) (entry c .args .sketches .now) (entry c .args .j)
+    InTables (entry c .args .nodes .now) (entry c .args .pages .now) (entry c .args .sketches .now) (entry c .args .j)
     (c .before .block-of .result) (c .rows-of .result)
 tables c =
-    in-tables _ _ _ _ _ (entry c .pre .0) _ (entry c .pre .1 .1 .1) _ (c .before .block-of .ensures) _ (c .rows-of .ensures)
+    in-tables _ _ _ _ (entry c .pre .0) _ (entry c .pre .1 .1 .1 .1) _ (c .before .block-of .ensures) _ (c .rows-of .ensures)
 
 array-share-prefix-bytes : tie.Need-array-share-prefix-bytes
-array-share-prefix-bytes c = omega (arith, tables (c .before .before) .few)
+array-share-prefix-bytes c = omega (arith, tables (c .before .before) .rows .short)
 
 slice-aggregate-insert-page : tie.Need-slice-aggregate-insert-page
 slice-aggregate-insert-page c =
     let r = c .before .before .before in
-    sym (length-take-le (r .rows-of .result .bytes) (r .before .before .block-bytes .result) (omega (arith, tables r .few)))
+    sym (length-take-le (r .rows-of .result .bytes) (r .before .before .block-bytes .result) (omega (arith, tables r .rows .short)))
 
 insert-page-requires : tie.Need-insert-page-requires
 insert-page-requires c κs =
     let r = c .before .before .before in
     let t = tables r in
-    (t .nodes, (t .pages, (t .rows, (t .levels, (t .root, rw (r .before .block-of .ensures) (entry r .pre .1 .1 .0))))))
+    (t .nodes, (t .pages, (t .rows, (omega (arith, t .rows .short, entry r .pre .1 .0), (t .root, rw (r .before .block-of .ensures) (entry r .pre .1 .1 .1 .0))))))
 
 same-length : tie.Need-same-length
 same-length c = search needs
@@ -53,7 +54,7 @@ returns c =
     let i = c .before .before .before .before in
     let r = i .before .before .before .before in
     i .insert-page .ensures
-    ∙ insert-one _ _ _ _ _ _ _ _ _ _ (r .before .block-of .ensures) _ (r .rows-of .ensures) _ (r .before .before .block-bytes .ensures)
+    ∙ insert-one _ _ _ _ _ _ _ _ (r .before .block-of .ensures) _ (r .rows-of .ensures) _ (r .before .before .block-bytes .ensures) _ _
 
 pub insert-block-spec : {M : Type 1} → statement M
 insert-block-spec =

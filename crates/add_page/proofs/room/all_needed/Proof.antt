@@ -4,8 +4,8 @@ use native.Mathlib.Omega.{arith}
 use mathlib.Core.Path.{_≡_}
 use borrow.Author.Needs.{needs}
 use Rattle.layout.specs.Header.{withThresholds}
-use Rattle.add_page.specs.Room.{neededFrom, blockNeeds, allNeeded}
-use Rattle.add_page.proofs.Rooms.{needs-start, needs-done, needs-more, needs-broken, needs-few}
+use Rattle.add_laws.specs.Room.{neededFrom, blockNeeds, allNeeded}
+use Rattle.add_laws.proofs.Rooms.{needs-start, needs-done, needs-more, needs-broken, needs-few}
 use Rattle.add_page.proofs.room.all_needed.Statement.{statement}
 use Rattle.add_page.proofs.room.all_needed.Tie as tie
 

@@ -4,7 +4,9 @@ use mathlib.Core.Path.{_≡_, sym, ap, _∙_}
 use borrow.Author.Needs.{needs}
 use lib.Seq.{length-take-le}
 use Rattle.layout.specs.Header.{bare}
-use Rattle.add_page.proofs.Tables.{InTables, in-tables, needs-block}
+use Rattle.blocks.specs.Tables.{InTables}
+use Rattle.blocks.proofs.Tables.{in-tables}
+use Rattle.add_page.proofs.Blocks.{needs-block}
 use Rattle.add_page.proofs.room.block_needs.Statement.{statement}
 use Rattle.add_page.proofs.room.block_needs.Tie as tie
 
@@ -19,24 +21,25 @@ rows-of-requires c κs = search needs
 
 -- the block's tables
 tables : (c : tie.After-rows-of) → let entry = c .before .before .before .before .before .before .before .before in
-    InTables (entry .args .thresholds .now) (entry .args .nodes .now) (entry .args .pages .now) (entry .args .sketches .now) (entry .args .j)
+    InTables (entry .args .nodes .now) (entry .args .pages .now) (entry .args .sketches .now) (entry .args .j)
     (c .before .block-of .result) (c .rows-of .result)
 tables c =
     let entry = c .before .before .before .before .before .before .before .before in
-    in-tables _ _ _ _ _ (entry .pre .0) _ (entry .pre .1 .1) _ (c .before .block-of .ensures) _ (c .rows-of .ensures)
+    in-tables _ _ _ _ (entry .pre .0) _ (entry .pre .1 .1 .1) _ (c .before .block-of .ensures) _ (c .rows-of .ensures)
 
 array-share-prefix-bytes : tie.Need-array-share-prefix-bytes
-array-share-prefix-bytes c = omega (arith, tables c .few)
+array-share-prefix-bytes c = omega (arith, tables c .rows .short)
 
 slice-aggregate-nodes-needed : tie.Need-slice-aggregate-nodes-needed
 slice-aggregate-nodes-needed c =
-    sym (length-take-le (c .before .rows-of .result .bytes) (c .before .before .before .block-bytes .result) (omega (arith, tables (c .before) .few)))
+    sym (length-take-le (c .before .rows-of .result .bytes) (c .before .before .before .block-bytes .result) (omega (arith, tables (c .before) .rows .short)))
 
 nodes-needed-requires : tie.Need-nodes-needed-requires
 nodes-needed-requires c κs =
     let t = tables (c .before) in
-    let l = length-take-le (c .before .rows-of .result .bytes) (c .before .before .before .block-bytes .result) (omega (arith, t .few)) in
-    (t .nodes, (t .pages, (t .rows, (t .levels, (l, t .root)))))
+    let l = length-take-le (c .before .rows-of .result .bytes) (c .before .before .before .block-bytes .result) (omega (arith, t .rows .short)) in
+    let levels = c .before .before .before .before .before .before .before .before .before .pre .1 .0 in
+    (t .nodes, (t .pages, (t .rows, (omega (arith, t .rows .short, levels), (l, t .root)))))
 
 returns : tie.Need-returns
 returns c =

@@ -1,7 +1,7 @@
 -- `room` is `roomOf`.
 use borrow.Author.Needs.{needs}
 use Rattle.layout.specs.Lengths.{nodesLength}
-use Rattle.add_page.proofs.Rooms.{room-counted, room-broken}
+use Rattle.add_laws.proofs.Rooms.{room-counted, room-broken}
 use Rattle.add_page.proofs.room.room.Statement.{statement}
 use Rattle.add_page.proofs.room.room.Tie as tie
 

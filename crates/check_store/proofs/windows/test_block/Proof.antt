@@ -1,12 +1,13 @@
 -- `test_block` is the test of block j's trie.
 use mathlib.Core.Path.{_∙_}
+use Rattle.layout.specs.Header.{bare}
 use Rattle.check_store.proofs.Fits.{fitting-block, root-inside, tested-block}
 use borrow.Author.Needs.{needs}
 use Rattle.check_store.proofs.windows.test_block.Statement.{statement}
 use Rattle.check_store.proofs.windows.test_block.Tie as tie
 
-next-at-requires : tie.Need-next-at-requires
-next-at-requires c κs = search needs
+block-of-requires : tie.Need-block-of-requires
+block-of-requires c κs = search needs
 
 rows-of-requires : tie.Need-rows-of-requires
 rows-of-requires c κs = search needs
@@ -14,8 +15,8 @@ rows-of-requires c κs = search needs
 test-trie-requires : tie.Need-test-trie-requires
 test-trie-requires c κs =
     let entry = c .before .before .before .before .before .before .before in (
-      fitting-block _ _ _ _ (entry .pre .0) _ (entry .pre .1 .1) _ (c .before .before .next-at .ensures) _ (c .before .rows-of .ensures) _ _ (entry .pre .1 .0),
-      root-inside _ _ _ _ (entry .pre .0) _ (entry .pre .1 .1),
+      fitting-block (bare (entry .args .h)) _ _ _ (entry .pre .0) _ (entry .pre .1 .1) _ (c .before .before .block-of .ensures) _ (c .before .rows-of .ensures) _ _ (entry .pre .1 .0),
+      rw (c .before .before .block-of .ensures) (root-inside (bare (entry .args .h)) _ _ _ (entry .pre .0) _ (entry .pre .1 .1)),
     )
 
 same-length : tie.Need-same-length
@@ -25,8 +26,8 @@ returns : tie.Need-returns
 returns c =
     let t = c .before .before in
     let r = t .before .before in
-    t .test-trie .ensures ∙ tested-block _ _ _ _ _ _ (r .before .next-at .ensures) _ (r .rows-of .ensures) _ _ _ _
+    t .test-trie .ensures ∙ tested-block _ _ _ _ _ _ (r .before .block-of .ensures) _ (r .rows-of .ensures) _ _ _ _
 
 pub test-block-spec : {M : Type 1} → statement M
 test-block-spec =
-    tie.close (tie.spec next-at-requires rows-of-requires test-trie-requires same-length returns)
+    tie.close (tie.spec block-of-requires rows-of-requires test-trie-requires same-length returns)

@@ -7,7 +7,7 @@ use Rattle.meaning.specs.Ledger.{drop}
 use Rattle.layout.specs.declared.Header.{Header}
 use Rattle.layout.specs.declared.Opening.the-variants.{Shown}
 use Rattle.promises.specs.Tables.{tables}
-use Rattle.add_page.specs.Admission.{admission}
+use Rattle.entry.specs.Admission.{admission}
 use Rattle.drop_page.proofs.Exits.{refuses, settings-long, lent, page-in, live-in, drops, breaks}
 use Rattle.drop_page.proofs.drop.drop_page.Statement.{statement}
 use Rattle.drop_page.proofs.drop.drop_page.Tie as tie

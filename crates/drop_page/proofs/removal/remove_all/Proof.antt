@@ -7,7 +7,7 @@ use lib.ListN.{length}
 use Rattle.layout.specs.Header.{bare}
 use Rattle.drop_laws.specs.Removal.{removeFrom, removeAll}
 use Rattle.drop_laws.proofs.Removes.{remove-start, remove-done, remove-more, remove-broken}
-use Rattle.drop_page.proofs.Tables.{lent-kept}
+use Rattle.blocks.proofs.Tables.{lent-kept}
 use Rattle.drop_page.proofs.removal.remove_all.Statement.{statement}
 use Rattle.drop_page.proofs.removal.remove_all.Tie as tie
 

@@ -1,0 +1,15 @@
+pub mod KeepsAsked
+pub mod Passed
+pub mod Rooms
+pub mod Enough
+pub mod NewBytes
+pub mod Question12
+pub mod Inserts
+pub mod Kept
+pub mod Grows
+pub mod Spares
+pub mod KeepsBytes
+pub mod KeepsWords
+pub mod KeepsGrown
+pub mod KeepsAdd
+pub mod Adds

@@ -1,0 +1,114 @@
+-- Which links a trie claims of the page table: those of its pages, once for each time that a page stands in it. Free nodes claim none.
+use Prim.Native.Nat.{ℕ, suc, _+_, _*_, _<_}
+use native.Mathlib.Decide.{decLt, ℕ-discrete}
+use native.Mathlib.Nat.{suc-mul}
+use native.Mathlib.Omega.{arith}
+use mathlib.Core.Path.{_≡_, refl, sym}
+use mathlib.Core.Bool.{Bool, true, false, cond}
+use mathlib.Core.Logic.{_≢_, by-cases}
+use mathlib.Core.List.{List, [], _∷_, map}
+use borrow.Author.Tests.{eq-eqb, ne-eqb, eqb-true, eqb-false}
+use lib.Dec.{eqb}
+use Rattle.meaning.specs.Lists.{count}
+use Rattle.meaning.specs.Trie.{Children, pagesIn, pagesAmong}
+use Rattle.layout.specs.Nodes.{headAt, chainAt}
+use Rattle.layout.specs.Pages.{nextAt}
+use Rattle.layout.proofs.Rows.{rows-apart}
+use Rattle.children.specs.Heap.{hit, pageClaims}
+use Rattle.children.specs.Phys.{Phys, Buckets, Chain, leafP, innerP, end, bucket, stop, link, root, tree, childrenB, childrenC, pageCells, noHeads, cells, cellsB, cellsC, freeCells, Below, Sound, SoundB, SoundC}
+use Rattle.children.proofs.Frame.{hit-other}
+use Rattle.trie_laws.specs.Sound.{Stands}
+use Rattle.trie_laws.specs.Block.{EachFrom}
+use Rattle.meaning.proofs.Lists.{count-append}
+use Rattle.promises.specs.Sound.{triesCells, Rooted}
+
+-- the same page, or the same link
+hit-page : (base p x : ℕ) → hit (base + p) (base + x) ≡ cond (eqb x p) 1 0
+unfolding hit
+hit-page base p x = go (eqb x p) refl
+  where
+    go : (t : Bool) → eqb x p ≡ t → _≡_ {A = ℕ} (cond (eqb (base + p) (base + x)) 1 0) (cond t 1 0)
+    go true e = rw (eq-eqb (base + p) (base + x) (omega (arith, eqb-true x p e))) refl
+    go false e = rw (ne-eqb (base + p) (base + x) (λ q. eqb-false x p e (omega arith))) refl
+
+no-heads : (cap n a : ℕ) → pageClaims (noHeads cap n) a ≡ 0
+unfolding noHeads
+no-heads cap n a = omega arith
+
+pub free-none : (cap a : ℕ) (fs : List ℕ) → pageClaims (freeCells cap fs) a ≡ 0
+free-none cap a [] = refl
+free-none cap a (f ∷ fs) = omega (arith, no-heads cap f a, free-none cap a fs)
+
+module _ (cap base x : ℕ) where
+  leaf-claims : (ps : List ℕ) → pageClaims (pageCells base ps) (base + x) ≡ count (eqb x) ps
+  unfolding count
+  leaf-claims [] = refl
+  leaf-claims (p ∷ ps) = omega (arith, hit-page base p x, leaf-claims ps)
+
+  mutual
+    unfolding pagesIn count
+
+    pub trie-claims : (t : Phys) → pageClaims (cells cap base t) (base + x) ≡ count (eqb x) (pagesIn (tree t))
+    trie-claims (leafP n ps) = omega (arith, no-heads cap n (base + x), leaf-claims ps)
+    trie-claims (innerP n bs) = omega (arith, bucket-claims bs n 0)
+
+    bucket-claims : (bs : Buckets) (n g : ℕ) → pageClaims (cellsB cap base bs n g) (base + x) ≡ count (eqb x) (pagesAmong (childrenB bs))
+    bucket-claims end n g = refl
+    bucket-claims (bucket ch bs) n g =
+        omega (arith, chain-claims ch (headAt cap n g) 0 (childrenB bs), bucket-claims bs n (suc g))
+
+    chain-claims : (ch : Chain) (s y : ℕ) (cs : Children) →
+        pageClaims (cellsC cap base ch s y) (base + x) + count (eqb x) (pagesAmong cs) ≡ count (eqb x) (pagesAmong (childrenC ch cs))
+    chain-claims stop s y cs = omega arith
+    chain-claims (link b t ch) s y cs =
+        omega (arith, trie-claims t, chain-claims ch (chainAt (root t)) b cs, count-append (eqb x) (pagesIn (tree t)) (pagesAmong (childrenC ch cs)))
+
+-- and no word outside its block's links
+module _ (cap pcap base a : ℕ) (outside : (x : ℕ) → x < pcap → base + x ≢ a) where
+  leaf-none : (ps : List ℕ) → Below pcap ps → pageClaims (pageCells base ps) a ≡ 0
+  leaf-none [] b = refl
+  leaf-none (p ∷ ps) b = omega (arith, hit-other {a = a} {b = base + p} (λ e. outside p (b .0) (sym e)), leaf-none ps (b .1))
+
+  mutual
+    pub trie-none : (t : Phys) → Sound cap pcap t → pageClaims (cells cap base t) a ≡ 0
+    trie-none (leafP n ps) h = omega (arith, no-heads cap n a, leaf-none ps (h .1))
+    trie-none (innerP n bs) h = omega (arith, bucket-none bs n 0 (h .1))
+
+    bucket-none : (bs : Buckets) (n g : ℕ) → SoundB cap pcap bs g → pageClaims (cellsB cap base bs n g) a ≡ 0
+    bucket-none end n g h = refl
+    bucket-none (bucket ch bs) n g h = omega (arith, chain-none ch (headAt cap n g) 0 (32 * g) (32 * g + 32) (h .0), bucket-none bs n (suc g) (h .1))
+
+    chain-none : (ch : Chain) (s y lo hi : ℕ) → SoundC cap pcap ch lo hi → pageClaims (cellsC cap base ch s y) a ≡ 0
+    chain-none stop s y lo hi h = refl
+    chain-none (link b t ch) s y lo hi h = omega (arith, trie-none t (h .2), chain-none ch (chainAt (root t)) b (suc b) hi (h .3))
+
+-- the tries from block j on claim nothing ahead of that block's links
+pub tries-behind : (cap pcap a : ℕ) (ts : List Phys) (j : ℕ) → Rooted cap pcap j ts → a < nextAt pcap j → pageClaims (triesCells cap pcap j ts) a ≡ 0
+tries-behind cap pcap a [] j r l = refl
+tries-behind cap pcap a (t ∷ ts) j r l =
+    omega (
+      arith,
+      trie-none cap pcap (nextAt pcap j) a (λ x k e. omega arith) t (r .1),
+      tries-behind cap pcap a ts (suc j) (r .2) (omega (arith, suc-mul (2 + j) pcap)),
+    )
+
+-- the links of two blocks are apart
+pub blocks-apart : (P i j x p : ℕ) → x < P → p < P → i ≢ j → nextAt P i + x ≢ nextAt P j + p
+blocks-apart P i j x p lx lp d e =
+    by-cases (decLt i j)
+    (λ l. let q : 2 + i < 2 + j = omega arith in omega (arith, rows-apart P q))
+    (λ l. let q : 2 + j < 2 + i = omega arith in omega (arith, rows-apart P q))
+
+-- the links of a page that stands in no trie
+pub tries-none : (N P p : ℕ) (live : ℕ → Bool) → p < P → live p ≡ false → (i : ℕ) (ts : List Phys) (j : ℕ) → Rooted N P j ts → EachFrom (λ k. Stands live) j (map tree ts) →
+    pageClaims (triesCells N P j ts) (nextAt P i + p) ≡ 0
+unfolding Stands
+tries-none N P p live lp dead i [] j r k = refl
+tries-none N P p live lp dead i (t ∷ ts) j r k =
+    omega (arith, by-cases (ℕ-discrete j i) here apart, tries-none N P p live lp dead i ts (suc j) (r .2) (k .1))
+  where
+    here : j ≡ i → pageClaims (cells N (nextAt P j) t) (nextAt P i + p) ≡ 0
+    here e = rw (← e, trie-claims N (nextAt P j) p t, k .0 p, dead) refl
+
+    apart : (j ≡ i → ⊥) → pageClaims (cells N (nextAt P j) t) (nextAt P i + p) ≡ 0
+    apart d = trie-none N P (nextAt P j) (nextAt P i + p) (λ x lx. blocks-apart P j i x p lx lp d) t (r .1)

@@ -1,0 +1,5 @@
+pub mod Claims
+pub mod Cells
+pub mod Within
+pub mod LiveBytes
+pub mod Same

@@ -1,0 +1,1 @@
+// Laws of a sound store, whatever call it is put to: no code.
