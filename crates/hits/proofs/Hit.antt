@@ -13,9 +13,9 @@ use Rattle.layout.specs.Lengths.{pagesLength, sketchesLength}
 use Rattle.layout.specs.Pages.{isLive, classOf, rowOf}
 use Rattle.layout.proofs.Rows.{row-inside, length-row}
 use Rattle.rights.specs.Open.{isOpen}
-use Rattle.sketch.specs.declared.radius.Verdict.{Verdict}
-use Rattle.sketch.specs.declared.radius.Verdict.the-variants.{Within, Beyond}
-use Rattle.sketch.specs.Verdicts.{verdictOf}
+use Rattle.comparison.specs.declared.Verdict.{Verdict}
+use Rattle.comparison.specs.declared.Verdict.the-variants.{Within, Beyond}
+use Rattle.comparison.specs.Verdicts.{verdictOf}
 use Rattle.hits.specs.Hit.{Test, Fitting, isHit}
 
 -- a verdict as an answer

@@ -9,7 +9,7 @@ use lib.ListN.{length, drop}
 use borrow.Author.Tests.{ltb-true, eqb-true}
 use Rattle.meaning.specs.Refusal.{firstNo}
 use Rattle.meaning.specs.Journal.{Command, opens, known, operandBytes, inPlace, form, byteAt, wordAt, entries, command, taken, Next, ended, refused, command-to, markAt, formAt, next}
-use Rattle.journal.proofs.Questions.{behind-there}
+use Rattle.journal_form.proofs.Questions.{behind-there}
 
 isCommand : Next → Bool
 isCommand ended = false

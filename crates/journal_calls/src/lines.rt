@@ -7,8 +7,8 @@ ghost use lib.Seq.{sets};
 ghost use Rattle.journal.specs.Steps.{meant};
 ghost use Rattle.journal_calls.specs.Turns.{answer, symbolsAfter, listing, lineOf};
 use journal::commands::Command;
-use journal::lines::refusal_line;
-use journal::lines::search_line;
+use journal_lines::refusal_line;
+use journal_lines::search_line;
 
 // The line of an accepted command, at the beginning of a lent buffer. Its length is given; 0 where there is none.
 fn listing_line(command: Command, count: usize, found: &[u16], line: &mut [u8]) -> usize

@@ -10,7 +10,7 @@ use crate::commands::execute;
 use crate::lines::command_line;
 use crate::lines::symbols_after;
 use journal::commands::Step;
-use journal::lines::refusal_line;
+use journal_lines::refusal_line;
 use journal::reading::read;
 
 // Settings, capacities or the count of thresholds are out of the limits.

@@ -3,7 +3,7 @@ ghost use mathlib.Core.Path.{_≡_};
 ghost use Prim.Native.Nat.{_<_};
 ghost use Rattle.layout.specs.Header.{bare};
 ghost use Rattle.layout.specs.Working.{mapWords};
-ghost use Rattle.sketch.specs.Table.{distanceTable};
+ghost use Rattle.distances.specs.Table.{distanceTable};
 ghost use Rattle.walk.specs.Mark.{marksOf};
 ghost use Rattle.search_laws.specs.Marks.{markBlock, markFrom, markBlocks};
 ghost use Rattle.search.specs.Ready.{Fits, Lent};
@@ -113,7 +113,7 @@ pub fn mark_blocks(
     if block_radius == 0 {
         return mark_exact(nodes, pages, map, h, words, sketch, budget);
     }
-    let table = sketch::table::distance_table();
+    let table = distances::distance_table();
     let mut left = budget;
     let mut j = 0;
     while j < q {

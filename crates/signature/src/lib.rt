@@ -4,14 +4,14 @@ ghost use mathlib.Core.Path.{_≡_};
 ghost use Prim.Native.Nat.{_≤_};
 ghost use lib.ListN.{length};
 ghost use Rattle.sketch.specs.Settings.{Bits};
-ghost use Rattle.sketch.specs.Table.{distanceTable};
+ghost use Rattle.distances.specs.Table.{distanceTable};
 ghost use Rattle.blocks.specs.RowBytes.{reduced};
 ghost use Rattle.signature.specs.Signature.{signature, signatureDistance};
 use blocks::packed::row_byte;
 use sketch::limits::packed_length;
 use sketch::limits::per_byte;
 use sketch::packing::symbols_at;
-use sketch::table::byte_distance;
+use distances::byte_distance;
 
 // The signature of a row of symbols, each taken modulo 2^b, so that any row has one; symbols in range stay as they are.
 // From the last packed byte to the first: the word is rotated by a byte, and the byte goes into its lowest.

@@ -34,7 +34,7 @@ fn write_last(count: usize)
     requires { ⌜ count ≤ 65536 ⌝ }
 {
     let mut line = [0u8; 24];
-    let n = journal::lines::last_line(count as u32, &mut line);
+    let n = journal_lines::last_line(count as u32, &mut line);
     io::write_all(STDOUT_FILENO, &line[..n]);
 }
 

@@ -4,7 +4,7 @@ ghost use Prim.Native.Nat.{_*_, _<_, _≤_};
 ghost use lib.ListN.{length};
 ghost use Rattle.layout.specs.Nodes.{nodeWords, mostNodes};
 ghost use Rattle.sketch.specs.Settings.{Bits};
-ghost use Rattle.sketch.specs.Table.{distanceTable};
+ghost use Rattle.distances.specs.Table.{distanceTable};
 ghost use Rattle.walk.specs.Frame.{entered, stepTo, stepAlong, stepIn, reads};
 
 // The children from `link` on in the chain whose head is at `at`, and those in the chains of the next heads, up to `last`.
@@ -83,7 +83,7 @@ fn step_along(table: &[u8; 2048], nodes: &[u32], cap: usize, b: u32, frame: Fram
     }
     let w = nodes[x];
     let byte = (layout::nodes::byte_of(w) % 256) as u8;
-    let d = sketch::table::byte_distance(table, b, byte ^ y);
+    let d = distances::byte_distance(table, b, byte ^ y);
     let link = layout::nodes::link_of(w);
     step_to(nodes, cap, x, d, frame.radius, frame.at, link)
 }

@@ -2,7 +2,7 @@
 ghost use mathlib.Core.Path.{_≡_};
 ghost use Prim.Native.Nat.{_<_};
 ghost use lib.ListN.{take};
-ghost use Rattle.sketch.specs.Table.{distanceTable};
+ghost use Rattle.distances.specs.Table.{distanceTable};
 ghost use Rattle.descent.specs.Cursor.{AllInside};
 ghost use Rattle.walk.specs.Mark.{marksOf};
 ghost use Rattle.walk.specs.Walk.{given, Fitting, walkBelow, walkFrom};

@@ -6,8 +6,8 @@ use lib.ListN.{length}
 use borrow.Author.Needs.{needs}
 use borrow.Author.Tests.{not-true, not-false}
 use Rattle.rights.specs.Open.{isOpen}
-use Rattle.sketch.specs.declared.radius.Verdict.{Verdict}
-use Rattle.sketch.specs.declared.radius.Verdict.the-variants.{Within, Beyond}
+use Rattle.comparison.specs.declared.Verdict.{Verdict}
+use Rattle.comparison.specs.declared.Verdict.the-variants.{Within, Beyond}
 use Rattle.hits.specs.Hit.{Test, test, isHit}
 use Rattle.hits.proofs.Hit.{says, live, opened, outside, dead, closed, judged, page-inside, row-fits, row-long}
 use Rattle.hits.proofs.is_hit.Statement.{statement}
