@@ -7,10 +7,10 @@ pub mod packed;
 pub mod scan;
 pub mod trie;
 
-pub use cases::{Case, Library, OPEN};
+pub use cases::{Case, Library, Pages, OPEN};
 pub use hashing::Hashing;
 pub use packed::Packed;
-pub use scan::{Planes, Symbols};
+pub use scan::Planes;
 pub use trie::Pointers;
 
 /// A way to answer a search: the pages within the radius of a query, of the classes in `open`, each once and rising.

@@ -1,6 +1,5 @@
 //! What the benchmarks search: pages and queries for some settings, and the library's own store of them.
-use super::scan::Symbols;
-use super::Way;
+use super::{Packed, Way};
 use crate::calls;
 use crate::random::Random;
 use crate::stores::Sketches;
@@ -13,7 +12,37 @@ const READER: u32 = 9;
 const GROUP: u32 = 3;
 const NODES: u32 = 262_144;
 
-#[derive(Clone, Copy)]
+/// Sketches by page, m symbols each, and a class each.
+pub struct Pages {
+    pub m: usize,
+    pub symbols: Vec<u8>,
+    pub classes: Vec<u8>,
+}
+
+impl Pages {
+    pub fn new(m: usize) -> Self {
+        Pages { m, symbols: Vec::new(), classes: Vec::new() }
+    }
+
+    pub fn add(&mut self, class: u8, sketch: &[u8]) {
+        self.symbols.extend(sketch);
+        self.classes.push(class);
+    }
+
+    pub fn sketch(&self, page: usize) -> &[u8] {
+        &self.symbols[page * self.m..(page + 1) * self.m]
+    }
+
+    pub fn packed(&self, b: u32) -> Packed {
+        let mut packed = Packed::new(b, self.m, self.classes.len());
+        for (p, &class) in self.classes.iter().enumerate() {
+            packed.set(p, class, self.sketch(p));
+        }
+        packed
+    }
+}
+
+/// The settings of a store, how its sketches are drawn, and the radius of its searches.
 pub struct Case {
     pub n: usize,
     pub b: u32,
@@ -26,17 +55,17 @@ pub struct Case {
 
 impl Case {
     /// The pages, and queries of which every other one is near a page. The same at every call.
-    pub fn pages(&self) -> (Symbols, Vec<Vec<u8>>) {
+    pub fn pages(&self) -> (Pages, Vec<Vec<u8>>) {
         let random = &mut Random::new(u64::from(self.b) * 1_000 + self.n as u64 + u64::from(self.clustered));
         let centres = Sketches::new(random, self.b, self.m as u32, 1 + self.n / 100);
         let sketch = |random: &mut Random| if self.clustered { centres.near(random, 6) } else { random.bytes(self.m, 1 << self.b) };
-        let mut pages = Symbols { m: self.m, rows: Vec::new(), classes: Vec::new() };
+        let mut pages = Pages::new(self.m);
         for _ in 0..self.n {
-            pages.rows.extend(sketch(random));
-            pages.classes.push(random.below(64) as u8);
+            let x = sketch(random);
+            pages.add(random.below(64) as u8, &x);
         }
         let near = |random: &mut Random| {
-            let mut x = pages.row(random.below(self.n as u64) as usize).to_vec();
+            let mut x = pages.sketch(random.below(self.n as u64) as usize).to_vec();
             x[random.below(self.m as u64) as usize] = random.below(1 << self.b) as u8;
             x
         };
@@ -58,12 +87,12 @@ pub struct Library {
 }
 
 impl Library {
-    pub fn new(c: &Case, pages: &Symbols) -> Self {
+    pub fn new(c: &Case, pages: &Pages) -> Self {
         let s = Settings { b: c.b, m: c.m as u32, q: c.q as u32, pages: c.n as u32, nodes: NODES, thresholds: vec![c.threshold; 64] };
         let mut tables = empty(&s);
         assert_eq!(calls::open(&mut tables, &s), 0);
         for (p, &class) in pages.classes.iter().enumerate() {
-            assert_eq!(calls::add(&mut tables.lend(), p as u32, class.into(), pages.row(p)), 0);
+            assert_eq!(calls::add(&mut tables.lend(), p as u32, class.into(), pages.sketch(p)), 0);
         }
         assert_eq!(calls::join(&mut tables, READER, GROUP), 0);
         for class in (0..64).filter(|k| OPEN >> k & 1 == 1) {

@@ -1,5 +1,5 @@
 //! Scans: every row is measured, without a branch, and its class is looked at only where it is near.
-use super::packed::{distance, pack, shaped, Packed};
+use super::packed::{bits, distance, pack, shaped, Packed};
 use super::Way;
 
 /// So many rows are counted in one loop, which the compiler can vectorise; only where one of them is near are they looked at singly.
@@ -8,12 +8,11 @@ const CHUNK: usize = 64;
 /// Lists the rows of a chunk that are near and open.
 #[inline(always)]
 fn scan_chunk(classes: &[u8], first: usize, open: u64, near: impl Fn(usize) -> bool, out: &mut Vec<u16>) {
-    let n = CHUNK.min(classes.len() - first);
-    if n == CHUNK && (0..CHUNK).map(|i| u32::from(near(i))).sum::<u32>() == 0 {
+    if (0..CHUNK).map(|i| u32::from(near(i))).sum::<u32>() == 0 {
         return;
     }
-    for i in 0..n {
-        if near(i) && open >> classes[first + i] & 1 == 1 {
+    for (i, &class) in classes[first..].iter().take(CHUNK).enumerate() {
+        if near(i) && open >> class & 1 == 1 {
             out.push((first + i) as u16);
         }
     }
@@ -23,8 +22,15 @@ fn scan_chunk(classes: &[u8], first: usize, open: u64, near: impl Fn(usize) -> b
 impl Packed {
     fn scan_of<const WIDTH: usize, const WORDS: usize>(&self, open: u64, radius: u32, query: &[u8], out: &mut Vec<u16>) {
         let wanted = pack::<WIDTH, WORDS>(query);
-        for (i, rows) in self.rows.as_chunks::<WORDS>().0.chunks(CHUNK).enumerate() {
+        let (chunks, rest) = self.rows.as_chunks::<WORDS>().0.as_chunks::<CHUNK>();
+        for (i, rows) in chunks.iter().enumerate() {
             scan_chunk(&self.classes, i * CHUNK, open, |k| distance::<WIDTH, WORDS>(&rows[k], &wanted) <= radius, out);
+        }
+        let first = chunks.len() * CHUNK;
+        for (i, row) in rest.iter().enumerate() {
+            if distance::<WIDTH, WORDS>(row, &wanted) <= radius && self.opens(open, first + i) {
+                out.push((first + i) as u16);
+            }
         }
     }
 }
@@ -97,7 +103,7 @@ impl<'a> Planes<'a> {
     /// Chunk by chunk, in each the planes in turn; the last chunk is filled up.
     fn words<T: Word>(&self) -> Vec<T> {
         let width = self.packed.width;
-        let symbol = |p: usize, i: usize| super::packed::bits(self.packed.row(p), i * width, width) as u8;
+        let symbol = |p: usize, i: usize| bits(self.packed.row(p), i * width, width) as u8;
         let word = |p: usize, k: usize| if p < self.packed.len() { plane(k, (0..self.packed.m).map(|i| symbol(p, i))) } else { 0 };
         let chunk = |c: usize| (0..width).flat_map(move |k| (0..CHUNK).map(move |i| (c * CHUNK + i, k)));
         (0..self.packed.len().div_ceil(CHUNK)).flat_map(chunk).map(|(p, k)| T::of(word(p, k))).collect()
@@ -130,56 +136,5 @@ impl Way for Planes<'_> {
             self.scan(&self.wide, open, radius, query, out);
         }
         self.packed.len()
-    }
-}
-
-/// Symbols as they come, a byte each.
-pub struct Symbols {
-    pub m: usize,
-    pub rows: Vec<u8>,
-    pub classes: Vec<u8>,
-}
-
-impl Symbols {
-    pub fn row(&self, page: usize) -> &[u8] {
-        &self.rows[page * self.m..(page + 1) * self.m]
-    }
-
-    pub fn packed(&self, b: u32) -> Packed {
-        let mut packed = Packed::new(b, self.m, self.classes.len());
-        for (p, &class) in self.classes.iter().enumerate() {
-            packed.set(p, class, self.row(p));
-        }
-        packed
-    }
-
-    fn scan_of<const M: usize>(&self, open: u64, radius: u32, query: &[u8], out: &mut Vec<u16>) {
-        let wanted: &[u8; M] = query.try_into().unwrap();
-        for (p, row) in self.rows.as_chunks::<M>().0.iter().enumerate() {
-            let d: u8 = row.iter().zip(wanted).map(|(a, b)| u8::from(a != b)).sum();
-            if u32::from(d) <= radius && open >> self.classes[p] & 1 == 1 {
-                out.push(p as u16);
-            }
-        }
-    }
-
-    fn scan_any(&self, open: u64, radius: u32, query: &[u8], out: &mut Vec<u16>) {
-        for (p, row) in self.rows.chunks_exact(self.m).enumerate() {
-            let d = row.iter().zip(query).filter(|(a, b)| a != b).count();
-            if d <= radius as usize && open >> self.classes[p] & 1 == 1 {
-                out.push(p as u16);
-            }
-        }
-    }
-}
-
-impl Way for &Symbols {
-    fn search(&mut self, open: u64, radius: u32, query: &[u8], out: &mut Vec<u16>) -> usize {
-        match self.m {
-            32 => self.scan_of::<32>(open, radius, query, out),
-            64 => self.scan_of::<64>(open, radius, query, out),
-            _ => self.scan_any(open, radius, query, out),
-        }
-        self.classes.len()
     }
 }

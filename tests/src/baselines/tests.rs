@@ -1,5 +1,5 @@
 //! Each way against the plain index: equal lists, and the trie's trees equal to the plain ones.
-use super::{Hashing, Planes, Pointers, Symbols, Way};
+use super::{Hashing, Pages, Planes, Pointers, Way};
 use crate::random::Random;
 use crate::stores::{small_settings, Sketches};
 use crate::tables::Settings;
@@ -39,15 +39,14 @@ fn scans_and_hashing_list_what_the_plain_index_lists() {
     for _ in 0..300 {
         let (s, mut plain, open) = index(random);
         let sketches = Sketches::new(random, s.b, s.m, 3);
-        let mut pages = Symbols { m: s.m as usize, rows: Vec::new(), classes: Vec::new() };
+        let mut pages = Pages::new(s.m as usize);
         // more than a chunk of the scans
         let s = Settings { pages: 1 + random.below(150) as u32, ..s };
         plain.settings.pages = s.pages;
         for p in 0..s.pages {
             let (class, x) = (random.below(64) as u32, sketches.near(random, 4));
             assert_eq!(plain.add(p, class, &x), 0);
-            pages.rows.extend(x);
-            pages.classes.push(class as u8);
+            pages.add(class as u8, &x);
         }
         let packed = pages.packed(s.b);
         let mut planes = Planes::new(&packed);
@@ -55,7 +54,6 @@ fn scans_and_hashing_list_what_the_plain_index_lists() {
         for _ in 0..5 {
             let (radius, query) = (radius(random, &s), sketches.near(random, 4));
             let lists = wanted(&plain, radius, &query);
-            assert_eq!(listed(&mut &pages, open, radius, &query), lists, "symbols, {s:?}");
             assert_eq!(listed(&mut &packed, open, radius, &query), lists, "packed rows, {s:?}");
             assert_eq!(listed(&mut planes, open, radius, &query), lists, "planes, {s:?}");
             assert_eq!(listed(&mut hashing, open, radius, &query), lists, "hashing, {s:?}");

@@ -8,7 +8,7 @@
 //!     bench_search count b m r q random|clustered searches      so many searches, for an instruction count
 use std::hint::black_box;
 use std::time::Instant;
-use vetchdawn_tests::baselines::{Case, Hashing, Library, Packed, Planes, Pointers, Symbols, Way, OPEN};
+use vetchdawn_tests::baselines::{Case, Hashing, Library, Packed, Pages, Planes, Pointers, Way, OPEN};
 
 /// b, m, r, q.
 type Setting = (u32, usize, u32, usize);
@@ -24,21 +24,21 @@ const FEW: usize = 200;
 const PASSES: usize = 5;
 /// Past so many keys a block is not hashed.
 const KEYS: usize = 100_000;
-const WAYS: usize = 6;
+const WAYS: usize = 5;
 
 fn case(n: usize, (b, m, r, q): Setting, clustered: bool) -> Case {
     Case { n, b, m, r, q, threshold: 32, clustered }
 }
 
 /// The library, the indexes, the scans. None stands for a way that is not tried.
-fn ways<'a>(c: &Case, pages: &'a Symbols, packed: &'a Packed) -> [Option<Box<dyn Way + 'a>>; WAYS] {
+fn ways<'a>(c: &Case, pages: &Pages, packed: &'a Packed) -> [Option<Box<dyn Way + 'a>>; WAYS] {
     let mut trie = Pointers::new(c.b, c.m, c.q, c.n, c.threshold);
     for (p, &class) in pages.classes.iter().enumerate() {
-        assert!(trie.add(p as u32, class, pages.row(p)));
+        assert!(trie.add(p as u32, class, pages.sketch(p)));
     }
     let hashing = (c.keys() <= KEYS).then(|| Box::new(Hashing::new(packed, c.q)) as Box<dyn Way>);
     let planes = Planes::new(packed);
-    [Some(Box::new(Library::new(c, pages))), Some(Box::new(trie)), hashing, Some(Box::new(pages)), Some(Box::new(packed)), Some(Box::new(planes))]
+    [Some(Box::new(Library::new(c, pages))), Some(Box::new(trie)), hashing, Some(Box::new(packed)), Some(Box::new(planes))]
 }
 
 fn median(mut times: Vec<f64>) -> f64 {
@@ -121,17 +121,17 @@ fn line(c: &Case, ways: &mut [Option<Box<dyn Way + '_>>; WAYS], queries: &[Vec<u
     Line { times: times.map(mean), tested: tested.map(each), listed: each(listed) }
 }
 
-const HEAD: &str = "    n b  m r q sketches   row    met   hash listed  library    trie hashing symbols    rows  planes   /trie  /hash  /scan";
+const HEAD: &str = "    n b  m r q sketches   row    met   hash listed  library    trie hashing    rows  planes   /trie  /hash  /scan";
 
 fn print(c: &Case, row: usize, line: &Line) {
     let sketches = if c.clustered { "clustered" } else { "random" };
     let shown = |x: f64, digits: usize| if x.is_nan() { format!(" {:>6}", "-") } else { format!(" {x:6.digits$}") };
-    let [library, trie, hashing, symbols, rows, planes] = line.times;
+    let [library, trie, hashing, rows, planes] = line.times;
     let hashed = if hashing.is_nan() { hashing } else { line.tested[2] };
     print!("{:5} {} {:2} {} {} {sketches:9} {row:4}", c.n, c.b, c.m, c.r, c.q);
     print!("{}{}{} ", shown(line.tested[1], 1), shown(hashed, 1), shown(line.listed, 1));
     line.times.iter().for_each(|&t| print!(" {}", shown(t, 2)));
-    println!(" {}{}{}", shown(library / trie, 2), shown(library / hashing, 2), shown(library / symbols.min(rows).min(planes), 2));
+    println!(" {}{}{}", shown(library / trie, 2), shown(library / hashing, 2), shown(library / rows.min(planes), 2));
 }
 
 fn head() {
