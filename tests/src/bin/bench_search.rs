@@ -1,62 +1,44 @@
-//! Searches against scans, multi-index hashing and a pointer-based trie: all built for release, in one run. Each way in turn answers
-//! all queries, a scan the first hundred of them, round after round; medians of the rounds. Every list is compared with ours.
+//! Searches of the library against plain programs that answer the same: each way in turn answers a row of queries, pass after pass, and
+//! every list is compared with the library's. Each search is timed by itself: the median of its passes, the mean over the queries.
+//!
+//!     bench_search          all cases, 1,000 queries in a row
+//!     bench_search quick    the settings shown, 1,000 queries in a row
+//!     bench_search rows     the settings shown, 1, 10, 100 and 1,000 queries in a row
+//!     bench_search own      the library's times alone, as numbers: b m r q clustered row microseconds
+//!     bench_search count b m r q random|clustered searches      so many searches, for an instruction count
+use std::hint::black_box;
 use std::time::Instant;
-use vetchdawn_tests::baselines::{Hashing, Pointers, Rows, Vertical};
-use vetchdawn_tests::calls;
-use vetchdawn_tests::random::Random;
-use vetchdawn_tests::stores::Sketches;
-use vetchdawn_tests::tables::{Settings, Tables};
+use vetchdawn_tests::baselines::{Case, Hashing, Library, Packed, Pages, Planes, Pointers, Way, OPEN};
 
-const QUERIES: usize = 1_000;
-const SCANS: usize = 100;
-const ROUNDS: usize = 5;
-const OPEN: u64 = 0x0f0f_f0f0_ffff_1111;
+/// b, m, r, q.
+type Setting = (u32, usize, u32, usize);
+const SHOWN: [Setting; 4] = [(4, 32, 3, 4), (4, 32, 2, 2), (1, 64, 5, 6), (1, 64, 7, 8)];
+const OTHERS: [Setting; 10] = [
+    (4, 32, 1, 2), (4, 32, 1, 1), (4, 32, 2, 3), (4, 32, 3, 3), (2, 64, 2, 2),
+    (2, 64, 3, 4), (8, 32, 2, 2), (8, 32, 3, 4), (1, 64, 2, 2), (1, 64, 3, 4),
+];
+const PAGES: usize = 65_535;
+const ROWS: [usize; 4] = [1, 10, 100, 1_000];
+/// So many queries are answered where a row has fewer, and by a scan where it has more.
+const FEW: usize = 200;
+const PASSES: usize = 5;
+/// Past so many keys a block is not hashed.
+const KEYS: usize = 100_000;
+const WAYS: usize = 5;
 
-struct Case {
-    n: usize,
-    b: u32,
-    m: usize,
-    r: u32,
-    q: usize,
-    threshold: u16,
-    clustered: bool,
+fn case(n: usize, (b, m, r, q): Setting, clustered: bool) -> Case {
+    Case { n, b, m, r, q, threshold: 32, clustered }
 }
 
-fn store(c: &Case, rows: &Rows) -> Tables {
-    let s = Settings { b: c.b, m: c.m as u32, q: c.q as u32, pages: c.n as u32, nodes: 262_144, thresholds: vec![c.threshold; 64] };
-    let mut t = Tables::filled_with(0, &s);
-    assert_eq!(calls::open(&mut t, &s), 0);
-    for p in 0..c.n {
-        assert_eq!(calls::add(&mut t.lend(), p as u32, u32::from(rows.classes[p]), rows.row(p)), 0);
+/// The library, the indexes, the scans. None stands for a way that is not tried.
+fn ways<'a>(c: &Case, pages: &Pages, packed: &'a Packed) -> [Option<Box<dyn Way + 'a>>; WAYS] {
+    let mut trie = Pointers::new(c.b, c.m, c.q, c.n, c.threshold);
+    for (p, &class) in pages.classes.iter().enumerate() {
+        assert!(trie.add(p as u32, class, pages.sketch(p)));
     }
-    assert_eq!(calls::join(&mut t, 9, 3), 0);
-    for class in (0..64).filter(|k| OPEN >> k & 1 == 1) {
-        assert_eq!(calls::grant(&mut t, 3, class), 0);
-    }
-    t
-}
-
-fn rows(c: &Case, random: &mut Random) -> (Rows, Vec<Vec<u8>>) {
-    let centres = Sketches::new(random, c.b, c.m as u32, 1 + c.n / 100);
-    let sketch = |random: &mut Random| if c.clustered { centres.near(random, 6) } else { random.bytes(c.m, 1 << c.b) };
-    let mut all = Rows { b: c.b, m: c.m, symbols: Vec::new(), classes: Vec::new() };
-    for _ in 0..c.n {
-        all.symbols.extend(sketch(random));
-        all.classes.push(random.below(64) as u8);
-    }
-    // half of the queries are near a page
-    let queries = (0..QUERIES)
-        .map(|i| {
-            if i % 2 == 0 {
-                let mut x = all.row(random.below(c.n as u64) as usize).to_vec();
-                x[random.below(c.m as u64) as usize] = random.below(1 << c.b) as u8;
-                x
-            } else {
-                sketch(random)
-            }
-        })
-        .collect();
-    (all, queries)
+    let hashing = (c.keys() <= KEYS).then(|| Box::new(Hashing::new(packed, c.q)) as Box<dyn Way>);
+    let planes = Planes::new(packed);
+    [Some(Box::new(Library::new(c, pages))), Some(Box::new(trie)), hashing, Some(Box::new(packed)), Some(Box::new(planes))]
 }
 
 fn median(mut times: Vec<f64>) -> f64 {
@@ -64,132 +46,166 @@ fn median(mut times: Vec<f64>) -> f64 {
     times[times.len() / 2]
 }
 
-/// Microseconds a search, over all queries in a row; and the lists.
-fn timed(queries: &[Vec<u8>], search: &mut dyn FnMut(&[u8], &mut Vec<u16>)) -> (f64, Vec<Vec<u16>>) {
-    let mut lists = vec![Vec::with_capacity(64); queries.len()];
-    let start = Instant::now();
-    for (query, list) in queries.iter().zip(&mut lists) {
-        search(query, list);
-    }
-    (start.elapsed().as_nanos() as f64 / 1000.0 / queries.len() as f64, lists)
+fn microseconds(start: Instant) -> f64 {
+    start.elapsed().as_nanos() as f64 / 1_000.0
 }
 
-fn run(c: &Case) {
-    let mut random = Random::new(u64::from(c.b) * 1_000 + c.n as u64 + u64::from(c.clustered));
-    let (rows, queries) = rows(c, &mut random);
-    let mut t = store(c, &rows);
-    let mut lent = t.lend();
-    let vertical = Vertical::new(&rows);
-    // hashing tries every block within r / q: with wide symbols that can be too many
-    let probes = (0..c.r as usize / c.q).fold(1, |n, i| n * (c.m.div_ceil(c.q) - i) * ((1 << c.b) - 1));
-    let mut hashing = (probes < 100_000).then(|| Hashing::new(&rows, c.q));
-    let mut pointers = Pointers::new(c.b, c.m, c.q, c.n, c.threshold);
-    for p in 0..c.n {
-        assert!(pointers.add(p as u32, rows.classes[p], rows.row(p)));
+/// What a turn needs beside its way: memory to read, room for a list, and what looking at the clock costs.
+struct Bench {
+    sweep: Vec<u64>,
+    list: Vec<u16>,
+    clock: f64,
+}
+
+impl Bench {
+    fn new() -> Self {
+        let clock = median((0..10_001).map(|_| microseconds(Instant::now())).collect());
+        Bench { sweep: (0..1 << 19).collect(), list: Vec::with_capacity(PAGES), clock }
     }
-    let mut output = vec![0u16; c.n];
-    let mut ours = |query: &[u8], list: &mut Vec<u16>| {
-        let given = calls::search(&mut lent, 9, c.r, query, &mut output);
-        assert_eq!(given.number, 0);
-        list.extend_from_slice(&output[..given.value as usize]);
-    };
-    let mut times = [const { Vec::new() }; 6];
-    let mut found = 0;
-    for _ in 0..ROUNDS {
-        let (time, lists) = timed(&queries, &mut ours);
-        times[0].push(time);
-        found = lists.iter().map(Vec::len).sum();
-        let mut other = |way: usize, count: usize, search: &mut dyn FnMut(&[u8], &mut Vec<u16>)| {
-            let (time, other) = timed(&queries[..count], search);
-            times[way].push(time);
-            assert!(other == lists[..count], "lists differ");
-        };
-        other(1, SCANS, &mut |query, list| rows.early_exit(OPEN, query, c.r, list));
-        other(2, SCANS, &mut |query, list| rows.full(OPEN, query, c.r, list));
-        other(3, SCANS, &mut |query, list| vertical.scan(OPEN, query, c.r, list));
-        other(5, QUERIES, &mut |query, list| pointers.search(OPEN, query, c.r, list));
-        if let Some(hashing) = &mut hashing {
-            other(4, SCANS, &mut |query, list| hashing.search(OPEN, query, c.r, list));
+
+    /// Before each turn 4 MB are read, as other work would, so that all ways find the nearer caches alike.
+    fn sweep(&self) {
+        black_box(black_box(&self.sweep).iter().fold(0, |a, &b| a ^ b));
+    }
+
+    /// A turn: a row of queries is answered, and each one's time put down. Gives the lists.
+    fn turn(&mut self, c: &Case, way: &mut dyn Way, queries: &[Vec<u8>], times: &mut [Vec<f64>], tested: &mut usize) -> Vec<Vec<u16>> {
+        self.sweep();
+        let mut lists = Vec::with_capacity(queries.len());
+        for (query, times) in queries.iter().zip(times) {
+            self.list.clear();
+            let start = Instant::now();
+            *tested += way.search(OPEN, c.r, query, &mut self.list);
+            times.push(microseconds(start) - self.clock);
+            lists.push(self.list.clone());
+        }
+        lists
+    }
+}
+
+/// The mean over the queries of the median of their passes.
+fn mean(times: Vec<Vec<f64>>) -> f64 {
+    let medians: Vec<f64> = times.into_iter().filter(|t| !t.is_empty()).map(median).collect();
+    medians.iter().sum::<f64>() / medians.len() as f64
+}
+
+/// For each way microseconds a search and pages tested, and the pages listed.
+struct Line {
+    times: [f64; WAYS],
+    tested: [f64; WAYS],
+    listed: f64,
+}
+
+/// Each way answers `row` queries, then the next way does.
+fn line(c: &Case, ways: &mut [Option<Box<dyn Way + '_>>; WAYS], queries: &[Vec<u8>], row: usize) -> Line {
+    let mut bench = Bench::new();
+    let queries = &queries[..row.max(FEW)];
+    let mut times: [_; WAYS] = std::array::from_fn(|_| vec![Vec::new(); queries.len()]);
+    let (mut tested, mut listed) = ([0; WAYS], 0);
+    for first in (0..PASSES).flat_map(|_| (0..queries.len()).step_by(row)) {
+        let queries = &queries[first..first + row];
+        let mut wanted = Vec::new();
+        for (i, way) in ways.iter_mut().enumerate() {
+            let Some(way) = way else { continue };
+            let queries = if i < 3 { queries } else { &queries[..row.min(FEW)] };
+            let lists = bench.turn(c, &mut **way, queries, &mut times[i][first..], &mut tested[i]);
+            if i == 0 {
+                listed += lists.iter().map(Vec::len).sum::<usize>();
+                wanted = lists;
+            } else {
+                assert!(lists == wanted[..queries.len()], "lists differ");
+            }
         }
     }
-    let [ours, early, full, vertical, hashing, pointers] = times.map(|t| if t.is_empty() { f64::NAN } else { median(t) });
-    let us = |t: f64| if t.is_nan() { "      -".into() } else { format!("{t:7.1}") };
-    println!(
-        "{:5} {} {:2} {:2} {:1} {:2} {} {:5.1} {} {} {} {} {} {}   {:5.2}  {:5.2}",
-        c.n, c.b, c.m, c.r, c.q, c.threshold, if c.clustered { "clustered" } else { "random   " }, found as f64 / QUERIES as f64,
-        us(ours), us(early), us(full), us(vertical), us(hashing), us(pointers),
-        ours / early.min(full).min(vertical), ours / pointers
-    );
+    let each = |n: usize| n as f64 / (PASSES * queries.len()) as f64;
+    Line { times: times.map(mean), tested: tested.map(each), listed: each(listed) }
 }
 
-/// Each way answers `row` queries in a row, then the next way: the fewer, the less of an index do the scans leave in the caches.
-fn in_rows(c: &Case, row: usize) {
-    let mut random = Random::new(u64::from(c.b) * 1_000 + c.n as u64 + u64::from(c.clustered));
-    let (rows, queries) = rows(c, &mut random);
-    let mut t = store(c, &rows);
-    let mut lent = t.lend();
-    let vertical = Vertical::new(&rows);
-    let mut pointers = Pointers::new(c.b, c.m, c.q, c.n, c.threshold);
-    for p in 0..c.n {
-        assert!(pointers.add(p as u32, rows.classes[p], rows.row(p)));
+const HEAD: &str = "    n b  m r q sketches   row    met   hash listed  library    trie hashing    rows  planes   /trie  /hash  /scan";
+
+fn print(c: &Case, row: usize, line: &Line) {
+    let sketches = if c.clustered { "clustered" } else { "random" };
+    let shown = |x: f64, digits: usize| if x.is_nan() { format!(" {:>6}", "-") } else { format!(" {x:6.digits$}") };
+    let [library, trie, hashing, rows, planes] = line.times;
+    let hashed = if hashing.is_nan() { hashing } else { line.tested[2] };
+    print!("{:5} {} {:2} {} {} {sketches:9} {row:4}", c.n, c.b, c.m, c.r, c.q);
+    print!("{}{}{} ", shown(line.tested[1], 1), shown(hashed, 1), shown(line.listed, 1));
+    line.times.iter().for_each(|&t| print!(" {}", shown(t, 2)));
+    println!(" {}{}{}", shown(library / trie, 2), shown(library / hashing, 2), shown(library / rows.min(planes), 2));
+}
+
+fn head() {
+    let built = match (cfg!(target_feature = "avx512vpopcntdq"), cfg!(target_feature = "popcnt")) {
+        (true, _) => "with population counts of vectors",
+        (_, true) => "with population counts",
+        _ => "for any x86-64",
+    };
+    println!("Microseconds a search, threshold 32. The library is built for any x86-64, the plain programs {built}.");
+    println!("met, hash: pages tested by the trie and by hashing. The last columns: the library / the trie, / hashing, / the best scan.");
+    println!("{HEAD}");
+}
+
+fn compare(c: &Case, rows: &[usize]) {
+    let (pages, queries) = c.pages();
+    let packed = pages.packed(c.b);
+    let mut ways = ways(c, &pages, &packed);
+    for &row in rows {
+        print(c, row, &line(c, &mut ways, &queries, row));
     }
-    let mut output = vec![0u16; c.n];
-    let mut times = [const { Vec::new() }; 4];
-    for queries in queries.chunks(row).cycle().take((4 * SCANS / row).max(ROUNDS)) {
-        let (time, lists) = timed(queries, &mut |query, list| {
-            let given = calls::search(&mut lent, 9, c.r, query, &mut output);
-            assert_eq!(given.number, 0);
-            list.extend_from_slice(&output[..given.value as usize]);
-        });
-        times[0].push(time);
-        let mut other = |way: usize, count: usize, search: &mut dyn FnMut(&[u8], &mut Vec<u16>)| {
-            let (time, other) = timed(&queries[..count.min(row)], search);
-            times[way].push(time);
-            assert!(other == lists[..count.min(row)], "lists differ");
-        };
-        other(1, SCANS, &mut |query, list| rows.full(OPEN, query, c.r, list));
-        other(2, SCANS, &mut |query, list| vertical.scan(OPEN, query, c.r, list));
-        other(3, QUERIES, &mut |query, list| pointers.search(OPEN, query, c.r, list));
+}
+
+/// The library's times alone, in the same rows.
+fn own(c: &Case) {
+    let (pages, queries) = c.pages();
+    let mut library = Library::new(c, &pages);
+    let mut bench = Bench::new();
+    for row in ROWS {
+        let queries = &queries[..row.max(FEW)];
+        let mut times = vec![Vec::new(); queries.len()];
+        for first in (0..PASSES).flat_map(|_| (0..queries.len()).step_by(row)) {
+            bench.turn(c, &mut library, &queries[first..first + row], &mut times[first..], &mut 0);
+        }
+        println!("{} {} {} {} {} {row} {:.3}", c.b, c.m, c.r, c.q, u8::from(c.clustered), mean(times));
     }
-    let [ours, full, vertical, pointers] = times.map(median);
-    let scan = full.min(vertical);
-    println!(
-        "{:5} {} {:2} {:2} {:1} {:2} {} {row:5} {ours:7.1} {full:7.1} {vertical:7.1} {pointers:7.1}   {:5.2}  {:5.2}       {:5.2}",
-        c.n, c.b, c.m, c.r, c.q, c.threshold, if c.clustered { "clustered" } else { "random   " },
-        ours / scan, ours / pointers, pointers / scan
-    );
+}
+
+/// Some searches and nothing else; prints how many pages they listed.
+fn count(given: &[String]) {
+    let number = |i: usize| given[i].parse::<usize>().unwrap();
+    let c = case(PAGES, (number(0) as u32, number(1), number(2) as u32, number(3)), given[4] == "clustered");
+    let (pages, queries) = c.pages();
+    let mut library = Library::new(&c, &pages);
+    let mut list = Vec::new();
+    for query in queries.iter().cycle().take(number(5)) {
+        library.search(OPEN, c.r, query, &mut list);
+    }
+    println!("{}", list.len());
+}
+
+/// Random and clustered sketches of each setting.
+fn both(n: usize, settings: &[Setting], each: impl Fn(&Case)) {
+    for &setting in settings {
+        for clustered in [false, true] {
+            each(&case(n, setting, clustered));
+        }
+    }
 }
 
 fn main() {
-    if std::env::args().any(|a| a == "rows") {
-        println!("Microseconds a search, so many in a row before the way is changed; medians. The last columns: this search / the best scan,");
-        println!("this search / the pointer trie, the pointer trie / the best scan.");
-        println!("    n b  m  r q  t sketches  row    ours    full  vertic pointer   /scan  /trie  trie/scan");
-        for clustered in [false, true] {
-            for (r, q) in [(3, 4), (2, 2)] {
-                for row in [1, 10, 100, 1_000] {
-                    in_rows(&Case { n: 65_535, b: 4, m: 32, r, q, threshold: 32, clustered }, row);
-                }
-            }
-        }
-        return;
+    let given: Vec<String> = std::env::args().skip(1).collect();
+    let mode = given.first().map_or("", String::as_str);
+    match mode {
+        "own" => return both(PAGES, &SHOWN, own),
+        "count" => return count(&given[1..]),
+        _ => head(),
     }
-    println!("Microseconds a search, medians; the last columns: this search / the best scan, and / the pointer trie.");
-    println!("    n b  m  r q  t sketches  found    ours   early    full  vertic    hash pointer   /scan  /trie");
-    let quick = std::env::args().any(|a| a == "quick");
-    for n in [1_000, 8_000, 65_535] {
-        for (b, m) in [(4, 32), (2, 64), (8, 32), (1, 64)] {
-            for (r, q) in [(1, 2), (1, 1), (2, 3), (2, 2), (3, 4), (3, 3)] {
-                for threshold in [8, 32] {
-                    for clustered in [false, true] {
-                        let c = Case { n, b, m, r, q, threshold, clustered };
-                        if quick && (n < 65_535 || threshold == 8 || b != 4) {
-                            continue;
-                        }
-                        run(&c);
-                    }
-                }
-            }
-        }
+    if mode == "rows" {
+        return both(PAGES, &SHOWN, |c| compare(c, &ROWS));
+    }
+    both(PAGES, &SHOWN, |c| compare(c, &[1_000]));
+    if mode != "quick" {
+        both(PAGES, &OTHERS, |c| compare(c, &[1_000]));
+        both(1_000, &SHOWN, |c| compare(c, &[1_000]));
+        both(8_000, &SHOWN, |c| compare(c, &[1_000]));
     }
 }

@@ -8,19 +8,17 @@ struct Row {
     m: u32,
     r: u32,
     q: u32,
-    threshold: u32,
     clustered: bool,
-    // microseconds: ours, early exit, full, vertical, hashing, pointer trie
+    // microseconds, way by way
     times: Vec<Option<f64>>,
 }
 
-const WAYS: [(&str, &str); 6] = [
+const WAYS: [(&str, &str); 5] = [
     ("this search", "#b3261e"),
-    ("early-exit scan", "#7a7a7a"),
-    ("full scan", "#3a6ea5"),
-    ("vertical scan", "#2e8b57"),
-    ("multi-index hashing", "#c58b00"),
     ("pointer trie", "#6b3fa0"),
+    ("hashing of blocks", "#c58b00"),
+    ("scan of packed rows", "#3a6ea5"),
+    ("scan of bit planes", "#2e8b57"),
 ];
 
 fn rows(text: &str) -> Vec<Row> {
@@ -33,9 +31,8 @@ fn rows(text: &str) -> Vec<Row> {
             m: number(2)?,
             r: number(3)?,
             q: number(4)?,
-            threshold: number(5)?,
-            clustered: *f.get(6)? == "clustered",
-            times: (8..14).map(|i| f.get(i).and_then(|s| s.parse().ok())).collect(),
+            clustered: *f.get(5)? == "clustered",
+            times: (10..10 + WAYS.len()).map(|i| f.get(i).and_then(|s| s.parse().ok())).collect(),
         })
     };
     text.lines().filter_map(row).collect()
@@ -77,8 +74,9 @@ fn main() {
     let mut text = String::new();
     std::io::stdin().read_to_string(&mut text).unwrap();
     let rows = rows(&text);
-    let chosen = |r: &&Row| r.b == 4 && r.m == 32 && r.threshold == 32 && !r.clustered;
-    let by_n: Vec<&Row> = rows.iter().filter(chosen).filter(|r| (r.r, r.q) == (3, 4)).collect();
+    let chosen = |r: &&Row| r.b == 4 && r.m == 32 && !r.clustered;
+    let mut by_n: Vec<&Row> = rows.iter().filter(chosen).filter(|r| (r.r, r.q) == (3, 4)).collect();
+    by_n.sort_by(|x, y| x.n.total_cmp(&y.n));
     let mut by_r: Vec<&Row> = rows.iter().filter(chosen).filter(|r| r.n == 65_535.0).collect();
     by_r.sort_by_key(|r| (r.r, r.q));
     let mut out = String::from("<svg xmlns='http://www.w3.org/2000/svg' width='1010' height='440' font-family='sans-serif' font-size='12'>\n<rect width='100%' height='100%' fill='white'/>\n");
@@ -88,6 +86,6 @@ fn main() {
         let at = 80.0 + 22.0 * i as f64;
         out.push_str(&format!("<rect x='860' y='{}' width='14' height='4' fill='{colour}'/><text x='880' y='{}'>{name}</text>\n", at - 6.0, at));
     }
-    out.push_str("<text x='60' y='425'>b 4, m 32, threshold 32, random sketches; medians of one run</text>\n</svg>\n");
+    out.push_str("<text x='60' y='425'>b 4, m 32, threshold 32, random sketches; one run, 1,000 searches in a row</text>\n</svg>\n");
     print!("{out}");
 }

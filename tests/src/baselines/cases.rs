@@ -1,0 +1,122 @@
+//! What the benchmarks search: pages and queries for some settings, and the library's own store of them.
+use super::{Packed, Way};
+use crate::calls;
+use crate::random::Random;
+use crate::stores::Sketches;
+use crate::tables::{Settings, Tables};
+
+pub const QUERIES: usize = 1_000;
+/// The classes that are open to the reader who searches.
+pub const OPEN: u64 = 0x0f0f_f0f0_ffff_1111;
+const READER: u32 = 9;
+const GROUP: u32 = 3;
+const NODES: u32 = 262_144;
+
+/// Sketches by page, m symbols each, and a class each.
+pub struct Pages {
+    pub m: usize,
+    pub symbols: Vec<u8>,
+    pub classes: Vec<u8>,
+}
+
+impl Pages {
+    pub fn new(m: usize) -> Self {
+        Pages { m, symbols: Vec::new(), classes: Vec::new() }
+    }
+
+    pub fn add(&mut self, class: u8, sketch: &[u8]) {
+        self.symbols.extend(sketch);
+        self.classes.push(class);
+    }
+
+    pub fn sketch(&self, page: usize) -> &[u8] {
+        &self.symbols[page * self.m..(page + 1) * self.m]
+    }
+
+    pub fn packed(&self, b: u32) -> Packed {
+        let mut packed = Packed::new(b, self.m, self.classes.len());
+        for (p, &class) in self.classes.iter().enumerate() {
+            packed.set(p, class, self.sketch(p));
+        }
+        packed
+    }
+}
+
+/// The settings of a store, how its sketches are drawn, and the radius of its searches.
+pub struct Case {
+    pub n: usize,
+    pub b: u32,
+    pub m: usize,
+    pub r: u32,
+    pub q: usize,
+    pub threshold: u16,
+    pub clustered: bool,
+}
+
+impl Case {
+    /// The pages, and queries of which every other one is near a page. The same at every call.
+    pub fn pages(&self) -> (Pages, Vec<Vec<u8>>) {
+        let random = &mut Random::new(u64::from(self.b) * 1_000 + self.n as u64 + u64::from(self.clustered));
+        let centres = Sketches::new(random, self.b, self.m as u32, 1 + self.n / 100);
+        let sketch = |random: &mut Random| if self.clustered { centres.near(random, 6) } else { random.bytes(self.m, 1 << self.b) };
+        let mut pages = Pages::new(self.m);
+        for _ in 0..self.n {
+            let x = sketch(random);
+            pages.add(random.below(64) as u8, &x);
+        }
+        let near = |random: &mut Random| {
+            let mut x = pages.sketch(random.below(self.n as u64) as usize).to_vec();
+            x[random.below(self.m as u64) as usize] = random.below(1 << self.b) as u8;
+            x
+        };
+        let queries = (0..QUERIES).map(|i| if i % 2 == 0 { near(random) } else { sketch(random) }).collect();
+        (pages, queries)
+    }
+
+    /// How many keys of a block are within its radius.
+    pub fn keys(&self) -> usize {
+        let symbols = self.m.div_ceil(self.q);
+        (0..self.r as usize / self.q).fold(1, |n, i| 1 + n * (symbols - i) * ((1 << self.b) - 1))
+    }
+}
+
+/// The library's tables, and room for what a search lists.
+pub struct Library {
+    tables: Tables,
+    output: Vec<u16>,
+}
+
+impl Library {
+    pub fn new(c: &Case, pages: &Pages) -> Self {
+        let s = Settings { b: c.b, m: c.m as u32, q: c.q as u32, pages: c.n as u32, nodes: NODES, thresholds: vec![c.threshold; 64] };
+        let mut tables = empty(&s);
+        assert_eq!(calls::open(&mut tables, &s), 0);
+        for (p, &class) in pages.classes.iter().enumerate() {
+            assert_eq!(calls::add(&mut tables.lend(), p as u32, class.into(), pages.sketch(p)), 0);
+        }
+        assert_eq!(calls::join(&mut tables, READER, GROUP), 0);
+        for class in (0..64).filter(|k| OPEN >> k & 1 == 1) {
+            assert_eq!(calls::grant(&mut tables, GROUP, class), 0);
+        }
+        Library { tables, output: vec![0; c.n] }
+    }
+}
+
+/// Tables as long as the library wants them.
+fn empty(s: &Settings) -> Tables {
+    let (number, lengths) = calls::lengths(s.b, s.m, s.q, s.pages, s.nodes);
+    assert_eq!(number, 0);
+    let [settings, nodes, pages, sketches, working] = lengths.map(|n| n as usize);
+    Tables { settings: vec![0; settings], nodes: vec![0; nodes], pages: vec![0; pages], sketches: vec![0; sketches], working: vec![0; working] }
+}
+
+impl Way for Library {
+    /// The reader's rights are in the library's register; how many pages it tests it does not tell.
+    fn search(&mut self, open: u64, radius: u32, query: &[u8], out: &mut Vec<u16>) -> usize {
+        debug_assert_eq!(open, OPEN);
+        let given = calls::search(&mut self.tables.lend(), READER, radius, query, &mut self.output);
+        assert_eq!(given.number, 0);
+        out.extend_from_slice(&self.output[..given.value as usize]);
+        0
+    }
+}
