@@ -60,8 +60,7 @@ abbrev pub Promised : Call → Tables → Answer → Tables → Type 0
 Promised (opening s) T a T′ =
     OpenPromise s T (a .number) (T′ .settings) (T′ .nodes) (T′ .pages) × (T′ ≡ withOpening T (T′ .settings) (T′ .nodes) (T′ .pages))
 Promised (add p c x) T a T′ = AddPromise (toStore T) p c x (a .number) (toStore T′) × (T′ .working ≡ T .working)
-Promised (drop p) T a T′ =
-    DropPromise (toStore T) p (a .number) (toStore T′) × (T′ .working ≡ T .working) × (T′ .sketches ≡ T .sketches)
+Promised (drop p) T a T′ = DropPromise (toStore T) p (a .number) (toStore T′) × (T′ .working ≡ T .working)
 Promised (change c) T a T′ = RightsPromise c (T .settings) (a .number) (T′ .settings) × (T′ ≡ withSettings T (T′ .settings))
 Promised (reading q) T a T′ = Reads q T a (T′ .working) × (T′ ≡ withWorking T (T′ .working))
 
