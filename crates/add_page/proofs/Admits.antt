@@ -14,13 +14,13 @@ use Rattle.meaning.specs.Sketch.{inRange}
 use Rattle.meaning.specs.Ledger.{add}
 use Rattle.meaning.specs.Forest.{eachFrom, forestAfter, totalNodes}
 use Rattle.meaning.specs.Questions.{asked}
+use Rattle.meaning.proofs.Lists.{and-first, and-second}
 use Rattle.layout.specs.declared.Header.{Header}
 use Rattle.layout.specs.declared.Opening.the-variants.{Shown, Refused}
 use Rattle.layout.specs.Header.{openingOf, tablesFirst, headerOf, bare}
 use Rattle.layout.specs.Lengths.{nodesLength, pagesLength, sketchesLength}
 use Rattle.layout.specs.Pages.{isLive}
 use Rattle.layout.proofs.Openings.{shown, shown-number, refused-number, refused-range}
-use Rattle.layout.proofs.Tests.{and-left, and-right}
 use Rattle.layout.proofs.Words.{word-inside}
 use Rattle.promises.specs.Tables.{Tables, tables, given, byTables}
 use Rattle.promises.specs.Answers.{number, entered, shown56, longSettings, longFor, longNodes, longPages}
@@ -34,16 +34,16 @@ longAll nodes pages sketches g =
 
 module _ (nodes pages sketches : List ℕ) (h : Header) (long : longAll nodes pages sketches h ≡ true) where
   abbrev behind : leb (pagesLength (bare h)) (length pages) && leb (sketchesLength (bare h)) (length sketches) ≡ true
-  behind = and-right (leb (nodesLength (bare h)) (length nodes)) _ long
+  behind = and-second (leb (nodesLength (bare h)) (length nodes)) _ long
 
   pub nodes-long : nodesLength (bare h) ≤ length nodes
-  nodes-long = leb-true (nodesLength (bare h)) (length nodes) (and-left _ (leb (pagesLength (bare h)) (length pages) && leb (sketchesLength (bare h)) (length sketches)) long)
+  nodes-long = leb-true (nodesLength (bare h)) (length nodes) (and-first _ (leb (pagesLength (bare h)) (length pages) && leb (sketchesLength (bare h)) (length sketches)) long)
 
   pub pages-long : pagesLength (bare h) ≤ length pages
-  pages-long = leb-true (pagesLength (bare h)) (length pages) (and-left _ (leb (sketchesLength (bare h)) (length sketches)) behind)
+  pages-long = leb-true (pagesLength (bare h)) (length pages) (and-first _ (leb (sketchesLength (bare h)) (length sketches)) behind)
 
   pub sketches-long : sketchesLength (bare h) ≤ length sketches
-  sketches-long = leb-true (sketchesLength (bare h)) (length sketches) (and-right (leb (pagesLength (bare h)) (length pages)) _ behind)
+  sketches-long = leb-true (sketchesLength (bare h)) (length sketches) (and-second (leb (pagesLength (bare h)) (length pages)) _ behind)
 
   pub live-inside : {p : ℕ} → p < h .pages → p < length pages
   live-inside {p} page = omega (arith, word-inside (bare h) {k = 0} {p = p} (omega arith) page, pages-long)

@@ -13,12 +13,12 @@ use Rattle.meaning.specs.Trie.{Tree}
 use Rattle.meaning.specs.Ledger.{add}
 use Rattle.meaning.specs.Forest.{forestAfter, totalNodes}
 use Rattle.meaning.specs.Questions.{inLimits, asked}
+use Rattle.meaning.proofs.Lists.{and-first, and-second}
 use Rattle.layout.specs.Settings.{mark, settingsLength, showsOpening}
 use Rattle.layout.specs.Header.{headerOf}
 use Rattle.layout.specs.Limits.{Bounds}
 use Rattle.layout.specs.Lengths.{nodesLength, pagesLength, sketchesLength}
 use Rattle.layout.specs.Pages.{isLive}
-use Rattle.layout.proofs.Tests.{and-left, and-right}
 use Rattle.layout.proofs.Limits.{bounds}
 use Rattle.promises.specs.Tables.{Tables, given, rowsOf, byTables}
 use Rattle.promises.specs.Answers.{number, entered, shown56, longSettings, longFor, longNodes, longPages}
@@ -43,13 +43,13 @@ module _ (T : Tables) (p c : ℕ) (x : List ℕ) where
   lent-by : showsOpening (T .settings) ≡ true → long ≡ true → Lent (headerOf (given T)) (given T .thresholds) (T .nodes) (T .pages) (T .sketches)
   unfolding nodesLength pagesLength sketchesLength showsOpening
   lent-by h l =
-      let b : Bounds (given T) = bounds (given T) (and-right (eqb (getD (T .settings) 0 0) mark) (inLimits (given T)) h) in
+      let b : Bounds (given T) = bounds (given T) (and-second (eqb (getD (T .settings) 0 0) mark) (inLimits (given T)) h) in
       record {
         limits = b .header;
         levels = b .count;
-        nodes-long = leb-true (nodesLength (given T)) (length (T .nodes)) (search and-left);
-        pages-long = leb-true (pagesLength (given T)) (length (T .pages)) (search (and-left, and-right));
-        sketches-long = leb-true (sketchesLength (given T)) (length (T .sketches)) (search (and-left, and-right));
+        nodes-long = leb-true (nodesLength (given T)) (length (T .nodes)) (search and-first);
+        pages-long = leb-true (pagesLength (given T)) (length (T .pages)) (search (and-first, and-second));
+        sketches-long = leb-true (sketchesLength (given T)) (length (T .sketches)) (search (and-first, and-second));
       }
 
   -- 5 to 11, then others
@@ -80,7 +80,7 @@ module _ (T : Tables) (p c : ℕ) (x : List ℕ) where
         let opened : showsOpening (T .settings) && long ≡ true = search in
         record {
           settings-long = leb-true settingsLength (length (T .settings)) search;
-          lent = lent-by (and-left (showsOpening (T .settings)) long opened) (and-right (showsOpening (T .settings)) long opened);
+          lent = lent-by (and-first (showsOpening (T .settings)) long opened) (and-second (showsOpening (T .settings)) long opened);
           class = ltb-true c 64 search;
           page = ltb-true p (given T .pages) search;
           dead = rw (not-true (isLive (T .pages) p) search) (and-false (ltb p (given T .pages)));

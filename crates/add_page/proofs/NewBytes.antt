@@ -7,10 +7,10 @@ use mathlib.Core.Logic.{_≢_}
 use mathlib.Core.List.{List, _∷_}
 use borrow.Author.Tests.{eq-eqb, ne-eqb, eqb-true, eqb-false, ltb-true}
 use lib.Dec.{ltb, eqb}
-use Rattle.meaning.specs.Ledger.{Settings, Row, putRow}
+use Rattle.meaning.specs.Ledger.{Settings, Row, row, putRow}
 use Rattle.meaning.specs.Forest.{bytesOfSketch, bytesIn}
+use Rattle.meaning.proofs.Lists.{and-first, and-second}
 use Rattle.layout.specs.Pages.{isLive}
-use Rattle.layout.proofs.Tests.{and-left, and-right}
 use Rattle.trie_laws.proofs.Forest.{bytes-put}
 use Rattle.trie_room.specs.RowBytes.{rowBytes}
 use Rattle.trie_room.proofs.RowBytes.{row-same}
@@ -37,27 +37,27 @@ module _ (T : Tables) where
   pub live-bytes : (j q : ℕ) → livePage T q ≡ true → bytesIn (given T) (rowsOf T) j q ≡ pageBytes T j q
   unfolding rowsOf livePage pageBytes
   live-bytes j q live =
-      rows-bytes (given T) j (isLive (T .pages)) (λ i. record { page = i; class = pageClass T i; sketch = pageRow T i }) (λ i. refl) q 0 (given T .pages)
+      rows-bytes (given T) j (isLive (T .pages)) (λ i. row i (pageClass T i) (pageRow T i)) (λ i. refl) q 0 (given T .pages)
       (omega arith)
-      (omega (arith, ltb-true q (given T .pages) (and-left (ltb q (given T .pages)) (isLive (T .pages) q) live)))
-      (and-right (ltb q (given T .pages)) (isLive (T .pages) q) live)
+      (omega (arith, ltb-true q (given T .pages) (and-first (ltb q (given T .pages)) (isLive (T .pages) q) live)))
+      (and-second (ltb q (given T .pages)) (isLive (T .pages) q) live)
 
   -- after an add of page p
   module _ (p c : ℕ) (x : List ℕ) where
     unfoldable pub newBytes : ℕ → ℕ → List ℕ
-    newBytes = bytesIn (given T) (putRow (record { page = p; class = c; sketch = x }) (rowsOf T))
+    newBytes = bytesIn (given T) (putRow (row p c x) (rowsOf T))
 
     pub new-mine : (j : ℕ) → newBytes j p ≡ bytesOfSketch (given T) j x
     unfolding newBytes
     new-mine j =
-        bytes-put (given T) j p (record { page = p; class = c; sketch = x }) (rowsOf T) ∙ rw (eq-eqb p p refl) refl
+        bytes-put (given T) j p (row p c x) (rowsOf T) ∙ rw (eq-eqb p p refl) refl
 
     module _ (dead : livePage T p ≡ false) where
       pub new-live : (j q : ℕ) → livePage T q ≡ true → newBytes j q ≡ pageBytes T j q
       unfolding newBytes
       new-live j q live =
           let apart : p ≢ q = λ e. false≢true (sym dead ∙ ap (livePage T) e ∙ live) in
-          bytes-put (given T) j q (record { page = p; class = c; sketch = x }) (rowsOf T)
+          bytes-put (given T) j q (row p c x) (rowsOf T)
           ∙ rw (ne-eqb p q apart) (live-bytes j q live)
 
       pub new-rows : ((q : ℕ) → livePage T q ≡ true → SoundPage T q) → (j q : ℕ) → livePage T q ≡ true → newBytes j q ≡ rowBytes (given T) j (T .sketches) q

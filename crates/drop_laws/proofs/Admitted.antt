@@ -12,6 +12,7 @@ use Rattle.meaning.specs.Refusal.{firstNo}
 use Rattle.meaning.specs.Trie.{Tree}
 use Rattle.meaning.specs.Ledger.{drop}
 use Rattle.meaning.specs.Questions.{asked}
+use Rattle.meaning.proofs.Lists.{and-first, and-second}
 use Rattle.layout.specs.Settings.{settingsLength, showsOpening}
 use Rattle.layout.specs.declared.Header.{Header}
 use Rattle.layout.specs.declared.Opening.the-variants.{Shown, Refused}
@@ -19,9 +20,8 @@ use Rattle.layout.specs.Header.{headerOf, tablesFirst, pick}
 use Rattle.layout.specs.Limits.{HeaderLimits}
 use Rattle.layout.specs.Lengths.{nodesLength, pagesLength, sketchesLength}
 use Rattle.layout.specs.Pages.{isLive}
-use Rattle.layout.proofs.Openings.{shown, shows}
+use Rattle.layout.proofs.Openings.{shown, shows, apart}
 use Rattle.layout.proofs.Rows.{rows-apart, row-inside}
-use Rattle.layout.proofs.Tests.{and-left, and-right}
 use Rattle.layout.proofs.Words.{class-inside}
 use Rattle.promises.specs.Tables.{Tables, given, byTables}
 use Rattle.promises.specs.Answers.{number, entered, shown56, longSettings, longFor, longNodes, longPages}
@@ -53,14 +53,14 @@ module _ (T : Tables) (p : ℕ) where
   admitted z =
       let yes = all-yes (tablesFirst (T .settings) (longFor (given T) T (drop p)) (asked (byTables T []) (drop p))) (omega arith) (sym first-asked ∙ z) in
       let long = leb-true settingsLength (length (T .settings)) (yes .0) in
-      let fit = and-right (showsOpening (T .settings)) (longFor (given T) T (drop p)) (yes .1 .0) in
-      let behind = and-right (leb (nodesLength (given T)) (length (T .nodes))) (longPages (given T) T) fit in
+      let fit = and-second (showsOpening (T .settings)) (longFor (given T) T (drop p)) (yes .1 .0) in
+      let behind = and-second (leb (nodesLength (given T)) (length (T .nodes))) (longPages (given T) T) fit in
       record {
         long = long;
-        limits = shown (T .settings) (headerOf (given T)) (shows (T .settings) long (and-left (showsOpening (T .settings)) (longFor (given T) T (drop p)) (yes .1 .0))) .limits;
-        nodes-long = leb-true (nodesLength (given T)) (length (T .nodes)) (and-left (leb (nodesLength (given T)) (length (T .nodes))) (longPages (given T) T) fit);
-        pages-long = leb-true (pagesLength (given T)) (length (T .pages)) (and-left (leb (pagesLength (given T)) (length (T .pages))) (leb (sketchesLength (given T)) (length (T .sketches))) behind);
-        sketches-long = leb-true (sketchesLength (given T)) (length (T .sketches)) (and-right (leb (pagesLength (given T)) (length (T .pages))) (leb (sketchesLength (given T)) (length (T .sketches))) behind);
+        limits = shown (T .settings) (headerOf (given T)) (shows (T .settings) long (and-first (showsOpening (T .settings)) (longFor (given T) T (drop p)) (yes .1 .0))) .limits;
+        nodes-long = leb-true (nodesLength (given T)) (length (T .nodes)) (and-first (leb (nodesLength (given T)) (length (T .nodes))) (longPages (given T) T) fit);
+        pages-long = leb-true (pagesLength (given T)) (length (T .pages)) (and-first (leb (pagesLength (given T)) (length (T .pages))) (leb (sketchesLength (given T)) (length (T .sketches))) behind);
+        sketches-long = leb-true (sketchesLength (given T)) (length (T .sketches)) (and-second (leb (pagesLength (given T)) (length (T .pages))) (leb (sketchesLength (given T)) (length (T .sketches))) behind);
         page = ltb-true p (given T .pages) (yes .1 .1 .0);
         live = yes .1 .1 .1 .0;
       }
@@ -83,9 +83,6 @@ module _ (T : Tables) (p : ℕ) (a : Admitted T p) where
   }
 
 -- ---- what the answer to the questions tells
-apart : (h : Header) (n : ℕ) → Refused n ≡ Shown h → ⊥
-apart h n e = let z : _≡_ {A = ℕ} 0 1 = cc in omega arith
-
 module _ (T : Tables) (p : ℕ) where
   pub told-refused : (n : ℕ) → Refused n ≡ admission T (drop p) → (number T [] (drop p) ≡ n) × (n ≢ 0)
   unfolding admission

@@ -11,13 +11,13 @@ use lib.ListN.{length}
 use Rattle.meaning.specs.Refusal.{firstNo}
 use Rattle.meaning.specs.Ledger.{drop}
 use Rattle.meaning.specs.Questions.{asked}
+use Rattle.meaning.proofs.Lists.{and-first}
 use Rattle.layout.specs.declared.Header.{Header}
 use Rattle.layout.specs.declared.Opening.the-variants.{Shown, Refused}
 use Rattle.layout.specs.Header.{openingOf, tablesFirst, bare}
 use Rattle.layout.specs.Lengths.{nodesLength, pagesLength, sketchesLength}
 use Rattle.layout.specs.Pages.{isLive}
 use Rattle.layout.proofs.Openings.{shown, shown-number, refused-number, refused-range}
-use Rattle.layout.proofs.Tests.{and-left}
 use Rattle.layout.proofs.Words.{live-inside}
 use Rattle.promises.specs.Tables.{Tables, tables, given, byTables}
 use Rattle.promises.specs.Answers.{number, entered, shown56, longSettings, longFor, longNodes, longPages}
@@ -35,7 +35,7 @@ live-in pages sketches h long page =
     omega (
       arith,
       live-inside (bare h) page,
-      leb-true (pagesLength (bare h)) (length pages) (and-left _ (leb (sketchesLength (bare h)) (length sketches)) long),
+      leb-true (pagesLength (bare h)) (length pages) (and-first _ (leb (sketchesLength (bare h)) (length sketches)) long),
     )
 
 module _ (ws nodes pages sketches : List ℕ) (p : ℕ) where

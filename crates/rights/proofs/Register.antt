@@ -11,11 +11,11 @@ use lib.ListN.{length, getD, take, drop}
 use borrow.Author.Tests.{ltb-true, le-ltb, eqb-true, eqb-false, eq-eqb, ne-eqb}
 use Rattle.meaning.specs.Lists.{any, upto}
 use Rattle.meaning.specs.Rights.{pair, samePair}
+use Rattle.meaning.proofs.Lists.{any-upto}
 use Rattle.words.specs.Bits.{flag, withFlag}
 use Rattle.words.proofs.Flags.{length-with, word-with-other, flag-take, flag-with, flag-with-apart, take-with, drop-with, with-flag-again}
 use Rattle.layout.specs.Settings.{settingsLength, membersAt, grantsAt, freeAt}
 use Rattle.rights.specs.Register.{isMember, isGranted, withMember, withGrant, opens}
-use Rattle.rights.proofs.Any.{any-upto}
 
 -- ---- a flag by its row and its place in the row, w places a row
 

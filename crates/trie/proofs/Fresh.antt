@@ -15,7 +15,8 @@ use Rattle.trie.specs.Phys.{Phys, Buckets, Chain, root, childrenC, first
 use Rattle.trie.proofs.Frame.{Less, less, Same, node-write3, nodes-kept}
 use Rattle.trie.proofs.Abstract.{Above}
 use Rattle.trie.proofs.Steps.{fresh-made}
-use Rattle.trie.proofs.Spot.{starts, root-below, SpotB}
+use Rattle.trie.proofs.Claims.{root-below}
+use Rattle.trie.proofs.Spot.{starts, SpotB}
 
 -- a chain's first word, and what it links to
 abbrev pub linkC : Chain → ℕ
@@ -42,7 +43,7 @@ module _ (cap base : ℕ) where
 module _ (cap pcap base : ℕ) (small : cap ≤ mostNodes) where
   pub link-below : (ch : Chain) (lo hi : ℕ) → SoundC cap pcap ch lo hi → linkC ch ≤ cap
   link-below stop lo hi g = omega arith
-  link-below (link b t ch) lo hi g = omega (arith, root-below cap pcap base small t (g .2))
+  link-below (link b t ch) lo hi g = omega (arith, root-below cap pcap t (g .2))
 
   pub past : (ch : Chain) (b hi : ℕ) → starts ch b ≡ false → SoundC cap pcap ch b hi → SoundC cap pcap ch (suc b) hi
   past stop b hi e g = tt

@@ -5,9 +5,9 @@ use native.Mathlib.Omega.{arith}
 use lib.ListN.{getD}
 use borrow.Author.Needs.{needs}
 use Rattle.meaning.specs.Sketch.{byteDistance}
+use Rattle.meaning.proofs.Lists.{upto-at}
 use Rattle.sketch.specs.Settings.{Bits}
 use Rattle.sketch.specs.Table.{distanceTable}
-use Rattle.sketch.proofs.Runs.{map-upto-at}
 use Rattle.sketch.proofs.Width.{byte-distance-most}
 use Rattle.sketch.proofs.table.byte_distance.Statement.{statement}
 use Rattle.sketch.proofs.table.byte_distance.Tie as tie
@@ -18,7 +18,7 @@ entry b v h hv =
     let k : ℕ = (b - 1) * 256 + v in
     let row : k / 256 + 1 ≡ b = omega arith in
     let place : k % 256 ≡ v = omega arith in
-    map-upto-at (λ (i : ℕ). byteDistance (i / 256 + 1) (i % 256)) 0 2048 k (omega arith)
+    upto-at (λ (i : ℕ). byteDistance (i / 256 + 1) (i % 256)) 2048 k 0 (omega arith)
     ∙ ap₂ byteDistance row place
 
 found : (c : tie.After-result)
