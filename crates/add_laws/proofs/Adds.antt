@@ -153,7 +153,7 @@ module _ (T : Tables) (p c : ℕ) (x : List ℕ) where
         pages = q .same;
         sketches = length-with-row (given T .symbols) (T .sketches) p (row-fits T (headerOf (given T)) p x ok) x (ok .fits .count);
         working = refl;
-        header = w .front;
+        settings-front = w .front;
         settings-rest = w .back;
         nodes-rest = kept .0 .back;
         pages-rest = q .back;

@@ -15,11 +15,11 @@ use lib.Seq.{getD-set-same}
 use Rattle.meaning.specs.Trie.{Tree}
 use Rattle.meaning.specs.Ledger.{Settings, add}
 use Rattle.meaning.specs.Forest.{eachFrom, forestAfter}
+use Rattle.meaning.proofs.Lists.{and-first}
 use Rattle.layout.specs.Settings.{freeAt, settingsOf}
 use Rattle.layout.specs.Pages.{isLive, classOf, withPage}
 use Rattle.layout.proofs.Words.{live-written, class-written, live-written-other, class-written-other}
 use Rattle.layout.proofs.Written.{settings-set}
-use Rattle.layout.proofs.Tests.{and-left}
 use Rattle.children.specs.Phys.{tree}
 use Rattle.trie_laws.specs.Sound.{withPage as withLive}
 use Rattle.trie_laws.specs.Block.{SoundBlock, EachFrom}
@@ -93,7 +93,7 @@ module _ (T : Tables) (F : List Tree) (sound : Sound T F) (p c : ℕ) (x : List 
   page-old : (q : ℕ) → q ≢ p → livePage T q ≡ true → SoundPage T′ q
   unfolding pageClass pageRow livePage classOf
   page-old q d live =
-      let l : q < s .pages = ltb-true q (s .pages) (and-left (ltb q (s .pages)) (isLive (T .pages) q) live) in
+      let l : q < s .pages = ltb-true q (s .pages) (and-first (ltb q (s .pages)) (isLive (T .pages) q) live) in
       let class : classOf (withPage (s .pages) (G .pagesTo) p c) (s .pages) q ≡ classOf (T .pages) (s .pages) q =
       class-written-other (s .pages) (G .pagesTo) p (a .page) (G .long) c q l d ∙ G .kept (s .pages + q) (omega arith) in
       record {

@@ -13,10 +13,10 @@ use Rattle.meaning.specs.Sketch.{inRange, packable, allPackable, block, blockLe
 use Rattle.meaning.specs.Trie.{Tree, byteAt}
 use Rattle.meaning.specs.Ledger.{Settings, add}
 use Rattle.meaning.specs.Forest.{blockBytes, bytesOfSketch, eachFrom, forestAfter}
+use Rattle.meaning.proofs.Lists.{and-first}
 use Rattle.layout.specs.Pages.{rowOf, withRow, isLive}
 use Rattle.layout.proofs.Rows.{row-inside, length-row, row-other}
 use Rattle.layout.proofs.Rows.{row-same as row-written}
-use Rattle.layout.proofs.Tests.{and-left}
 use Rattle.sketch.proofs.Places.{part-range}
 use Rattle.sketch_laws.proofs.Packing.{pack-packable}
 use Rattle.trie_laws.specs.Sound.{packs, withPage}
@@ -111,7 +111,7 @@ module _ (T : Tables) (p : ℕ) (x : List ℕ) where
             (ap (λ (i : ℕ). written-bytes j i) (eqb-true q p e) ∙ written-reads .mine j)
         | fails e ↦
             let old : livePage T q ≡ true = rw e at live in
-            let below : q < given T .pages = ltb-true q (given T .pages) (and-left (ltb q (given T .pages)) (isLive (T .pages) q) old) in
+            let below : q < given T .pages = ltb-true q (given T .pages) (and-first (ltb q (given T .pages)) (isLive (T .pages) q) old) in
             let row : List ℕ = rowOf (given T .symbols) (T .sketches) q in
             sketch-packs (given T) j l row
             (length-row (given T .symbols) (T .sketches) q (row-inside (given T .symbols) (given T .pages) (length (T .sketches)) below long))

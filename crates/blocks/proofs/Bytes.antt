@@ -1,9 +1,9 @@
 -- The packed byte of a page's symbols.
 use Prim.Native.Nat.{ℕ, zero, suc, _+_, _*_, _-_, _%_, _^_, _<_, _≤_, min}
-use mathlib.Core.Path.{_≡_, refl, _∙_}
+use mathlib.Core.Path.{_≡_, refl}
 use mathlib.Core.List.{List}
 use native.Mathlib.Omega.{arith}
-use native.Mathlib.Nat.{mod-lt, mul-le-mul-left, mul-le-mul-right, mul-suc, one-mul, le-trans}
+use native.Mathlib.Nat.{mod-lt, mul-le-mul-left, mul-le-mul-right, mul-suc, le-trans}
 use lib.Bits.{bitAnd, and-mask}
 use lib.Pow.{pow-pos, pow-mono, pow-add, shl-exact}
 use lib.ListN.{length, getD}
@@ -11,9 +11,9 @@ use Rattle.blocks.specs.declared.Level.{Level}
 use Rattle.blocks.specs.declared.Rows.{Rows}
 use Rattle.blocks.specs.Tables.{SketchTable, RowTable}
 use Rattle.blocks.specs.Packed.{rowByte, pageByte, levelAt}
-
-pub shifted : (k : ℕ) → k ≤ 8 → 1 * 2 ^ k % 2 ^ 32 ≡ 2 ^ k
-shifted k h = shl-exact 1 k 32 (omega arith) (omega arith) ∙ one-mul (2 ^ k)
+use Rattle.words.proofs.Machine.{one-bit}
+use Rattle.trie.specs.declared.Level.{Level}
+use Rattle.trie.specs.declared.Rows.{Rows}
 
 pub row-below : (b : ℕ) (S : List ℕ) (i n : ℕ) → rowByte b S i n < 2 ^ (b * n)
 unfolding rowByte
@@ -39,7 +39,7 @@ row-turn b S at count i v lb l z m e =
     let h : rowByte b S (suc (at + (i - 1))) (count - i) < 2 ^ (b * (count - i)) = row-below b S (suc (at + (i - 1))) (count - i) in
     let k : suc (count - i) ≤ count = omega arith in
     let j : b * (count - i) + b ≤ 32 = omega (arith, mul-suc b (count - i), mul-le-mul-left b k) in
-    rw (shifted b lb, and-mask (getD S (at + (i - 1)) 0) b, q, e, r, shl-exact (b * (count - i)) b 32 h j) (omega arith)
+    rw (one-bit b (omega (arith, lb)), and-mask (getD S (at + (i - 1)) 0) b, q, e, r, shl-exact (b * (count - i)) b 32 h j) (omega arith)
 
 pub row-fits : (b : ℕ) (S : List ℕ) (at count i v : ℕ) → b ≤ 8 → b * count ≤ 8 → 0 < i → i ≤ count → v ≡ rowByte b S (at + i) (count - i) →
     v * 2 ^ b % 2 ^ 32 + bitAnd (getD S (at + (i - 1)) 0) (1 * 2 ^ b % 2 ^ 32 - 1) < 2 ^ 32
@@ -48,7 +48,7 @@ row-fits b S at count i v lb l z m e =
     omega (arith, row-turn b S at count i v lb l z m e, row-small b S (at + (i - 1)) (count - (i - 1)) (le-trans (mul-le-mul-left b k) l))
 
 pub mask-fits : (b : ℕ) → b ≤ 8 → 1 ≤ 1 * 2 ^ b % 2 ^ 32
-mask-fits b l = rw (shifted b l) (pow-pos b)
+mask-fits b l = rw (one-bit b (omega arith)) (pow-pos b)
 
 pub row-done : (b : ℕ) (S : List ℕ) (at count i v : ℕ) → i ≤ 0 → v ≡ rowByte b S (at + i) (count - i) → v ≡ rowByte b S at count
 row-done b S at count i v l e =

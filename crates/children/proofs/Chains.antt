@@ -10,7 +10,8 @@ use Rattle.children.specs.Heap.{Cells, nil, node, _⊕_}
 use Rattle.children.specs.Phys.{Chain, root, childrenC, cells, cellsC, SoundC, stop, link}
 use Rattle.children.proofs.Frame.{Same}
 use Rattle.children.proofs.Abstract.{Above}
-use Rattle.children.proofs.Spot.{starts, root-below}
+use Rattle.children.proofs.Spot.{starts}
+use Rattle.children.proofs.Claims.{root-below}
 
 -- a chain's first word, and what it links to
 abbrev pub linkC : Chain → ℕ

@@ -1,4 +1,5 @@
 pub mod Frame
+pub mod Claims
 pub mod Abstract
 pub mod Steps
 pub mod Places

@@ -17,6 +17,9 @@ use Rattle.children.specs.Phys.{Phys, Buckets, Chain, root, tree, childr
 use Rattle.children.proofs.Frame.{Same, same-trans, same-right, same-left, same-assoc, same-swap}
 use Rattle.children.proofs.Abstract.{Skips, Above, Leaves, leaves-next}
 use Rattle.children.proofs.Steps.{place-none, place-go, place-found, place-past}
+use Rattle.trie.specs.declared.place.Place.{Place}
+use Rattle.trie.specs.declared.place.Place.the-variants.{Found, Missing}
+use Rattle.children.proofs.Claims.{root-below}
 
 -- whether a chain begins with a byte
 abbrev pub starts : Chain → ℕ → Bool
@@ -51,10 +54,6 @@ leaves-chain stop cs z = z
 leaves-chain (link c t ch) cs z = leaves-chain ch cs (leaves-next c (tree t) (childrenC ch cs) z)
 
 module _ (cap pcap base : ℕ) (small : cap ≤ mostNodes) where
-  pub root-below : (t : Phys) → Sound cap pcap t → root t < cap
-  root-below (leafP n ps) h = h .0
-  root-below (innerP n bs) h = h .0
-
   pub weaken : (ch : Chain) (lo lo' hi : ℕ) → lo ≤ lo' → SoundC cap pcap ch lo' hi → SoundC cap pcap ch lo hi
   weaken stop lo lo' hi l g = tt
   weaken (link b t ch) lo lo' hi l g = (omega (arith, g .0), g .1, g .2, g .3)
@@ -105,11 +104,11 @@ module _ (cap pcap base : ℕ) (small : cap ≤ mostNodes) where
 
   -- the words along a chain
   link-word : (N : List ℕ) (s y : ℕ) (t : Phys) → Sound cap pcap t → getD N s 0 ≡ chainWord y (root t + 1) → linkAt N s ≡ root t + 1
-  link-word N s y t g e = omega (arith, root-below t g)
+  link-word N s y t g e = omega (arith, root-below cap pcap t g)
 
   byte-word : (ch : Chain) (N P : List ℕ) (s y lo hi : ℕ) → SoundC cap pcap ch lo hi → Holds (cellsC cap base ch s y) N P → byteOf (getD N s 0) ≡ y
   byte-word stop N P s y lo hi g h = omega arith
-  byte-word (link b t ch) N P s y lo hi g h = omega (arith, root-below t (g .2), h .0)
+  byte-word (link b t ch) N P s y lo hi g h = omega (arith, root-below cap pcap t (g .2), h .0)
 
   link-spot : (c : ℕ) (t : Phys) (ch : Chain) (b s y lo hi : ℕ) → lo ≤ b → SoundC cap pcap (link c t ch) lo hi → (suc c ≤ b → SpotC ch b (root t) c (suc c) hi) →
       (q : Bool) → ltb c b ≡ q → SpotC (link c t ch) b s y lo hi
@@ -123,7 +122,7 @@ module _ (cap pcap base : ℕ) (small : cap ≤ mostNodes) where
         rest = node s (chainWord y (root t + 1)) ⊕ cells cap base t ⊕ r .rest;
         put = λ x. link c t (r .put x);
         before = λ cs. child c (tree t) (r .before cs);
-        within = λ i. r .within (omega (arith, root-below t (g .2)));
+        within = λ i. r .within (omega (arith, root-below cap pcap t (g .2)));
         whole = ap (link c t) (r .whole);
         same = λ x. record {
           to = record {
@@ -147,7 +146,7 @@ module _ (cap pcap base : ℕ) (small : cap ≤ mostNodes) where
             let w : linkAt N s ≡ root t + 1 = link-word N s y t (g .2) (h .0) in
             let e : linkAt N s - 1 ≡ root t = omega arith in
             let v : byteOf (getD N (root t) 0) ≡ c = byte-word ch N P (root t) c (suc c) hi (g .3) (h .1 .1) in
-            let u = root-below t (g .2) in
+            let u = root-below cap pcap t (g .2) in
             let z = place-go N cap b s f _ refl (omega (arith, g .0, g .1)) (omega arith) (omega arith) (rw (e, v) k) in
             sym z ∙ rw e (r .find N P (f - 1) (g .1) (omega (arith, g .0, g .1)) (h .1 .1));
       }
@@ -160,14 +159,14 @@ module _ (cap pcap base : ℕ) (small : cap ≤ mostNodes) where
           let w : linkAt N s ≡ root t + 1 = link-word N s y t (g .2) (h .0) in
           let e : linkAt N s - 1 ≡ root t = omega arith in
           let v : byteOf (getD N (root t) 0) ≡ c = byte-word ch N P (root t) c (suc c) hi (g .3) (h .1 .1) in
-          let u = root-below t (g .2) in
+          let u = root-below cap pcap t (g .2) in
           let k : b ≤ c = ltb-false c b q in
           sym (place-found N cap b s f _ refl (omega arith) (omega arith) (omega arith) (rw (e, v) k) (rw (e, v) (eqb-true c b o))) ∙ rw e refl
       last N P f i j h false o =
           let w : linkAt N s ≡ root t + 1 = link-word N s y t (g .2) (h .0) in
           let e : linkAt N s - 1 ≡ root t = omega arith in
           let v : byteOf (getD N (root t) 0) ≡ c = byte-word ch N P (root t) c (suc c) hi (g .3) (h .1 .1) in
-          let u = root-below t (g .2) in
+          let u = root-below cap pcap t (g .2) in
           let k : b ≤ c = ltb-false c b q in
           sym (place-past N cap b s f _ refl (omega arith) (omega arith) (omega arith) (rw (e, v) k) (rw (e, v) (eqb-false c b o)))
 

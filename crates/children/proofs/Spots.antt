@@ -1,10 +1,10 @@
 -- The children of an inner node, by the place of a byte among them: with a child there, and without.
-use Prim.Native.Nat.{ℕ, suc, _*_, _/_, _+_, _<_, _≤_}
+use Prim.Native.Nat.{ℕ, suc, _*_, _/_, _+_, _≤_}
 use native.Mathlib.Omega.{arith}
 use mathlib.Core.Path.{_≡_, refl, ap, _∙_, sym}
 use mathlib.Core.Bool.{Bool, true, false, cond}
 use borrow.Author.Tests.{lt-ltb, le-ltb, ne-eqb}
-use Rattle.meaning.specs.Trie.{Tree, leaf, inner, Children, none, child, nodes}
+use Rattle.meaning.specs.Trie.{Tree, Children, none, child}
 use Rattle.layout.specs.Nodes.{mostNodes}
 use Rattle.children.specs.Phys.{Phys, Buckets, Chain, tree, childrenB, childrenC, SoundC, stop, link}
 use Rattle.children.proofs.Abstract.{Skips, Above}
@@ -12,6 +12,7 @@ use Rattle.children.proofs.Spot.{starts, SpotB}
 use Rattle.children.proofs.Chains.{tail-above}
 use Rattle.trie_laws.specs.Path.{has, childBy, setChild, dropChild, putChild}
 use Rattle.trie_laws.proofs.Lists.{holds, fails, truth}
+use Rattle.trie_laws.proofs.Nodes.{nodes-some}
 use Rattle.trie_laws.proofs.Children.{has-put, child-put, set-put, drop-put, drop-nodes}
 
 -- ---- a child put among others, and a child taken out where it is there
@@ -40,18 +41,13 @@ out-skips b c t cs l = rw (lt-ltb c b l) (go (has b cs))
     go true = refl
     go false = refl
 
-some : (t : Tree) → 0 < nodes t
-unfolding nodes
-some (leaf ps) = omega arith
-some (inner cs) = omega arith
-
 -- children that stay as they are have no such child
 out-none : (b : ℕ) (cs : Children) → out b cs ≡ cs → has b cs ≡ false
 unfolding out
 out-none b cs e = elim (truth (has b cs)) [
   | holds h ↦
       let d : dropChild b cs ≡ cs = rw h at e in
-      absurd (omega (arith, rw d at (drop-nodes b cs h), some (childBy b cs)))
+      absurd (omega (arith, rw d at (drop-nodes b cs h), nodes-some (childBy b cs)))
   | fails h ↦ h
 ]
 

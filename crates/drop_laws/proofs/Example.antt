@@ -13,7 +13,7 @@ use Rattle.meaning.specs.Refusal.{firstNo}
 use Rattle.meaning.specs.Sketch.{inRange, pack, packBytes, perByte, packByte, packedLength, symbolsAt, packable, block, blockLength, blockStart}
 use Rattle.meaning.specs.SketchCalls.{sketchLimits}
 use Rattle.meaning.specs.Trie.{Tree, leaf, inner, none, child, byteAt, nodes, pagesIn}
-use Rattle.meaning.specs.Ledger.{Settings, drop}
+use Rattle.meaning.specs.Ledger.{Settings, settingsGiven, drop}
 use Rattle.meaning.specs.Forest.{blockBytes, bytesOfSketch, totalNodes, forestAfter}
 use Rattle.meaning.specs.Questions.{inLimits, asked}
 use Rattle.layout.specs.Settings.{settingsOf, header, showsOpening}
@@ -37,7 +37,7 @@ use Rattle.drop_laws.proofs.Admitted.{admitted}
 use Rattle.drop_laws.proofs.Sounds.{DropSound, drop-sound}
 
 unfoldable given₁ : Settings
-given₁ = record { bits = 1; symbols = 2; blocks = 2; pages = 1; nodes = 3; thresholds = replicate 64 1 }
+given₁ = settingsGiven 1 2 2 1 3 (replicate 64 1)
 
 -- node 2 is the child of node 0 with byte 0
 abbrev N : List ℕ

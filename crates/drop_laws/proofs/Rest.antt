@@ -25,7 +25,7 @@ module _ (T : Tables) (N P : List ℕ) (nodes : Within 0 (nodeWords (given T .no
     pages = pages .same;
     sketches = refl;
     working = refl;
-    header = refl;
+    settings-front = refl;
     settings-rest = refl;
     nodes-rest = nodes .back;
     pages-rest = pages .back;
@@ -40,7 +40,7 @@ module _ (T : Tables) (N P : List ℕ) (nodes : Within 0 (nodeWords (given T .no
       pages = length-set P p _ ∙ pages .same;
       sketches = refl;
       working = refl;
-      header = take-set-le freeAt (T .settings) freeAt free (omega arith);
+      settings-front = take-set-le freeAt (T .settings) freeAt free (omega arith);
       settings-rest = drop-set-lt (freeAt + 1) (T .settings) freeAt free (omega arith);
       nodes-rest = nodes .back;
       pages-rest = drop-set-lt (pagesLength (given T)) P p 0 (live-inside (given T) page) ∙ pages .back;

@@ -13,11 +13,11 @@ use lib.Seq.{getD-set-same}
 use Rattle.meaning.specs.Trie.{Tree}
 use Rattle.meaning.specs.Ledger.{Settings, drop}
 use Rattle.meaning.specs.Forest.{bytesOfSketch, bytesIn, eachFrom, forestAfter, totalNodes}
+use Rattle.meaning.proofs.Lists.{and-first}
 use Rattle.layout.specs.Settings.{freeAt, settingsOf}
 use Rattle.layout.specs.Lengths.{pagesLength}
-use Rattle.layout.specs.Pages.{isLive, rowOf, withoutPage, linksAt}
-use Rattle.layout.proofs.Tests.{and-left}
-use Rattle.layout.proofs.Words.{live-struck, live-struck-other, class-struck, live-kept, class-kept}
+use Rattle.layout.specs.Pages.{isLive, rowOf, withoutPage, linksAt, nextAt}
+use Rattle.layout.proofs.Words.{live-struck, live-struck-other, class-struck, live-kept, class-kept, link-behind}
 use Rattle.layout.proofs.Written.{settings-set}
 use Rattle.children.specs.Heap.{Cells, Heap, hit, pageClaims, nil, page, _⊕_}
 use Rattle.children.specs.Phys.{tree, freeCells}
@@ -104,7 +104,7 @@ module _ (T : Tables) (p : ℕ) (a : Admitted T p) (N P : List ℕ) (free : ℕ)
   class-same : (q : ℕ) → livePage T q ≡ true → pageClass T' q ≡ pageClass T q
   unfolding pageClass livePage
   class-same q h =
-      let l : q < given T .pages = ltb-true q (given T .pages) (and-left (ltb q (given T .pages)) (isLive (T .pages) q) h) in
+      let l : q < given T .pages = ltb-true q (given T .pages) (and-first (ltb q (given T .pages)) (isLive (T .pages) q) h) in
       rw given-same
       (class-struck (given T .pages) P p (a .page) class-long q l ∙ class-kept (given T .pages) P (T .pages) (kept .front) q l)
 

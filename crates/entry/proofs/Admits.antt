@@ -20,7 +20,7 @@ use Rattle.layout.specs.Lengths.{nodesLength, pagesLength, sketchesLength}
 use Rattle.layout.specs.Pages.{isLive}
 use Rattle.layout.specs.Tables.{Lent}
 use Rattle.layout.proofs.Openings.{shown, shows, shown-number, refused-number, refused-range}
-use Rattle.layout.proofs.Tests.{and-left, and-right}
+use Rattle.meaning.proofs.Lists.{and-first, and-second}
 use Rattle.promises.specs.Tables.{Tables, tables, given}
 use Rattle.promises.specs.Answers.{number, longNodes, longPages}
 use Rattle.entry.specs.Entry.{storeAsked, storeEntry, pageAsked}
@@ -67,14 +67,14 @@ unfolding storeAsked longNodes longPages nodesLength pagesLength sketchesLength
 opened T z =
     let yes = all-yes (storeAsked T) (omega arith) z in
     let five = leb-true settingsLength (length (T .settings)) (yes .0) in
-    let o = shown (T .settings) _ (shows (T .settings) five (search (and-left, and-right))) in
+    let o = shown (T .settings) _ (shows (T .settings) five (search (and-first, and-second))) in
     record {
       long = five;
       lent = record {
         limits = o .limits;
-        nodes-long = leb-true (nodesLength (given T)) (length (T .nodes)) (search (and-left, and-right));
-        pages-long = leb-true (pagesLength (given T)) (length (T .pages)) (search (and-left, and-right));
-        sketches-long = leb-true (sketchesLength (given T)) (length (T .sketches)) (search (and-left, and-right));
+        nodes-long = leb-true (nodesLength (given T)) (length (T .nodes)) (search (and-first, and-second));
+        pages-long = leb-true (pagesLength (given T)) (length (T .pages)) (search (and-first, and-second));
+        sketches-long = leb-true (sketchesLength (given T)) (length (T .sketches)) (search (and-first, and-second));
       };
       levels = o .bounds .count;
     }

@@ -10,6 +10,7 @@ use lib.Dec.{leb, eqb}
 use lib.ListN.{length}
 use Rattle.meaning.specs.Refusal.{ask, firstNo}
 use Rattle.meaning.specs.Ledger.{Settings}
+use Rattle.meaning.proofs.Lists.{and-first, and-second}
 use Rattle.layout.specs.declared.Header.{Header}
 use Rattle.layout.specs.declared.Opening.the-variants.{Shown, Refused}
 use Rattle.layout.specs.Header.{headerOf, bare}
@@ -17,8 +18,7 @@ use Rattle.layout.specs.Limits.{HeaderLimits}
 use Rattle.layout.specs.Settings.{settingsLength, showsOpening}
 use Rattle.layout.specs.Lengths.{nodesLength, pagesLength, sketchesLength, workingLength}
 use Rattle.layout.specs.Working.{mapWords, summaryWords}
-use Rattle.layout.proofs.Openings.{shown, shows}
-use Rattle.layout.proofs.Tests.{and-left, and-right}
+use Rattle.layout.proofs.Openings.{shown, shows, shown-number, refused-number, refused-range}
 use Rattle.promises.specs.Tables.{Tables, tables, given}
 use Rattle.promises.specs.Answers.{longNodes, longPages, longWorking}
 use Rattle.entry.specs.Entry.{storeAsked, storeEntry, tablesAsked, entry}
@@ -94,16 +94,16 @@ module _ (T : Tables) where
       let s : Settings = given T in
       let yes = all-yes (tablesAsked T) (omega arith) z in
       let five = leb-true settingsLength (length (T .settings)) (yes .0) in
-      let opening = shows (T .settings) five (search (and-left, and-right)) in
+      let opening = shows (T .settings) five (search (and-first, and-second)) in
       record {
         none = z;
         header = refl;
         limits = shown (T .settings) _ opening .limits;
         settings-long = five;
-        nodes-long = leb-true (nodesLength s) (length (T .nodes)) (search (and-left, and-right));
-        pages-long = leb-true (pagesLength s) (length (T .pages)) (search (and-left, and-right));
-        sketches-long = leb-true (sketchesLength s) (length (T .sketches)) (search (and-left, and-right));
-        working-long = leb-true (workingLength s) (length (T .working)) (search (and-left, and-right));
+        nodes-long = leb-true (nodesLength s) (length (T .nodes)) (search (and-first, and-second));
+        pages-long = leb-true (pagesLength s) (length (T .pages)) (search (and-first, and-second));
+        sketches-long = leb-true (sketchesLength s) (length (T .sketches)) (search (and-first, and-second));
+        working-long = leb-true (workingLength s) (length (T .working)) (search (and-first, and-second));
       }
 
   pub entry-shown : (h : Header) → entry T ≡ Shown h → Entered T h

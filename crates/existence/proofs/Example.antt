@@ -8,7 +8,7 @@ use Rattle.meaning.specs.Refusal.{firstNo}
 use Rattle.meaning.specs.Sketch.{inRange, perByte, packedLength, blockLength}
 use Rattle.meaning.specs.SketchCalls.{sketchLimits}
 use Rattle.meaning.specs.Trie.{fresh, addLeaf, insert, nodes}
-use Rattle.meaning.specs.Ledger.{Settings, Event, opening, add, drop, accept, step, ledger, withRows, putRow}
+use Rattle.meaning.specs.Ledger.{Settings, settingsGiven, Event, opening, add, drop, accept, step, ledger, withRows, putRow}
 use Rattle.meaning.specs.Forest.{blockBytes, forest, forestAfter, eachFrom, totalNodes}
 use Rattle.meaning.specs.Questions.{inLimits, asked, byLedger}
 use Rattle.layout.specs.Lengths.{nodesLength, pagesLength, sketchesLength, workingLength}
@@ -20,7 +20,7 @@ use Rattle.existence.proofs.Exist.{begins, accepted}
 
 -- one page, and the one node that a trie of one block has
 s : Settings
-s = record { bits = 2; symbols = 4; blocks = 1; pages = 1; nodes = 1; thresholds = replicate 64 1 }
+s = settingsGiven 2 4 1 1 1 (replicate 64 1)
 
 held : Tables
 held = record { settings = replicate 391 9; nodes = replicate 10 8; pages = replicate 3 1; sketches = replicate 4 3; working = replicate 2 7 }

@@ -71,7 +71,7 @@ module _ (T : Tables) where
           record {
             answer = numberAlone n;
             tables = withWorking U (T .working);
-            promised = (subst (DropPromise (toStore T) p n) same h, refl, h .sketches);
+            promised = (subst (DropPromise (toStore T) p n) same h, refl);
           }
 
   module _ (F : List Tree) (sound : Sound T F) where

@@ -1,28 +1,18 @@
 -- How often the cells of a run of nodes claim a word: each word of the run's states and heads, and of its chain words, once.
-use Prim.Native.Nat.{ℕ, zero, suc, _+_, _*_, _≤_, _<_}
+use Prim.Native.Nat.{ℕ, zero, suc, _+_, _*_, _≤_}
 use native.Mathlib.Omega.{arith}
-use native.Mathlib.Numerals.{towards-suc}
-use native.Mathlib.Nat.{add-zero, add-suc, zero-add, suc-add}
+use native.Mathlib.Nat.{add-suc, zero-add, suc-add}
 use mathlib.Core.Path.{_≡_, refl}
 use mathlib.Core.List.{List, [], _∷_}
 use mathlib.Core.Bool.{Bool, true, false, cond}
 use lib.Dec.{eqb}
-use borrow.Author.Tests.{eqb-true, ne-eqb}
+use borrow.Author.Tests.{eqb-true}
 use Rattle.meaning.specs.Lists.{from}
 use Rattle.children.specs.Heap.{hit, nodeClaims, pageClaims}
 use Rattle.children.specs.Phys.{Phys, leafP, noHeads, freeCells}
+use Rattle.children.proofs.Claims.{among, among-out, heads}
 use Rattle.layout.specs.Nodes.{headAt}
 use Rattle.promises.specs.Sound.{triesCells}
-
--- how often a word is among n from k on
-among : ℕ → ℕ → ℕ → ℕ
-among k zero a = 0
-among k (suc n) a = hit k a + among (suc k) n a
-
-past : (k n a : ℕ) → a < k → among k n a ≡ 0
-unfolding among hit
-past k zero a h = refl
-past k (suc n) a h = rw (ne-eqb k a (omega arith)) (rw (past (suc k) n a (omega arith)))
 
 once : (k n a : ℕ) → among k n a ≤ 1
 unfolding among hit
@@ -30,7 +20,7 @@ once k zero a = omega arith
 once k (suc n) a = go (eqb k a) refl (once (suc k) n a)
   where
     go : (t : Bool) → eqb k a ≡ t → among (suc k) n a ≤ 1 → cond t 1 0 + among (suc k) n a ≤ 1
-    go true e h = omega (arith, past (suc k) n a (omega (arith, eqb-true k a e)))
+    go true e h = omega (arith, among-out (suc k) n a (λ q. absurd (omega (arith, eqb-true k a e))))
     go false e h = omega arith
 
 -- two runs that meet are one
@@ -38,11 +28,6 @@ joined : (k m l n a : ℕ) → k + m ≡ l → among k (m + n) a ≡ among k m a
 unfolding among
 joined k zero l n a e = let f : k ≡ l = omega arith in rw (zero-add n, f) (omega arith)
 joined k (suc m) l n a e = rw (suc-add m n, joined (suc k) m l n a (omega arith)) (omega arith)
-
--- the heads of a node
-heads : (N x a : ℕ) → nodeClaims (noHeads N x) a ≡ among (headAt N x 0) 8 a
-unfolding noHeads among
-heads N x a = simp (towards-suc, add-zero)
 
 more-heads : (N x n a : ℕ) → among (headAt N x 0) (8 * suc n) a ≡ nodeClaims (noHeads N x) a + among (headAt N (suc x) 0) (8 * n) a
 more-heads N x n a =

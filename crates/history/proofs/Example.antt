@@ -6,7 +6,7 @@ use Prim.Native.Nat.{ℕ}
 use lib.ListN.{getD, set, replicate}
 use Rattle.meaning.specs.Lists.{all, any, keep, onto, from, upto, sum}
 use Rattle.meaning.specs.Refusal.{firstNo}
-use Rattle.meaning.specs.Ledger.{Settings, Event, opening, add, change, accept, step, ledger, withRows, withRegister, putRow, calledFor, listed}
+use Rattle.meaning.specs.Ledger.{Settings, settingsGiven, Event, opening, add, change, accept, step, ledger, withRows, withRegister, putRow, calledFor, listed}
 use Rattle.meaning.specs.Forest.{blockBytes, forest, forestAfter, eachFrom, totalNodes}
 use Rattle.meaning.specs.Sketch.{distance, inRange, perByte, packedLength, blockLength}
 use Rattle.meaning.specs.Trie.{fresh, addLeaf, insert, nodes}
@@ -30,7 +30,7 @@ use Rattle.history.proofs.Steps.{adds}
 use Rattle.history.proofs.Main.{represents}
 
 s : Settings
-s = record { bits = 2; symbols = 4; blocks = 2; pages = 3; nodes = 5; thresholds = replicate 64 1 }
+s = settingsGiven 2 4 2 3 5 (replicate 64 1)
 
 -- tables a little too long, with anything in them
 held : Tables
@@ -99,7 +99,7 @@ same-rest = record {
   pages = refl;
   sketches = refl;
   working = refl;
-  header = refl;
+  settings-front = refl;
   settings-rest = refl;
   nodes-rest = refl;
   pages-rest = refl;

@@ -12,6 +12,7 @@ use Rattle.meaning.specs.Lists.{from, upto}
 use Rattle.meaning.specs.Trie.{Tree, fresh}
 use Rattle.meaning.specs.Ledger.{Settings, opening}
 use Rattle.meaning.specs.Questions.{inLimits}
+use Rattle.meaning.proofs.Lists.{length-from}
 use Rattle.layout.specs.Settings.{freeAt, header}
 use Rattle.layout.specs.Nodes.{nodeWords, headAt, stateAt, freeState}
 use Rattle.layout.specs.Pages.{isLive}
@@ -25,7 +26,7 @@ use Rattle.promises.specs.Tables.{Tables, given}
 use Rattle.promises.specs.Answers.{longFor, longSettings, freeLink, freshSettings, freshChain, freshState, freshNodes, opened}
 use Rattle.promises.specs.Sound.{triesCells, Rooted, Holding, livePage, pageBytes, Sound}
 use Rattle.history.proofs.Represents.{settings-read}
-use Rattle.history.proofs.Opening.{onto-word, from-length, settings-length, nodes-length, no-page, beginning, header-length}
+use Rattle.history.proofs.Opening.{onto-word, settings-length, nodes-length, no-page, beginning, header-length}
 use Rattle.history.proofs.Claims.{roots, tries-pages, free-pages, all-claims}
 
 -- ---- the words of the node table
@@ -39,7 +40,7 @@ map-from f k (suc n) t (suc i) h = map-from f (suc k) n t i (omega arith) ∙ ap
 past-map : (f : ℕ → ℕ) (n : ℕ) (t : List ℕ) (i : ℕ) → getD (map f (upto n) ++ t) (n + i) 0 ≡ getD t i 0
 unfolding upto
 past-map f n t i =
-    let l : length (map f (from 0 n)) ≡ n = length-map (from 0 n) f ∙ from-length 0 n in
+    let l : length (map f (from 0 n)) ≡ n = length-map (from 0 n) f ∙ length-from 0 n in
     ap (λ (k : ℕ). getD (map f (from 0 n) ++ t) (k + i) 0) (sym l) ∙ getD-append-add (map f (from 0 n)) t i 0
 
 module _ (s : Settings) (limits : inLimits s ≡ true) (T : Tables) where
@@ -167,7 +168,7 @@ module _ (s : Settings) (limits : inLimits s ≡ true) (T : Tables) (long : long
     roots = rw given-opened (rooted (s .nodes) (s .pages) 0 q (omega (arith, fits)));
     chain = free-link;
     below = rw given-opened (below-from (s .nodes) q (s .nodes - q) (omega (arith, fits)));
-    all = rw (given-opened, roots-fresh 0 q, total-fresh q, from-length q (s .nodes - q)) (omega (arith, fits));
+    all = rw (given-opened, roots-fresh 0 q, total-fresh q, length-from q (s .nodes - q)) (omega (arith, fits));
   }
 
   no-live : livePage (opened s T) ≡ (λ p. false)

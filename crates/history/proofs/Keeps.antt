@@ -4,7 +4,7 @@ use native.Mathlib.Omega.{arith}
 use mathlib.Core.Path.{_≡_, refl, sym, ap, _∙_}
 use mathlib.Core.Bool.{Bool, true, false, cond, not}
 use mathlib.Core.Logic.{_≢_}
-use mathlib.Core.List.{List, [], _∷_}
+use mathlib.Core.List.{List, []}
 use lib.Dec.{ltb, eqb}
 use lib.ListN.{length, replicate, length-replicate}
 use borrow.Author.Tests.{eqb-true, eqb-false, eq-eqb, ne-eqb, ltb-true}
@@ -15,6 +15,7 @@ use Rattle.meaning.specs.Rights.{Change, changeInRange}
 use Rattle.meaning.specs.Ledger.{Settings, Ledger, Reading, Call, opening, add, drop, change, reading, accept, step}
 use Rattle.meaning.specs.Forest.{forestAfter}
 use Rattle.meaning.specs.Questions.{asked, byLedger}
+use Rattle.meaning.proofs.Lists.{length-onto}
 use Rattle.layout.specs.Lengths.{workingLength}
 use Rattle.promises.specs.Tables.{Tables, takesOf, withSettings, pageClass, pageRow, rowsOf}
 use Rattle.rights.specs.Register.{registered}
@@ -27,7 +28,7 @@ use Rattle.promises.proofs.Readings.{workingAfter, law}
 use Rattle.history.specs.History.{event, admitted, judged, zeroed}
 use Rattle.history.proofs.Lists.{passed}
 use Rattle.history.proofs.Represents.{Represents, given-eq, long-working, past-6}
-use Rattle.history.proofs.Opening.{onto-length, started, entered-4-5, left-by}
+use Rattle.history.proofs.Opening.{started, entered-4-5, left-by}
 use Rattle.history.proofs.Steps.{registered-as, changes, works, drops, adds}
 use Rattle.history.proofs.FreshStore.{fresh-store}
 use Rattle.history.proofs.Store.{sound-others, sound-working, sound-back}
@@ -129,7 +130,7 @@ module _ (T : Tables) (L : Ledger) (F : List Tree) (W : Shows T L F) where
   as-long q = go (takesOf q .working)
     where
       go : (t : Bool) → length (cond t (workingLeft T q) (T .working)) ≡ length (T .working)
-      go true = rw (zeros-left q) (onto-length (replicate (workingLength (L .settings)) 0) (T .working) (simp length-replicate (long-working T L R)))
+      go true = rw (zeros-left q) (length-onto (replicate (workingLength (L .settings)) 0) (T .working) (simp length-replicate (long-working T L R)))
       go false = refl
 
   reads : (q : Reading) (a : Answer) (T′ : Tables) → Promised (reading q) T a T′ → Shows T′ L F

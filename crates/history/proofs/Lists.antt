@@ -7,9 +7,9 @@ use Prim.Native.Nat.{ℕ, zero, suc, _+_, _≤_, _<_}
 use native.Mathlib.Omega.{arith}
 use lib.Dec.{ltb, eqb}
 use borrow.Author.Tests.{ltb-true, lt-ltb, le-ltb, eqb-true, eqb-false, eq-eqb, ne-eqb}
-use Rattle.meaning.specs.Lists.{all, any, keep, from, upto}
+use Rattle.meaning.specs.Lists.{all, any, keep, from}
 use Rattle.meaning.specs.Ledger.{Row, putRow}
-use Rattle.layout.proofs.Tests.{and-left, and-right}
+use Rattle.meaning.proofs.Lists.{and-first, and-second}
 use Rattle.promises.specs.Tables.{rowsFrom}
 use Rattle.history.specs.History.{rising, sketchIn}
 
@@ -31,20 +31,6 @@ passed n true x p e = (refl, e)
 passed n false x p e = absurd (omega arith)
 
 -- ---- numbers in a row
-
-any-from : (f g : ℕ → Bool) (k n : ℕ) → ((i : ℕ) → k ≤ i → i < k + n → f i ≡ g i) → any f (from k n) ≡ any g (from k n)
-unfolding any from
-any-from f g k zero h = refl
-any-from f g k (suc n) h = cc (h k (omega arith) (omega arith), any-from f g (suc k) n (λ i a b. h i (omega arith) (omega arith)))
-
-pub any-upto : (f g : ℕ → Bool) (n : ℕ) → ((i : ℕ) → i < n → f i ≡ g i) → any f (upto n) ≡ any g (upto n)
-unfolding upto
-any-upto f g n h = any-from f g 0 n (λ i a b. h i (omega arith))
-
-pub keep-from : (f g : ℕ → Bool) (k n : ℕ) → ((i : ℕ) → k ≤ i → i < k + n → f i ≡ g i) → keep f (from k n) ≡ keep g (from k n)
-unfolding keep from
-keep-from f g k zero h = refl
-keep-from f g k (suc n) h = cc (h k (omega arith) (omega arith), keep-from f g (suc k) n (λ i a b. h i (omega arith) (omega arith)))
 
 above : (g : ℕ → Bool) (x k n : ℕ) → x < k → all (λ y. ltb x y) (keep g (from k n)) ≡ true
 unfolding all keep from
@@ -233,10 +219,10 @@ module _ (l : ℕ → Bool) (h : ℕ → Row) (own : (i : ℕ) → h i .page ≡
 all-above : (x p : ℕ) (ys : List ℕ) → all (λ y. ltb x y) ys ≡ true → any (λ y. eqb y p) ys ≡ true → x < p
 unfolding all any
 all-above x p [] a m = absurd (true≢false (sym m))
-all-above x p (y ∷ ys) a m = go (eqb y p) refl (all-above x p ys (and-right (ltb x y) (all (λ z. ltb x z) ys) a))
+all-above x p (y ∷ ys) a m = go (eqb y p) refl (all-above x p ys (and-second (ltb x y) (all (λ z. ltb x z) ys) a))
   where
     go : (t : Bool) → eqb y p ≡ t → (any (λ z. eqb z p) ys ≡ true → x < p) → x < p
-    go true e ih = omega (arith, eqb-true y p e, ltb-true x y (and-left (ltb x y) (all (λ z. ltb x z) ys) a))
+    go true e ih = omega (arith, eqb-true y p e, ltb-true x y (and-first (ltb x y) (all (λ z. ltb x z) ys) a))
     go false e ih = ih (rw e at m)
 
 absent : (x : ℕ) (ys : List ℕ) → all (λ y. ltb x y) ys ≡ true → any (λ y. eqb y x) ys ≡ false
@@ -269,14 +255,14 @@ rising-ext (x ∷ xs) (y ∷ ys) a b h =
     let l : x ≤ y = first x y xs above-x (h y ∙ head-in y ys) in
     let m : y ≤ x = first y x ys above-y (sym (h x) ∙ head-in x xs) in
     let e : x ≡ y = omega arith in
-    let t : xs ≡ ys = rising-ext xs ys (and-right (all (λ z. ltb x z) xs) (rising xs) a) (and-right (all (λ z. ltb y z) ys) (rising ys) b) (λ p. tails e p (eqb x p) refl) in
+    let t : xs ≡ ys = rising-ext xs ys (and-second (all (λ z. ltb x z) xs) (rising xs) a) (and-second (all (λ z. ltb y z) ys) (rising ys) b) (λ p. tails e p (eqb x p) refl) in
     cc
   where
     above-x : all (λ z. ltb x z) xs ≡ true
-    above-x = and-left (all (λ z. ltb x z) xs) (rising xs) a
+    above-x = and-first (all (λ z. ltb x z) xs) (rising xs) a
 
     above-y : all (λ z. ltb y z) ys ≡ true
-    above-y = and-left (all (λ z. ltb y z) ys) (rising ys) b
+    above-y = and-first (all (λ z. ltb y z) ys) (rising ys) b
 
     tails : x ≡ y → (p : ℕ) (t : Bool) → eqb x p ≡ t → any (λ z. eqb z p) xs ≡ any (λ z. eqb z p) ys
     tails e p true q = rw (← eqb-true x p q, absent x xs above-x) (rw e (sym (absent y ys above-y)))

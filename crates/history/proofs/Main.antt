@@ -1,7 +1,7 @@
 -- The claim about whole histories (demand 3).
 use Prim.Native.Nat.{ℕ, _≤_}
 use native.Mathlib.Omega.{arith}
-use mathlib.Core.Path.{_≡_, refl, sym, ap, _∙_}
+use mathlib.Core.Path.{_≡_, sym, ap, _∙_}
 use mathlib.Core.Bool.{cond}
 use mathlib.Core.List.{List, []}
 use lib.Dec.{leb, eqb}
@@ -16,8 +16,7 @@ use Rattle.meaning.specs.Ledger.{Ledger, Event, search, show, check, reading, s
 use Rattle.meaning.specs.Forest.{forest, forestAfter}
 use Rattle.promises.specs.Tables.{Tables, pageRow, scan}
 use Rattle.promises.specs.Answers.{entered}
-use Rattle.promises.specs.Readings.{rowShown}
-use Rattle.promises.specs.Readings.{earlyNumber}
+use Rattle.promises.specs.Readings.{rowShown, earlyNumber}
 use Rattle.promises.specs.Relation.{Answer, toShow, Promised}
 use Rattle.promises.proofs.Readings.{number-show}
 use Rattle.history.specs.History.{History, begun, called, foreign, admitted, judged, RightlyPut, Found, sketchIn, Claim, Agree}

@@ -1,22 +1,22 @@
 -- An accepted opening makes the invariant, whatever the tables held.
-use mathlib.Core.Path.{_≡_, refl, sym, ap, _∙_}
+use mathlib.Core.Path.{_≡_, refl, sym, _∙_}
 use mathlib.Core.Bool.{Bool, true, false, cond, _&&_, true≢false}
 use mathlib.Core.List.{List, [], _∷_, _++_}
-use Prim.Native.Nat.{ℕ, zero, suc, _+_, _-_, _≤_, _<_}
+use Prim.Native.Nat.{ℕ, _+_, _-_, _≤_, _<_}
 use native.Mathlib.Nat.{mul-le-mul-right}
 use native.Mathlib.Omega.{arith}
 use lib.Dec.{leb, eqb}
-use lib.ListN.{length, getD, take, replicate, length-append, length-drop, length-map, length-replicate, getD-replicate, List·getD-append}
+use lib.ListN.{length, getD, take, replicate, length-append, length-map, length-replicate, getD-replicate, List·getD-append}
 use lib.Seq.{take-at, take-append-le, getD-append-add}
 use borrow.Author.Tests.{leb-true}
-use Rattle.meaning.specs.Lists.{onto, from, upto}
+use Rattle.meaning.specs.Lists.{onto, upto}
 use Rattle.meaning.specs.Refusal.{firstNo}
 use Rattle.meaning.specs.Ledger.{Settings, Ledger, opening, accept}
 use Rattle.meaning.specs.Questions.{inLimits, asked}
+use Rattle.meaning.proofs.Lists.{and-first, and-second, length-from, length-onto}
 use Rattle.layout.specs.Settings.{settingsLength, membersAt, freeAt, header}
 use Rattle.layout.specs.Pages.{isLive}
 use Rattle.layout.specs.Lengths.{nodesLength, pagesLength}
-use Rattle.layout.proofs.Tests.{and-left, and-right}
 use Rattle.layout.proofs.Limits.{bounds}
 use Rattle.rights.proofs.Pairs.{holds-none}
 use Rattle.promises.specs.Tables.{Tables, given, rowsOf}
@@ -25,19 +25,10 @@ use Rattle.promises.specs.Relation.{Answer, withOpening, Promised}
 use Rattle.history.proofs.Lists.{passed, rows-none}
 use Rattle.history.proofs.Represents.{Represents, AsLong, long-kept, settings-read}
 
-pub onto-length : (xs table : List ℕ) → length xs ≤ length table → length (onto xs table) ≡ length table
-unfolding onto
-onto-length xs table h = simp (length-append, length-drop) (omega arith)
-
 -- a word of the beginning
 pub onto-word : (xs table : List ℕ) (i : ℕ) → i < length xs → getD (onto xs table) i 0 ≡ getD xs i 0
 unfolding onto
 onto-word xs table i h = List·getD-append xs _ 0 i h
-
-pub from-length : (k n : ℕ) → length (from k n) ≡ n
-unfolding from
-from-length k zero = refl
-from-length k (suc n) = ap suc (from-length (suc k) n)
 
 pub zero-word : (n : ℕ) (t : List ℕ) (k : ℕ) → k < n → getD (replicate n 0 ++ t) k 0 ≡ 0
 zero-word n t k h = List·getD-append (replicate n 0) t 0 k (rw (length-replicate {A = ℕ} n 0) h) ∙ getD-replicate n k 0 0 h
@@ -57,7 +48,7 @@ module _ (s : Settings) (limits : inLimits s ≡ true) where
 
   pub nodes-length : length (freshNodes s) ≡ nodesLength s
   unfolding freshNodes nodesLength upto
-  nodes-length = simp (length-append, length-map, from-length, length-replicate) (omega arith)
+  nodes-length = simp (length-append, length-map, length-from, length-replicate) (omega arith)
 
   pages-length : length (freshPages s) ≡ pagesLength s
   unfolding freshPages
@@ -67,13 +58,13 @@ module _ (s : Settings) (limits : inLimits s ≡ true) where
     as-long : AsLong T (opened s T)
     unfolding opened longSettings longFor longNodes longPages
     as-long =
-        let h : leb settingsLength (length (T .settings)) ≡ true = search and-left in
-        let n : leb (nodesLength s) (length (T .nodes)) ≡ true = search (and-left, and-right) in
-        let p : leb (pagesLength s) (length (T .pages)) ≡ true = search (and-left, and-right) in
+        let h : leb settingsLength (length (T .settings)) ≡ true = search and-first in
+        let n : leb (nodesLength s) (length (T .nodes)) ≡ true = search (and-first, and-second) in
+        let p : leb (pagesLength s) (length (T .pages)) ≡ true = search (and-first, and-second) in
         record {
-          settings = onto-length (freshSettings s) (T .settings) (omega (arith, settings-length, leb-true settingsLength (length (T .settings)) h));
-          nodes = onto-length (freshNodes s) (T .nodes) (omega (arith, nodes-length, leb-true (nodesLength s) (length (T .nodes)) n));
-          pages = onto-length (freshPages s) (T .pages) (omega (arith, pages-length, leb-true (pagesLength s) (length (T .pages)) p));
+          settings = length-onto (freshSettings s) (T .settings) (omega (arith, settings-length, leb-true settingsLength (length (T .settings)) h));
+          nodes = length-onto (freshNodes s) (T .nodes) (omega (arith, nodes-length, leb-true (nodesLength s) (length (T .nodes)) n));
+          pages = length-onto (freshPages s) (T .pages) (omega (arith, pages-length, leb-true (pagesLength s) (length (T .pages)) p));
           sketches = refl;
           working = refl;
         }

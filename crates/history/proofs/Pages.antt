@@ -9,7 +9,7 @@ use lib.Dec.{eqb}
 use lib.ListN.{length, take}
 use borrow.Author.Tests.{eqb-true, eqb-false}
 use Rattle.meaning.specs.Lists.{keep}
-use Rattle.meaning.specs.Ledger.{Row, putRow}
+use Rattle.meaning.specs.Ledger.{Row, row, putRow}
 use Rattle.layout.specs.Pages.{isLive, classOf, rowOf, withPage, withoutPage, linksAt}
 use Rattle.layout.specs.Settings.{membersAt}
 use Rattle.layout.proofs.Words.{live-kept, class-kept, live-written, live-written-other, class-written, class-written-other, live-struck, live-struck-other, class-struck}
@@ -19,7 +19,7 @@ use Rattle.history.proofs.Lists.{rows-upto, rows-put, rows-strike}
 
 -- the rows of P pages, m symbols a row
 abbrev pub rowAt : ℕ → ℕ → List ℕ → List ℕ → ℕ → Row
-rowAt P m pages sketches p = record { page = p; class = classOf pages P p; sketch = rowOf m sketches p }
+rowAt P m pages sketches p = row p (classOf pages P p) (rowOf m sketches p)
 
 abbrev pub rowsIn : ℕ → ℕ → List ℕ → List ℕ → List Row
 rowsIn P m pages sketches = rowsFrom (isLive pages) (rowAt P m pages sketches) 0 P
@@ -83,15 +83,15 @@ module _ (P : ℕ) (pages pages′ : List ℕ) (p : ℕ) (page : p < P) (long : 
 
     pub rows-add : (c : ℕ) (x : List ℕ) → isLive pages p ≡ false → take (2 * P) pages′ ≡ take (2 * P) (withPage P pages p c)
         → rowOf m sketches′ p ≡ x → ((i : ℕ) → i < P → i ≢ p → rowOf m sketches′ i ≡ rowOf m sketches i)
-        → putRow (record { page = p; class = c; sketch = x }) (rowsIn P m pages sketches) ≡ rowsIn P m pages′ sketches′
+        → putRow (row p c x) (rowsIn P m pages sketches) ≡ rowsIn P m pages′ sketches′
     rows-add c x free written here rows =
-        rows-put (isLive pages) (rowAt P m pages sketches) (λ i. refl) (record { page = p; class = c; sketch = x }) free 0 P (omega arith) (omega arith)
+        rows-put (isLive pages) (rowAt P m pages sketches) (λ i. refl) (row p c x) free 0 P (omega arith) (omega arith)
         ∙ rows-upto (λ i. cond (eqb i p) true (isLive pages i)) (isLive pages′)
-        (λ i. cond (eqb i p) (record { page = p; class = c; sketch = x }) (rowAt P m pages sketches i)) (rowAt P m pages′ sketches′) P
+        (λ i. cond (eqb i p) (row p c x) (rowAt P m pages sketches i)) (rowAt P m pages′ sketches′) P
         (λ i h. sym (live-add c written i h))
         (λ i h. go i h (eqb i p) refl (class-add c written i h))
       where
         go : (i : ℕ) → i < P → (t : Bool) → eqb i p ≡ t → classOf pages′ P i ≡ cond (eqb i p) c (classOf pages P i)
-            → cond t (record { page = p; class = c; sketch = x }) (rowAt P m pages sketches i) ≡ rowAt P m pages′ sketches′ i
+            → cond t (row p c x) (rowAt P m pages sketches i) ≡ rowAt P m pages′ sketches′ i
         go i h true e k = let q : i ≡ p = eqb-true i p e in let d : classOf pages′ P i ≡ c = k ∙ rw e in rw (d, q, here)
         go i h false e k = let d : classOf pages′ P i ≡ classOf pages P i = k ∙ rw e in rw (d, rows i h (eqb-false i p e))

@@ -16,10 +16,10 @@ use Rattle.meaning.specs.Rights.{openTo}
 use Rattle.meaning.specs.Trie.{Tree}
 use Rattle.meaning.specs.Ledger.{Settings, Row, Ledger, Reading, search, show, check, Call, opening, add, drop, change, reading, calledFor, listed}
 use Rattle.meaning.specs.Questions.{inLimits, askedOf, asked, byLedger}
+use Rattle.meaning.proofs.Lists.{and-first, and-second, and-intro, keep-from}
 use Rattle.layout.specs.Settings.{membersAt, header, settingsOf, showsOpening}
 use Rattle.layout.specs.Pages.{isLive, classOf}
 use Rattle.layout.specs.Lengths.{pagesLength, sketchesLength, workingLength}
-use Rattle.layout.proofs.Tests.{and-left, and-right, and-both}
 use Rattle.layout.proofs.Limits.{bounds}
 use Rattle.layout.proofs.Written.{settings-header, shows-header}
 use Rattle.rights.specs.Register.{opens}
@@ -27,7 +27,7 @@ use Rattle.rights.proofs.Pairs.{Holds, holds-opens}
 use Rattle.promises.specs.Tables.{Tables, takes, given, pageClass, pageRow, isShown, scan, rowsOf, byTables}
 use Rattle.promises.specs.Answers.{longFor, longSettings, longNodes, longPages, longWorking, shown56, entered, number}
 use Rattle.history.specs.History.{admitted, judged}
-use Rattle.history.proofs.Lists.{and-then, asks, keep-from, rows-live, rows-any, rows-keep}
+use Rattle.history.proofs.Lists.{and-then, asks, rows-live, rows-any, rows-keep}
 use Rattle.history.proofs.Pages.{rowAt, rowsIn}
 
 pub record Represents (T : Tables) (L : Ledger) : Type 0 where
@@ -64,7 +64,7 @@ settings-read s limits ws e = ap settingsOf (parted s ws e) ∙ settings-header 
 -- ---- under the invariant
 
 asked-too : (t : Bool) {tests test : Bool} → tests ≡ true → test ≡ true → cond t (tests && test) tests ≡ true
-asked-too true {tests} {test} a b = and-both tests test a b
+asked-too true {tests} {test} a b = and-intro tests test a b
 asked-too false a b = a
 
 module _ (T : Tables) (L : Ledger) (R : Represents T L) where
@@ -73,45 +73,45 @@ module _ (T : Tables) (L : Ledger) (R : Represents T L) where
 
   -- 5 and 6
   pub long-settings : longSettings T ≡ true
-  long-settings = and-left (longSettings T) (longFor (L .settings) T (opening (L .settings))) (R .long)
+  long-settings = and-first (longSettings T) (longFor (L .settings) T (opening (L .settings))) (R .long)
 
   long-all : longNodes (L .settings) T && longPages (L .settings) T && longWorking (L .settings) T ≡ true
   unfolding longFor
-  long-all = and-right (longSettings T) (longFor (L .settings) T (opening (L .settings))) (R .long)
+  long-all = and-second (longSettings T) (longFor (L .settings) T (opening (L .settings))) (R .long)
 
   -- whichever tables it takes
   pub long-for : (c : Call) → longFor (L .settings) T c ≡ true
   unfolding longFor
   long-for c =
       asked-too (takes c .working) (asked-too (takes c .pages) (asked-too (takes c .nodes) refl nodes) pages)
-      (and-right (longNodes (L .settings) T && longPages (L .settings) T) _ long-all)
+      (and-second (longNodes (L .settings) T && longPages (L .settings) T) _ long-all)
     where
       store : longNodes (L .settings) T && longPages (L .settings) T ≡ true
-      store = and-left (longNodes (L .settings) T && longPages (L .settings) T) (longWorking (L .settings) T) long-all
+      store = and-first (longNodes (L .settings) T && longPages (L .settings) T) (longWorking (L .settings) T) long-all
 
       nodes : longNodes (L .settings) T ≡ true
-      nodes = and-left (longNodes (L .settings) T) (longPages (L .settings) T) store
+      nodes = and-first (longNodes (L .settings) T) (longPages (L .settings) T) store
 
       pages : longPages (L .settings) T ≡ true
-      pages = and-right (longNodes (L .settings) T) (longPages (L .settings) T) store
+      pages = and-second (longNodes (L .settings) T) (longPages (L .settings) T) store
 
   -- the live words and the classes, and the rows
   pub long-pages : 2 * L .settings .pages ≤ length (T .pages)
   unfolding longFor longPages pagesLength
   long-pages =
-      let a : leb (pagesLength (L .settings)) (length (T .pages)) ≡ true = and-left _ _ (long-for (reading (show 0 0))) in
+      let a : leb (pagesLength (L .settings)) (length (T .pages)) ≡ true = and-first _ _ (long-for (reading (show 0 0))) in
       let b : 2 ≤ 2 + L .settings .blocks = omega arith in
       omega (arith, leb-true (pagesLength (L .settings)) (length (T .pages)) a, mul-le-mul-right (L .settings .pages) b)
 
   pub long-sketches : L .settings .pages * L .settings .symbols ≤ length (T .sketches)
   unfolding longFor longPages sketchesLength
   long-sketches =
-      leb-true (sketchesLength (L .settings)) (length (T .sketches)) (and-right (leb (pagesLength (L .settings)) (length (T .pages))) _ (long-for (reading (show 0 0))))
+      leb-true (sketchesLength (L .settings)) (length (T .sketches)) (and-second (leb (pagesLength (L .settings)) (length (T .pages))) _ (long-for (reading (show 0 0))))
 
   pub long-working : workingLength (L .settings) ≤ length (T .working)
   unfolding longWorking
   long-working =
-      leb-true (workingLength (L .settings)) (length (T .working)) (and-right (longNodes (L .settings) T && longPages (L .settings) T) _ long-all)
+      leb-true (workingLength (L .settings)) (length (T .working)) (and-second (longNodes (L .settings) T && longPages (L .settings) T) _ long-all)
 
   pub shows-opening : showsOpening (T .settings) ≡ true
   shows-opening =
@@ -120,7 +120,7 @@ module _ (T : Tables) (L : Ledger) (R : Represents T L) where
       ∙ R .limits
 
   pub shown-6 : (c : Call) → showsOpening (T .settings) && longFor (given T) T c ≡ true
-  shown-6 c = rw (given-eq) (and-both (showsOpening (T .settings)) (longFor (L .settings) T c) shows-opening (long-for c))
+  shown-6 c = rw (given-eq) (and-intro (showsOpening (T .settings)) (longFor (L .settings) T c) shows-opening (long-for c))
 
   pub past-6 : (c : Call) → firstNo (shown56 T c) ≡ 0
   unfolding shown56 firstNo
@@ -179,7 +179,7 @@ module _ (T : Tables) (L : Ledger) (R : Represents T L) where
   reading-eq F (search r d x o) =
       rw given-eq
       (asks 7 (ltb r 256 && leb d 64) λ h7.
-      rw (found-eq r d x (ltb-true r 256 (and-left (ltb r 256) (leb d 64) h7))))
+      rw (found-eq r d x (ltb-true r 256 (and-first (ltb r 256) (leb d 64) h7))))
   reading-eq F (show r p) =
       rw given-eq
       (asks 7 (ltb r 256) λ h7.

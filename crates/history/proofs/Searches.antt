@@ -14,8 +14,8 @@ use Rattle.meaning.specs.Rights.{openTo}
 use Rattle.meaning.specs.Trie.{Tree}
 use Rattle.meaning.specs.Ledger.{Ledger, search, show, reading, calledFor, listed}
 use Rattle.meaning.specs.Questions.{asked, byLedger}
+use Rattle.meaning.proofs.Lists.{and-first}
 use Rattle.layout.specs.Pages.{isLive}
-use Rattle.layout.proofs.Tests.{and-left}
 use Rattle.promises.specs.Tables.{Tables, pageRow, isShown, scan}
 use Rattle.promises.specs.Answers.{number}
 use Rattle.promises.specs.Readings.{Lists}
@@ -68,7 +68,7 @@ module _ (T : Tables) (L : Ledger) (R : Represents T L) (F : List Tree) (reader 
       let h8 = passed 8 (ltb p (L .settings .pages)) _ (omega arith) (h7 .1) in
       let h9 = passed 9 _ 0 (omega arith) (h8 .1) in
       let hp = ltb-true p (L .settings .pages) (h8 .0) in
-      (hp, and-left (isLive (T .pages) p) _ (shown-eq T L R reader p (ltb-true reader 256 (h7 .0)) hp ∙ h9 .0))
+      (hp, and-first (isLive (T .pages) p) _ (shown-eq T L R reader p (ltb-true reader 256 (h7 .0)) hp ∙ h9 .0))
 
   pub shows-row : cond (eqb (judged T L F (reading (show reader p))) 0) (pageRow T p) [] ≡ cond (eqb (judged T L F (reading (show reader p))) 0) (sketchIn (L .rows) p) []
   shows-row = go (eqb (judged T L F (reading (show reader p))) 0) refl

@@ -1,22 +1,21 @@
 -- What an accepted call leaves shows the ledger after its step.
 use mathlib.Core.Path.{_≡_, refl, sym, ap, _∙_}
-use mathlib.Core.Bool.{Bool, true, false, cond, _&&_, not, true≢false}
+use mathlib.Core.Bool.{Bool, true, false, cond, not, true≢false}
 use mathlib.Core.List.{List}
 use Prim.Native.Nat.{ℕ, _+_, _*_, _≤_, _<_}
 use native.Mathlib.Omega.{arith}
 use lib.Dec.{ltb, eqb}
-use lib.ListN.{length, getD, take}
+use lib.ListN.{length, take}
 use lib.Seq.{take-take}
 use borrow.Author.Tests.{eqb-true, ltb-true, leb-true, not-true}
 use Rattle.meaning.specs.Lists.{any, keep}
 use Rattle.meaning.specs.Refusal.{firstNo}
 use Rattle.meaning.specs.Rights.{Register, Change, changeInRange, changed}
 use Rattle.meaning.specs.Trie.{Tree}
-use Rattle.meaning.specs.Ledger.{Row, Ledger, add, drop, change, accept, withRows, withRegister, putRow}
+use Rattle.meaning.specs.Ledger.{Row, row, Ledger, add, drop, change, accept, withRows, withRegister, putRow}
 use Rattle.meaning.specs.Questions.{asked, byLedger}
 use Rattle.layout.specs.Settings.{settingsLength, membersAt, freeAt}
 use Rattle.layout.specs.Pages.{isLive, classOf, withRow, withPage, withoutPage}
-use Rattle.layout.proofs.Tests.{and-left, and-right}
 use Rattle.layout.proofs.Rows.{row-inside, row-same, row-other}
 use Rattle.rights.specs.Register.{registered}
 use Rattle.rights.proofs.Pairs.{Holds, Changed, holds-same, made}
@@ -90,8 +89,8 @@ module _ (T : Tables) (L : Ledger) (R : Represents T L) where
     grown rows =
         kept T′ rows (L .register)
         (record { settings = same .settings; nodes = same .nodes; pages = same .pages; sketches = same .sketches; working = ap length kept-working })
-        (sym (take-take membersAt freeAt (T′ .settings) (omega arith)) ∙ rw (same .header) (take-take membersAt freeAt (T .settings) (omega arith)))
-        (holds-same (T .settings) (L .register) (R .register) (T′ .settings) (same .header))
+        (sym (take-take membersAt freeAt (T′ .settings) (omega arith)) ∙ rw (same .settings-front) (take-take membersAt freeAt (T .settings) (omega arith)))
+        (holds-same (T .settings) (L .register) (R .register) (T′ .settings) (same .settings-front))
 
     pub drops : (F : List Tree) (p : ℕ) → pageWords (toStore T) (T′ .pages) ≡ pageWords (toStore T) (withoutPage (T .pages) p)
         → T′ .sketches ≡ T .sketches → judged T L F (drop p) ≡ 0 → Represents T′ (accept (drop p) L)
@@ -120,7 +119,7 @@ module _ (T : Tables) (L : Ledger) (R : Represents T L) where
         let fits : p * m + m ≤ length (T .sketches) = row-inside m P (length (T .sketches)) hp (long-sketches T L R) in
         let written : take (2 * P) (T′ .pages) ≡ take (2 * P) (withPage P (T .pages) p c) = rw (given-eq T L R) at (d .pages) in
         let over : T′ .sketches ≡ withRow m (T .sketches) p x = rw (given-eq T L R) at (d .sketches) in
-        grown (putRow (record { page = p; class = c; sketch = x }) (L .rows))
+        grown (putRow (row p c x) (L .rows))
         (rw (rows-eq T L R, over)
         (rows-add P (T .pages) (T′ .pages) p hp (long-pages T L R) m (T .sketches) (withRow m (T .sketches) p x) c x free written
         (row-same m (T .sketches) p fits x whole) (λ i hi. row-other m (T .sketches) p fits x whole i)))

@@ -6,12 +6,13 @@ use native.Mathlib.Nat.{zero-add}
 use native.Mathlib.Omega.{arith}
 use lib.ListN.{length, getD, set, take, drop, length-append, length-take, length-drop}
 use Rattle.meaning.specs.Lists.{onto}
+use Rattle.meaning.proofs.Lists.{length-onto}
 use Rattle.words.specs.Bits.{bit, rising, flag, zeroed}
 use Rattle.words.proofs.Flags.{flag-bit}
 use Rattle.hits.specs.Marks.{pagesOf, summaryOf, Room, Summarised, nextWord, listOf}
 use Rattle.hits.proofs.Changed.{changed-zeros, zeroed-zeroed}
 use Rattle.hits.proofs.Pages.{pages-ones, pages-next, rising-most}
-use Rattle.hits.proofs.Written.{length-onto, onto-part}
+use Rattle.hits.proofs.Written.{onto-part}
 use Rattle.hits.proofs.Pass.{Pass, pass-word, pass-holds, Passable, pass-begin, pages-begin, pass-next, pages-more}
 
 module _ (marks₀ : List ℕ) (words : ℕ) (out₀ : List ℕ) where

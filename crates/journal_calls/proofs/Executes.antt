@@ -10,13 +10,14 @@ use lib.ListN.{length, replicate}
 use borrow.Author.Tests.{leb-true, eqb-true, eqb-false}
 use Rattle.meaning.specs.Rights.{Change}
 use Rattle.meaning.specs.Journal.{opens, adds, drops, changes, searches, callOf}
+use Rattle.meaning.specs.Ledger.{settingsGiven}
 use Rattle.promises.specs.Tables.{Tables, tables, withSettings}
-use Rattle.promises.specs.Calls.{OpenPromise, RightsPromise, settingsGiven}
+use Rattle.promises.specs.Calls.{OpenPromise, RightsPromise}
 use Rattle.promises.specs.Store.{AddPromise, DropPromise}
 use Rattle.promises.specs.Readings.{SearchPromise, Lists, earlyNumber, listedOf}
 use Rattle.promises.specs.Relation.{toStore, withOpening, withWorking}
 use Rattle.history.proofs.Lists.{passed}
-use Rattle.journal_calls.specs.Turns.{pageCapacity, nodeCapacity, foundAfter, Executed}
+use Rattle.journal_calls.specs.Commands.{pageCapacity, nodeCapacity, foundAfter, Executed}
 
 -- a call that gives a number alone
 module _ (T : Tables) (found : List ℕ) (r : ℕ) {n k : ℕ} (e : n ≡ r) (z : k ≡ 0) where
@@ -34,7 +35,7 @@ module _ (T : Tables) (found : List ℕ) (r : ℕ) {n k : ℕ} (e : n ≡ r) (z 
     pub drop-executed : (p : ℕ) → DropPromise (toStore T) p r (tables settings nodes pages (T .sketches) [])
         → Executed (drops p) T found n k (tables settings nodes pages (T .sketches) (T .working)) found
     unfolding callOf foundAfter
-    drop-executed p h = record { promised = (rw e h, refl, refl); output = refl; inside = λ _. omega (arith, z) }
+    drop-executed p h = record { promised = (rw e h, refl); output = refl; inside = λ _. omega (arith, z) }
 
   pub change-executed : (c : Change) (settings : List ℕ) → RightsPromise c (T .settings) r settings → Executed (changes c) T found n k (withSettings T settings) found
   unfolding callOf foundAfter

@@ -1,7 +1,1 @@
 pub mod Executes
-pub mod Same
-pub mod Reading
-pub mod Fits
-pub mod Turns
-pub mod Runs
-pub mod Takes

@@ -1,4 +1,2 @@
-// The commands of a journal, carried out on lent tables, and one turn of the program.
+// The commands of a journal, carried out on lent tables.
 pub mod commands;
-pub mod lines;
-pub mod turn;

@@ -10,10 +10,11 @@ use Rattle.meaning.specs.Lists.{all}
 use Rattle.meaning.specs.Ledger.{Settings}
 use Rattle.meaning.specs.SketchCalls.{sketchLimits}
 use Rattle.meaning.specs.Questions.{inLimits}
+use Rattle.meaning.proofs.Lists.{and-first, and-second}
 use Rattle.layout.specs.declared.Header.{Header}
 use Rattle.layout.specs.Header.{headerOf}
 use Rattle.layout.specs.Limits.{limitsOf, HeaderLimits, Bounds}
-use Rattle.layout.proofs.Tests.{and-left, and-right, all-at, at-all}
+use Rattle.layout.proofs.Tests.{all-at, at-all}
 
 -- a number of 16 bits
 abbrev pub short : ℕ → Bool
@@ -30,17 +31,17 @@ module _ (h : Header) where
   pub header-limits : (count : ℕ) → limitsOn h count ≡ true → HeaderLimits h
   unfolding limitsOf sketchLimits
   header-limits count e = record {
-    bits-least = ltb-true 0 (h .b) (search (and-left, and-right));
-    bits-most = leb-true (h .b) 8 (search (and-left, and-right));
-    symbols-least = ltb-true 0 (h .m) (search (and-left, and-right));
-    symbols-most = leb-true (h .m) 64 (search (and-left, and-right));
-    blocks-least = ltb-true 0 (h .q) (search (and-left, and-right));
-    blocks-most = leb-true (h .q) 8 (search (and-left, and-right));
-    blocks-fit = leb-true (h .q) (h .m) (search (and-left, and-right));
-    pages-least = ltb-true 0 (h .pages) (search (and-left, and-right));
-    pages-most = omega (arith, ltb-true (h .pages) 65536 (search (and-left, and-right)));
-    nodes-least = leb-true (h .q) (h .nodes) (search (and-left, and-right));
-    nodes-most = leb-true (h .nodes) 262144 (search (and-left, and-right));
+    bits-least = ltb-true 0 (h .b) (search (and-first, and-second));
+    bits-most = leb-true (h .b) 8 (search (and-first, and-second));
+    symbols-least = ltb-true 0 (h .m) (search (and-first, and-second));
+    symbols-most = leb-true (h .m) 64 (search (and-first, and-second));
+    blocks-least = ltb-true 0 (h .q) (search (and-first, and-second));
+    blocks-most = leb-true (h .q) 8 (search (and-first, and-second));
+    blocks-fit = leb-true (h .q) (h .m) (search (and-first, and-second));
+    pages-least = ltb-true 0 (h .pages) (search (and-first, and-second));
+    pages-most = omega (arith, ltb-true (h .pages) 65536 (search (and-first, and-second)));
+    nodes-least = leb-true (h .q) (h .nodes) (search (and-first, and-second));
+    nodes-most = leb-true (h .nodes) 262144 (search (and-first, and-second));
   }
 
   pub limits-header : HeaderLimits h → limitsOn h 64 ≡ true
@@ -63,9 +64,9 @@ module _ (h : Header) where
 pub bounds : (s : Settings) → inLimits s ≡ true → Bounds s
 unfolding inLimits limitsOf
 bounds s e = record {
-  header = header-limits (headerOf s) (length (s .thresholds)) (search and-left);
-  count = eqb-true (length (s .thresholds)) 64 (search (and-left, and-right));
-  below = λ k. ltb-true (getD (s .thresholds) k 0) 65536 (all-at short (s .thresholds) k 0 (search (and-left, and-right)) refl);
+  header = header-limits (headerOf s) (length (s .thresholds)) (search and-first);
+  count = eqb-true (length (s .thresholds)) 64 (search (and-first, and-second));
+  below = λ k. ltb-true (getD (s .thresholds) k 0) 65536 (all-at short (s .thresholds) k 0 (search (and-first, and-second)) refl);
 }
 
 pub in-bounds : (s : Settings) → Bounds s → inLimits s ≡ true

@@ -10,13 +10,13 @@ use lib.ListN.{length, getD, length-take, length-drop}
 use Rattle.meaning.specs.Lists.{all}
 use Rattle.meaning.specs.Refusal.{Question, ask, firstNo}
 use Rattle.meaning.specs.Questions.{inLimits}
+use Rattle.meaning.proofs.Lists.{and-second}
 use Rattle.layout.specs.declared.Header.{Header}
 use Rattle.layout.specs.declared.Opening.{Opening}
 use Rattle.layout.specs.declared.Opening.the-variants.{Shown, Refused}
 use Rattle.layout.specs.Settings.{mark, settingsLength, settingsOf, showsOpening}
 use Rattle.layout.specs.Header.{headerOf, openingOf, pick, tablesFirst}
 use Rattle.layout.specs.Limits.{HeaderLimits, Bounds}
-use Rattle.layout.proofs.Tests.{and-right}
 use Rattle.layout.proofs.Limits.{short, limitsOn, in-limits, bounds}
 
 -- ---- the test of a table, as the code makes it
@@ -37,7 +37,7 @@ pub record Shows (ws : List ℕ) (h : Header) : Type 0 where
   pub limits : HeaderLimits h
   pub bounds : Bounds (settingsOf ws)
 
-apart : (h : Header) (n : ℕ) → Refused n ≡ Shown h → ⊥
+pub apart : (h : Header) (n : ℕ) → Refused n ≡ Shown h → ⊥
 apart h n e = let z : _≡_ {A = ℕ} 0 1 = cc in omega arith
 
 -- the answer by its two tests
@@ -52,7 +52,7 @@ module _ (ws : List ℕ) where
       go : (l : Bool) → leb settingsLength (length ws) ≡ l → (t : Bool) → showsOpening ws ≡ t → answer ws l t ≡ Shown h → Shows ws h
       go true l true t e =
           let same : headerOf (settingsOf ws) ≡ h = cc in
-          let b : Bounds (settingsOf ws) = bounds (settingsOf ws) (and-right (eqb (getD ws 0 0) mark) (inLimits (settingsOf ws)) (unfold showsOpening in t)) in
+          let b : Bounds (settingsOf ws) = bounds (settingsOf ws) (and-second (eqb (getD ws 0 0) mark) (inLimits (settingsOf ws)) (unfold showsOpening in t)) in
           record { long = leb-true settingsLength (length ws) l; shows = t; header = same; limits = rw same at (b .header); bounds = b }
       go true l false t e = absurd (apart h 6 e)
       go false l t u e = absurd (apart h 5 e)

@@ -5,7 +5,7 @@ use mathlib.Core.List.{List, [], _∷_}
 use lib.Dec.{leb}
 use lib.ListN.{length}
 use Rattle.meaning.specs.Refusal.{Question, ask}
-use Rattle.meaning.specs.Ledger.{Settings}
+use Rattle.meaning.specs.Ledger.{Settings, settingsGiven}
 use Rattle.layout.specs.Settings.{settingsLength, settingsOf, showsOpening}
 use Rattle.layout.specs.declared.Header.{Header}
 use Rattle.layout.specs.declared.Opening.{Opening}
@@ -17,7 +17,7 @@ headerOf s = record { b = s .bits; m = s .symbols; q = s .blocks; pages = s .pag
 
 -- the settings of a header with thresholds
 abbrev pub withThresholds : Header → List ℕ → Settings
-withThresholds h ts = record { bits = h .b; symbols = h .m; blocks = h .q; pages = h .pages; nodes = h .nodes; thresholds = ts }
+withThresholds h ts = settingsGiven (h .b) (h .m) (h .q) (h .pages) (h .nodes) ts
 
 -- the settings of a header without: no length hangs on the thresholds
 abbrev pub bare : Header → Settings

@@ -1,8 +1,8 @@
 -- The one theorem of document 01's marked sums: the closed ones by computation.
-use Prim.Native.Nat.{ℕ, _+_, _≤_, _^_}
-use mathlib.Core.Path.{_≡_, refl, ap, ap₂}
-use mathlib.Core.Bool.{Bool, true, false, cond, _&&_, not}
-use mathlib.Core.List.{List, [], _∷_, _++_}
+use Prim.Native.Nat.{ℕ, _+_, _≤_}
+use mathlib.Core.Path.{_≡_, refl}
+use mathlib.Core.Bool.{Bool, true, false, cond, _&&_, and-true}
+use mathlib.Core.List.{List, [], _∷_}
 use native.Mathlib.Omega.{arith}
 use lib.Dec.{ltb, leb, eqb}
 use lib.ListN.{length}
@@ -12,11 +12,11 @@ use Rattle.meaning.specs.Refusal.{firstNo}
 use Rattle.meaning.specs.Sketch.{distance, inRange, perByte, packedLength, packByte, packBytes, pack, group, symbolsAt, packable, allPackable, unpack, byteDistance, blockLength, blockStart, block}
 use Rattle.meaning.specs.SketchCalls.{sketchLimits, packNumber, unpackNumber}
 use Rattle.meaning.specs.Rights.{openTo, stands, samePair, write, changed}
-use Rattle.meaning.specs.Trie.{Tree, fresh, push, putLeaf, byteAt, split, addLeaf, insert, nodes, met}
-use Rattle.meaning.specs.Ledger.{Row, Ledger, calledFor, listed, ledger, step, accept, withRows, withRegister, putRow}
+use Rattle.meaning.specs.Trie.{fresh, push, putLeaf, byteAt, split, addLeaf, insert, nodes, met}
+use Rattle.meaning.specs.Ledger.{Row, calledFor, listed, ledger, step, accept, withRows, withRegister, putRow}
 use Rattle.meaning.specs.Forest.{blockBytes, bytesOfSketch, bytesIn, eachFrom, forestAfter, forest, totalNodes, metFrom}
-use Rattle.meaning.specs.Questions.{asked, byLedger}
-use Rattle.meaning.specs.Sums.{MarkedSums, adds, nodesOfAdds, twoPages, query}
+use Rattle.meaning.specs.Questions.{asked}
+use Rattle.meaning.specs.Sums.{MarkedSums, adds, nodesOfAdds, twoPages}
 
 -- two sketches differ in no more places than either has
 pub distance-le : (x y : List ℕ) → distance x y ≤ length y
@@ -34,10 +34,6 @@ unfolding keep
 keep-open opens x [] = refl
 keep-open opens x (r ∷ rows) =
     rw (le-leb (distance (r .sketch) x) (length x) (distance-le (r .sketch) x), and-true (opens r), keep-open opens x rows)
-  where
-    and-true : (t : Bool) → t && true ≡ t
-    and-true true = refl
-    and-true false = refl
 
 too-far : (t : Bool) (n : ℕ) → cond (t && false) n 7 ≡ 7
 too-far true n = refl

@@ -8,7 +8,7 @@ use Rattle.meaning.specs.Lists.{sum}
 use Rattle.meaning.specs.Sketch.{pack, packedLength, block, blockLength}
 use Rattle.meaning.specs.Trie.{Tree, fresh, insert, remove, met}
 use Rattle.meaning.specs.Trie.{nodes as nodesOf}
-use Rattle.meaning.specs.Ledger.{Settings, Row, Ledger, Event, Call, opening, add, drop, change, reading, putRow, ledger}
+use Rattle.meaning.specs.Ledger.{Settings, Row, row, Event, Call, opening, add, drop, change, reading, putRow, ledger}
 
 -- the packed length of block j
 unfoldable pub blockBytes : Settings → ℕ → ℕ
@@ -32,7 +32,7 @@ eachFrom f j (t ∷ ts) = f j t ∷ eachFrom f (suc j) ts
 unfoldable pub forestAfter : Settings → List Row → Call → List Tree → List Tree
 forestAfter s rows (opening s′) F = replicate (s′ .blocks) fresh
 forestAfter s rows (add p c x) F =
-    let after : List Row = putRow (record { page = p; class = c; sketch = x }) rows in
+    let after : List Row = putRow (row p c x) rows in
     eachFrom (λ j. insert (bytesIn s after j) (blockBytes s j) (s .thresholds) 0 p) 0 F
 forestAfter s rows (drop p) F = eachFrom (λ j. remove (bytesIn s rows j) 0 p) 0 F
 forestAfter s rows (change c) F = F

@@ -1,6 +1,6 @@
 -- The journal of document 01: its commands, the questions 1 to 3 of a command's form, and the lines that the program writes.
 use Prim.Native.Nat.{ℕ, zero, suc, _+_, _*_, _/_, _%_}
-use mathlib.Core.Bool.{Bool, cond, _&&_, not}
+use mathlib.Core.Bool.{Bool, cond, not}
 use mathlib.Core.List.{List, [], _∷_, _++_}
 use lib.Dec.{ltb, leb, eqb}
 use lib.ListN.{length, getD, take, replicate}
@@ -8,7 +8,7 @@ use lib.ListN.{drop as skip}
 use Rattle.meaning.specs.Lists.{any}
 use Rattle.meaning.specs.Refusal.{ask, firstNo}
 use Rattle.meaning.specs.Rights.{Change, join, leave, grant, revoke}
-use Rattle.meaning.specs.Ledger.{Settings, search, Call, opening, add, drop, change, reading}
+use Rattle.meaning.specs.Ledger.{settingsGiven, search, Call, opening, add, drop, change, reading}
 
 -- ---- commands
 
@@ -27,8 +27,7 @@ pub data Command : Type 0 where
 
 -- the call that a command makes, on tables for so many pages and nodes and with this output: a threshold is used at all levels
 unfoldable pub callOf : (pages nodes : ℕ) → List ℕ → Command → Call
-callOf pages nodes output (opens b m q t) =
-    opening (record { bits = b; symbols = m; blocks = q; pages = pages; nodes = nodes; thresholds = replicate 64 t })
+callOf pages nodes output (opens b m q t) = opening (settingsGiven b m q pages nodes (replicate 64 t))
 callOf pages nodes output (adds p c x) = add p c x
 callOf pages nodes output (drops p) = drop p
 callOf pages nodes output (changes c) = change c

@@ -16,11 +16,20 @@ pub record Settings : Type 0 where
   pub nodes : ℕ
   pub thresholds : List ℕ
 
+-- in that order
+abbrev pub settingsGiven : ℕ → ℕ → ℕ → ℕ → ℕ → List ℕ → Settings
+settingsGiven b m q pages nodes thresholds =
+    record { bits = b; symbols = m; blocks = q; pages = pages; nodes = nodes; thresholds = thresholds }
+
 -- a live page
 pub record Row : Type 0 where
   pub page : ℕ
   pub class : ℕ
   pub sketch : List ℕ
+
+-- page, class, sketch
+abbrev pub row : ℕ → ℕ → List ℕ → Row
+row p c x = record { page = p; class = c; sketch = x }
 
 pub record Ledger : Type 0 where
   pub settings : Settings
@@ -74,7 +83,7 @@ putRow r (x ∷ xs) = cond (ltb (x .page) (r .page)) (x ∷ putRow r xs) (r ∷ 
 -- an accepted call's step
 unfoldable pub accept : Call → Ledger → Ledger
 accept (opening s) L = record { settings = s; rows = []; register = noRights }
-accept (add p c x) L = withRows L (putRow (record { page = p; class = c; sketch = x }) (L .rows))
+accept (add p c x) L = withRows L (putRow (row p c x) (L .rows))
 accept (drop p) L = withRows L (keep (λ r. not (eqb (r .page) p)) (L .rows))
 accept (change c) L = withRegister L (changed c (L .register))
 accept (reading q) L = L
@@ -86,7 +95,7 @@ step e L = cond (e .refused) L (accept (e .call) L)
 -- before any opening
 unfoldable pub unopened : Ledger
 unopened = record {
-  settings = record { bits = 0; symbols = 0; blocks = 0; pages = 0; nodes = 0; thresholds = [] };
+  settings = settingsGiven 0 0 0 0 0 [];
   rows = [];
   register = noRights;
 }

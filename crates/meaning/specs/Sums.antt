@@ -10,13 +10,13 @@ use Rattle.meaning.specs.Sketch.{distance, pack, blockLength}
 use Rattle.meaning.specs.SketchCalls.{packNumber, unpackNumber}
 use Rattle.meaning.specs.Rights.{openTo, join, grant}
 use Rattle.meaning.specs.Trie.{Tree}
-use Rattle.meaning.specs.Ledger.{Settings, Ledger, Event, search, Call, opening, add, change, reading, ledger, calledFor, listed}
+use Rattle.meaning.specs.Ledger.{Settings, settingsGiven, Ledger, Event, search, Call, opening, add, change, reading, ledger, calledFor, listed}
 use Rattle.meaning.specs.Forest.{forest, totalNodes, metFrom}
 use Rattle.meaning.specs.Questions.{asked, byLedger}
 
 -- b 2 and m 4, with q blocks and one threshold at all levels
 abbrev pub settings : ℕ → ℕ → Settings
-settings q threshold = record { bits = 2; symbols = 4; blocks = q; pages = 8; nodes = 16; thresholds = replicate 64 threshold }
+settings q threshold = settingsGiven 2 4 q 8 16 (replicate 64 threshold)
 
 -- an accepted call
 abbrev pub accepted : Call → Event

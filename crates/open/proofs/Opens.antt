@@ -9,21 +9,21 @@ use lib.ListN.{length, getD, set, drop, replicate, length-replicate, length-appe
 use lib.Seq.{sets, length-sets}
 use Rattle.meaning.specs.Lists.{onto, upto}
 use Rattle.meaning.specs.Refusal.{firstNo}
-use Rattle.meaning.specs.Ledger.{Settings, opening}
+use Rattle.meaning.specs.Ledger.{Settings, opening, settingsGiven}
 use Rattle.meaning.specs.Questions.{asked}
+use Rattle.meaning.proofs.Lists.{and-first, and-second, length-map-upto}
 use Rattle.layout.specs.declared.Header.{Header}
 use Rattle.layout.specs.Settings.{settingsLength, header, withHeader}
 use Rattle.layout.specs.Header.{headerOf, bare}
 use Rattle.layout.specs.Limits.{limitsOf}
 use Rattle.layout.specs.Lengths.{nodesLength, pagesLength, sketchesLength, workingLength}
 use Rattle.layout.specs.Working.{mapWords, summaryWords}
-use Rattle.layout.proofs.Tests.{and-left, and-right}
 use Rattle.layout.proofs.Limits.{limitsOn, limits-lent}
 use Rattle.words.specs.Bits.{zeroed}
 use Rattle.promises.specs.Tables.{Tables}
 use Rattle.promises.specs.Answers.{number, entered, longSettings, longFor, longNodes, longPages, longWorking, freeLink, freshSettings, freshChain, freshState, freshNodes, freshPages, opened}
-use Rattle.promises.specs.Calls.{settingsGiven, OpenPromise}
-use Rattle.open.proofs.Runs.{length-map-upto, sets-append, onto-sets, onto-append, zeroed-sets}
+use Rattle.promises.specs.Calls.{OpenPromise}
+use Rattle.open.proofs.Runs.{sets-append, onto-sets, onto-append, zeroed-sets}
 
 -- ---- the settings table: a list of a elements, n zeros and a word behind them
 written : (xs ws : List ℕ) (a n v : ℕ) → length xs ≡ a → a + n < length ws
@@ -96,14 +96,14 @@ pub all-long : (h : Header) (T : Tables) → allLong h T ≡ true
     → (settingsLength ≤ length (T .settings)) × (nodesLength (bare h) ≤ length (T .nodes)) × (pagesLength (bare h) ≤ length (T .pages))
 unfolding longSettings longFor longNodes longPages
 all-long h T long = (
-  leb-true settingsLength (length (T .settings)) (search and-left),
-  leb-true (nodesLength (bare h)) (length (T .nodes)) (search (and-left, and-right)),
-  leb-true (pagesLength (bare h)) (length (T .pages)) (search (and-left, and-right)),
+  leb-true settingsLength (length (T .settings)) (search and-first),
+  leb-true (nodesLength (bare h)) (length (T .nodes)) (search (and-first, and-second)),
+  leb-true (pagesLength (bare h)) (length (T .pages)) (search (and-first, and-second)),
 )
 
 pub count-given : (h : Header) (count : ℕ) → limitsOn h count ≡ true → count ≡ 64
 unfolding limitsOf
-count-given h count e = eqb-true count 64 (search and-right)
+count-given h count e = eqb-true count 64 (search and-second)
 
 -- ---- the ways out
 refused : (s : Settings) (T : Tables) (n : ℕ) → number T [] (opening s) ≡ n → (n ≡ 0 → ⊥) → OpenPromise s T n (T .settings) (T .nodes) (T .pages)

@@ -1,23 +1,14 @@
 -- Lists stored over a table, one after another: as one list, as the rest of a loop that stores them, and as `onto` and `zeroed`.
-use Prim.Native.Nat.{ℕ, zero, suc, _+_, _-_, _≤_, _<_}
+use Prim.Native.Nat.{ℕ, suc, _+_, _-_, _≤_, _<_}
 use native.Mathlib.Omega.{arith}
 use native.Mathlib.Nat.{add-zero, zero-add, add-suc, suc-add}
 use native.Mathlib.Numerals.{add-one}
-use mathlib.Core.Path.{_≡_, refl, ap, _∙_}
+use mathlib.Core.Path.{_≡_, _∙_}
 use mathlib.Core.List.{List, [], _∷_, _++_, map, append-assoc}
-use lib.ListN.{length, set, replicate, length-replicate, length-append, length-map}
+use lib.ListN.{length, set, replicate, length-replicate, length-append}
 use lib.Seq.{sets, sets-eq}
 use Rattle.meaning.specs.Lists.{onto, from, upto}
 use Rattle.words.specs.Bits.{zeroed}
-
-length-from : (k n : ℕ) → length (from k n) ≡ n
-unfolding from
-length-from k zero = refl
-length-from k (suc n) = ap suc (length-from (suc k) n)
-
-pub length-map-upto : {A : Type 0} (f : ℕ → A) (n : ℕ) → length (map f (upto n)) ≡ n
-unfolding upto
-length-map-upto f n = length-map (from 0 n) f ∙ length-from 0 n
 
 module _ {A : Type 0} where
   pub sets-append : (xs ys l : List A) (i : ℕ) → sets l i (xs ++ ys) ≡ sets (sets l i xs) (i + length xs) ys

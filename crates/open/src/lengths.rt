@@ -1,7 +1,7 @@
 // How long the tables of an index must be, for those who lend them.
 ghost use mathlib.Core.Path.{_≡_};
 ghost use mathlib.Core.List.{[]};
-ghost use Rattle.promises.specs.Calls.{settingsGiven};
+ghost use Rattle.meaning.specs.Ledger.{settingsGiven};
 ghost use Rattle.open.specs.Lengths.{noLengths, lengthsOf};
 use layout::Header;
 

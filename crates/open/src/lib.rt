@@ -4,14 +4,14 @@ ghost use mathlib.Core.Bool.{_&&_};
 ghost use Prim.Native.Nat.{_≤_};
 ghost use lib.ListN.{length};
 ghost use Rattle.meaning.specs.Lists.{onto};
-ghost use Rattle.meaning.specs.Ledger.{opening};
+ghost use Rattle.meaning.specs.Ledger.{opening, settingsGiven};
 ghost use Rattle.layout.specs.Settings.{settingsLength};
 ghost use Rattle.layout.specs.Header.{bare, withThresholds};
 ghost use Rattle.layout.specs.Limits.{HeaderLimits};
 ghost use Rattle.layout.specs.Lengths.{nodesLength, pagesLength};
 ghost use Rattle.promises.specs.Tables.{tables};
 ghost use Rattle.promises.specs.Answers.{longSettings, longFor, freshSettings, freshNodes, freshPages};
-ghost use Rattle.promises.specs.Calls.{OpenPromise, settingsGiven};
+ghost use Rattle.promises.specs.Calls.{OpenPromise};
 
 mod fresh;
 pub mod lengths;

@@ -26,7 +26,7 @@ module _ (T : Tables) (a : Answer) (T′ : Tables) where
   unfolding writesSketches
   sketches-kept (opening s) e p = ap (λ (U : Tables). U .sketches) (p .1)
   sketches-kept (add q c x) e p = absurd (true≢false e)
-  sketches-kept (drop q) e p = p .2
+  sketches-kept (drop q) e p = p .0 .sketches
   sketches-kept (change c) e p = ap (λ (U : Tables). U .sketches) (p .1)
   sketches-kept (reading q) e p = ap (λ (U : Tables). U .sketches) (p .1)
 

@@ -18,9 +18,8 @@ use Rattle.meaning.specs.Questions.{asked}
 use Rattle.layout.specs.Settings.{showsOpening}
 use Rattle.promises.specs.Tables.{Tables, takesOf, given, pageClass, isShown, scan, byTables}
 use Rattle.promises.specs.Answers.{longFor, longSettings, longPages, shown56, entered, number}
-use Rattle.promises.specs.Readings.{rowShown}
+use Rattle.promises.specs.Readings.{rowShown, Lists, SearchPromise, CheckPromise, earlyNumber, workingLeft, listedOf}
 use Rattle.promises.specs.Sound.{Sound}
-use Rattle.promises.specs.Readings.{Lists, SearchPromise, CheckPromise, earlyNumber, workingLeft, listedOf}
 use Rattle.promises.specs.Relation.{Answer, withList, withVerdict, toShow, Reads}
 use Rattle.promises.proofs.Numbers.{number-in, number-behind}
 
@@ -46,20 +45,34 @@ pub record Law (q : Reading) (T : Tables) : Type 0 where
   pub possible : (F : List Tree) → Sound T F → Possible q T
 
 -- ---- a search
+
+-- 13 is asked last
+asked-last : (t5 t6 t7 t10 t11 : Bool) (n : ℕ) →
+    cond t5 (cond t6 (cond t7 (cond t10 (cond t11 n 11) 10) 7) 6) 5 ≡
+    cond (eqb (cond t5 (cond t6 (cond t7 (cond t10 (cond t11 0 11) 10) 7) 6) 5) 0) n (cond t5 (cond t6 (cond t7 (cond t10 (cond t11 0 11) 10) 7) 6) 5)
+asked-last true true true true true n = refl
+asked-last true true true true false n = refl
+asked-last true true true false t n = refl
+asked-last true true false s t n = refl
+asked-last true false u s t n = refl
+asked-last false v u s t n = refl
+
+-- not 4, 5 or 6
+later : ℕ → Bool
+later n = not (leb 4 n && leb n 6)
+
+not-later : (n : ℕ) → 4 ≤ n → n ≤ 6 → later n ≢ true
+unfolding later
+not-later n l m e = false≢true (sym (rw (le-leb 4 n l, le-leb n 6 m)) ∙ e)
+
+-- the count is given with 0 and with 13
+either : (t : Bool) (k : ℕ) → cond (eqb (cond t 0 13) 0 || eqb (cond t 0 13) 13) k 0 ≡ k
+either true k = refl
+either false k = refl
+
 module _ (T : Tables) (r d : ℕ) (x o : List ℕ) where
   abbrev early : ℕ
   early = earlyNumber T r d x
-
-  -- 13 is asked last
-  asked-last : (t5 t6 t7 t10 t11 : Bool) (n : ℕ) →
-      cond t5 (cond t6 (cond t7 (cond t10 (cond t11 n 11) 10) 7) 6) 5 ≡
-      cond (eqb (cond t5 (cond t6 (cond t7 (cond t10 (cond t11 0 11) 10) 7) 6) 5) 0) n (cond t5 (cond t6 (cond t7 (cond t10 (cond t11 0 11) 10) 7) 6) 5)
-  asked-last true true true true true n = refl
-  asked-last true true true true false n = refl
-  asked-last true true true false t n = refl
-  asked-last true true false s t n = refl
-  asked-last true false u s t n = refl
-  asked-last false v u s t n = refl
 
   number-search : (F : List Tree) → number T F (reading (search r d x o)) ≡ cond (eqb early 0) (cond (leb (length (scan T r d x)) (length o)) 0 13) early
   unfolding number entered shown56 longFor asked byTables firstNo
@@ -67,14 +80,6 @@ module _ (T : Tables) (r d : ℕ) (x o : List ℕ) where
       rw (le-leb (length (scan T r d x)) (length (scan T r d x)) (omega arith))
       (asked-last (longSettings T) (showsOpening (T .settings) && longFor (given T) T (reading (search r d x o))) (ltb r 256 && leb d 64)
       (eqb (length x) (given T .symbols)) (inRange (given T .bits) x) (cond (leb (length (scan T r d x)) (length o)) 0 13))
-
-  -- not 4, 5 or 6
-  later : ℕ → Bool
-  later n = not (leb 4 n && leb n 6)
-
-  not-later : (n : ℕ) → 4 ≤ n → n ≤ 6 → later n ≢ true
-  unfolding later
-  not-later n l m e = false≢true (sym (rw (le-leb 4 n l, le-leb n 6 m)) ∙ e)
 
   early-later : firstNo (entered T (reading (search r d x o))) ≡ 0 → later early ≡ true
   unfolding number entered shown56 longFor asked later all
@@ -117,10 +122,6 @@ module _ (T : Tables) (r d : ℕ) (x o : List ℕ) where
   -- the plain scan keeps its promise
   scanned : ℕ
   scanned = cond (eqb early 0) (cond (leb (length (scan T r d x)) (length o)) 0 13) early
-
-  either : (t : Bool) (k : ℕ) → cond (eqb (cond t 0 13) 0 || eqb (cond t 0 13) 13) k 0 ≡ k
-  either true k = refl
-  either false k = refl
 
   lists : early ≡ 0 → Lists (scan T r d x) o scanned (lengthGiven scanned (length (scan T r d x))) (outputLeft scanned (scan T r d x) o)
   unfolding scanned lengthGiven

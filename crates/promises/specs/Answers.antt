@@ -1,16 +1,16 @@
 -- A call's refusal number, by the questions of document 01 in their order, and the tables that it leaves.
-use Prim.Native.Nat.{ℕ, suc, _+_, _*_, _-_}
-use mathlib.Core.Bool.{Bool, true, false, cond, _&&_, _||_, not}
+use Prim.Native.Nat.{ℕ, suc, _+_, _*_}
+use mathlib.Core.Bool.{Bool, true, cond, _&&_}
 use mathlib.Core.List.{List, [], _∷_, _++_, map}
-use lib.Dec.{ltb, leb, eqb}
+use lib.Dec.{ltb, leb}
 use lib.ListN.{length, replicate}
-use Rattle.meaning.specs.Lists.{onto, from, upto}
+use Rattle.meaning.specs.Lists.{onto, upto}
 use Rattle.meaning.specs.Refusal.{Question, ask, firstNo}
 use Rattle.meaning.specs.Trie.{Tree}
 use Rattle.meaning.specs.Ledger.{Settings, Call, ifOpening}
 use Rattle.meaning.specs.Questions.{inLimits, asked}
-use Rattle.layout.specs.Settings.{settingsLength, registerLength, header, settingsOf, showsOpening}
-use Rattle.layout.specs.Nodes.{chainWord, freeState, leafState}
+use Rattle.layout.specs.Settings.{settingsLength, registerLength, header, showsOpening}
+use Rattle.layout.specs.Nodes.{freeState, leafState}
 use Rattle.layout.specs.Lengths.{nodesLength, pagesLength, sketchesLength, workingLength}
 use Rattle.promises.specs.Tables.{Tables, takes, given, byTables}
 

@@ -1,19 +1,14 @@
 -- What each call promises: an equation for its answer and for every table lent to it, refused or not.
-use Prim.Native.Nat.{ℕ, _*_}
+use Prim.Native.Nat.{ℕ}
 use mathlib.Core.Path.{_≡_}
 use mathlib.Core.Bool.{cond}
 use mathlib.Core.List.{List, []}
 use lib.Dec.{eqb}
 use Rattle.meaning.specs.Rights.{Change}
-use Rattle.meaning.specs.Ledger.{Settings, show, opening, change, reading}
+use Rattle.meaning.specs.Ledger.{Settings, opening, change}
 use Rattle.rights.specs.Register.{registered}
-use Rattle.promises.specs.Tables.{Tables, settingsAlone, given, pageRow}
+use Rattle.promises.specs.Tables.{Tables, settingsAlone}
 use Rattle.promises.specs.Answers.{number, opened}
-
--- the settings and capacities of an opening, by its arguments
-abbrev pub settingsGiven : ℕ → ℕ → ℕ → ℕ → ℕ → List ℕ → Settings
-settingsGiven b m q pages nodes thresholds =
-    record { bits = b; symbols = m; blocks = q; pages = pages; nodes = nodes; thresholds = thresholds }
 
 -- an opening with settings s, lent the tables T; it leaves the sketch table and the working table as they were
 pub record OpenPromise (s : Settings) (T : Tables) (n : ℕ) (settings nodes pages : List ℕ) : Type 0 where

@@ -9,9 +9,8 @@ use Rattle.meaning.specs.Ledger.{Reading, search, show, check, Call, opening, a
 use Rattle.promises.specs.Tables.{Tables, tables, withSettings}
 use Rattle.promises.specs.Answers.{number}
 use Rattle.promises.specs.Calls.{OpenPromise, RightsPromise}
-use Rattle.promises.specs.Readings.{rowShown}
+use Rattle.promises.specs.Readings.{rowShown, SearchPromise, CheckPromise}
 use Rattle.promises.specs.Store.{AddPromise, DropPromise}
-use Rattle.promises.specs.Readings.{SearchPromise, CheckPromise}
 
 -- what a call gives; a part that it does not give is not looked at
 pub record Answer : Type 0 where
@@ -60,8 +59,7 @@ abbrev pub Promised : Call → Tables → Answer → Tables → Type 0
 Promised (opening s) T a T′ =
     OpenPromise s T (a .number) (T′ .settings) (T′ .nodes) (T′ .pages) × (T′ ≡ withOpening T (T′ .settings) (T′ .nodes) (T′ .pages))
 Promised (add p c x) T a T′ = AddPromise (toStore T) p c x (a .number) (toStore T′) × (T′ .working ≡ T .working)
-Promised (drop p) T a T′ =
-    DropPromise (toStore T) p (a .number) (toStore T′) × (T′ .working ≡ T .working) × (T′ .sketches ≡ T .sketches)
+Promised (drop p) T a T′ = DropPromise (toStore T) p (a .number) (toStore T′) × (T′ .working ≡ T .working)
 Promised (change c) T a T′ = RightsPromise c (T .settings) (a .number) (T′ .settings) × (T′ ≡ withSettings T (T′ .settings))
 Promised (reading q) T a T′ = Reads q T a (T′ .working) × (T′ ≡ withWorking T (T′ .working))
 

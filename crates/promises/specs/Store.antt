@@ -5,26 +5,20 @@
 -- takes and the order of the free chain; the chain words of roots; the links of pages that are not live. On unsound tables: the answer
 -- among 0, 12 and 14; the free link, the nodes and the links of pages. A second statement of both calls settles all this, on any
 -- tables, by an equation: their `Outcome` is `addPage` (add_laws/specs/Add.antt), `dropPage` (drop_laws/specs/After.antt).
-use Prim.Native.Nat.{ℕ, _+_, _*_, _≤_, _<_}
+use Prim.Native.Nat.{ℕ, _+_}
 use mathlib.Core.Path.{_≡_}
-use mathlib.Core.Bool.{Bool, true, false, cond, _&&_}
 use mathlib.Core.Logic.{_≢_, _⊎_}
 use mathlib.Core.List.{List, []}
-use lib.Dec.{leb, eqb}
-use lib.ListN.{length, replicate, take}
+use lib.ListN.{length, take}
 use lib.ListN.{drop as skip}
-use Rattle.meaning.specs.Lists.{keep, onto, upto}
-use Rattle.meaning.specs.Sketch.{distance}
-use Rattle.meaning.specs.SketchCalls.{lengthGiven, outputLeft}
-use Rattle.meaning.specs.Refusal.{firstNo}
 use Rattle.meaning.specs.Trie.{Tree}
-use Rattle.meaning.specs.Ledger.{Reading, search, check, add, drop, reading}
+use Rattle.meaning.specs.Ledger.{add, drop}
 use Rattle.meaning.specs.Forest.{forestAfter}
 use Rattle.layout.specs.Settings.{freeAt}
 use Rattle.layout.specs.Pages.{withRow, withPage, withoutPage, linksAt}
-use Rattle.layout.specs.Lengths.{nodesLength, pagesLength, workingLength}
-use Rattle.promises.specs.Tables.{Tables, given, pageRow, isShown, scan, rowsOf}
-use Rattle.promises.specs.Answers.{entered, number}
+use Rattle.layout.specs.Lengths.{nodesLength, pagesLength}
+use Rattle.promises.specs.Tables.{Tables, given, rowsOf}
+use Rattle.promises.specs.Answers.{number}
 use Rattle.promises.specs.Sound.{Sound}
 
 -- the tables are as long as they were, and the rest of a longer one is as it was
@@ -35,8 +29,8 @@ pub record SameRest (T T′ : Tables) : Type 0 where
   -- its rows, and what is behind them, are settled by each call's own fields
   pub sketches : length (T′ .sketches) ≡ length (T .sketches)
   pub working : T′ .working ≡ T .working
-  -- of the settings table only the free link may change
-  pub header : take freeAt (T′ .settings) ≡ take freeAt (T .settings)
+  -- of the settings table only the free link may change: the header and the rights stand in front of it
+  pub settings-front : take freeAt (T′ .settings) ≡ take freeAt (T .settings)
   pub settings-rest : skip (freeAt + 1) (T′ .settings) ≡ skip (freeAt + 1) (T .settings)
   pub nodes-rest : skip (nodesLength (given T)) (T′ .nodes) ≡ skip (nodesLength (given T)) (T .nodes)
   pub pages-rest : skip (pagesLength (given T)) (T′ .pages) ≡ skip (pagesLength (given T)) (T .pages)

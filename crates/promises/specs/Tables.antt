@@ -1,13 +1,13 @@
 -- The tables lent to a call, and what the questions read off them. A table that a call does not take stands as [].
 use Prim.Native.Nat.{ℕ, suc, zero}
-use mathlib.Core.Bool.{Bool, true, false, cond, _&&_, _||_, not}
+use mathlib.Core.Bool.{Bool, true, false, cond, _&&_}
 use mathlib.Core.List.{List, [], _∷_}
 use lib.Dec.{leb}
 use lib.ListN.{length}
 use Rattle.meaning.specs.Lists.{keep, upto}
 use Rattle.meaning.specs.Sketch.{distance}
 use Rattle.meaning.specs.Trie.{Tree}
-use Rattle.meaning.specs.Ledger.{Settings, Row, Reading, search, show, check, Call, opening, add, drop, change, reading}
+use Rattle.meaning.specs.Ledger.{Settings, Row, row, Reading, search, show, check, Call, opening, add, drop, change, reading}
 use Rattle.meaning.specs.Forest.{forestAfter, totalNodes}
 use Rattle.meaning.specs.Questions.{View}
 use Rattle.layout.specs.Settings.{settingsOf}
@@ -92,12 +92,11 @@ scan T reader radius x = keep (λ p. isShown T reader p && leb (distance (pageRo
 
 -- the rows of the live pages among n from page k on
 unfoldable pub rowsFrom : (ℕ → Bool) → (ℕ → Row) → ℕ → ℕ → List Row
-rowsFrom live row k zero = []
-rowsFrom live row k (suc n) = cond (live k) (row k ∷ rowsFrom live row (suc k) n) (rowsFrom live row (suc k) n)
+rowsFrom live at k zero = []
+rowsFrom live at k (suc n) = cond (live k) (at k ∷ rowsFrom live at (suc k) n) (rowsFrom live at (suc k) n)
 
 unfoldable pub rowsOf : Tables → List Row
-rowsOf T =
-    rowsFrom (isLive (T .pages)) (λ p. record { page = p; class = pageClass T p; sketch = pageRow T p }) 0 (given T .pages)
+rowsOf T = rowsFrom (isLive (T .pages)) (λ p. row p (pageClass T p) (pageRow T p)) 0 (given T .pages)
 
 -- what 8 to 13 are judged by, from the tables and the tries that they hold
 unfoldable pub byTables : Tables → List Tree → View

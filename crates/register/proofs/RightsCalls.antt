@@ -11,12 +11,12 @@ use Rattle.meaning.specs.Refusal.{ask, firstNo}
 use Rattle.meaning.specs.Rights.{Change, join, leave, grant, revoke}
 use Rattle.meaning.specs.Ledger.{change}
 use Rattle.meaning.specs.Questions.{asked}
+use Rattle.meaning.proofs.Lists.{and-first, and-second}
 use Rattle.layout.specs.declared.Header.{Header}
 use Rattle.layout.specs.declared.Opening.the-variants.{Shown, Refused}
 use Rattle.layout.specs.Settings.{settingsLength}
 use Rattle.layout.specs.Header.{openingOf, tablesFirst}
 use Rattle.layout.proofs.Openings.{shown-number, refused-number}
-use Rattle.layout.proofs.Tests.{and-left, and-right}
 use Rattle.rights.specs.Register.{withMember, withGrant, registered}
 use Rattle.promises.specs.Tables.{settingsAlone}
 use Rattle.promises.specs.Answers.{number, entered, shown56, longSettings, longFor}
@@ -69,8 +69,8 @@ module _ {c : Change} {ws : List ℕ} {a A b B : ℕ} {left : List ℕ} (C : Reg
   passed z =
       let yes = all-yes (tablesFirst ws true (ask 7 (ltb a A && ltb b B) ∷ [])) (omega arith) (sym answer ∙ z) in (
         leb-true settingsLength (length ws) (yes .0),
-        ltb-true a A (and-left (ltb a A) (ltb b B) (yes .1 .1 .0)),
-        ltb-true b B (and-right (ltb a A) (ltb b B) (yes .1 .1 .0)),
+        ltb-true a A (and-first (ltb a A) (ltb b B) (yes .1 .1 .0)),
+        ltb-true b B (and-second (ltb a A) (ltb b B) (yes .1 .1 .0)),
       )
 
   pub done : n ≡ 0 → (after : List ℕ) → after ≡ left → RightsPromise c ws 0 after

@@ -11,6 +11,7 @@ use lib.ListN.{length, take, drop}
 use Rattle.meaning.specs.Refusal.{firstNo}
 use Rattle.meaning.specs.Ledger.{show, reading}
 use Rattle.meaning.specs.Questions.{asked}
+use Rattle.meaning.proofs.Lists.{and-first, and-second}
 use Rattle.layout.specs.declared.Header.{Header}
 use Rattle.layout.specs.declared.Opening.the-variants.{Shown, Refused}
 use Rattle.layout.specs.Settings.{settingsOf, showsOpening}
@@ -19,7 +20,6 @@ use Rattle.layout.specs.Limits.{HeaderLimits}
 use Rattle.layout.specs.Lengths.{pagesLength, sketchesLength}
 use Rattle.layout.specs.Pages.{isLive, classOf, rowOf}
 use Rattle.layout.proofs.Openings.{shown, shown-number, refused-number, refused-range}
-use Rattle.layout.proofs.Tests.{and-left, and-right}
 use Rattle.layout.proofs.Words.{word-inside}
 use Rattle.layout.proofs.Rows.{row-inside}
 use Rattle.rights.specs.Register.{opens}
@@ -36,7 +36,7 @@ longFor6 h pages sketches = leb (pagesLength (bare h)) (length pages) && leb (sk
 module _ (h : Header) (p : ℕ) (page : p < h .pages) where
   pub class-inside : (pages sketches : List ℕ) → longFor6 h pages sketches ≡ true → h .pages + p < length pages
   class-inside pages sketches long =
-      let pages-long = leb-true (pagesLength (bare h)) (length pages) (and-left _ (leb (sketchesLength (bare h)) (length sketches)) long) in
+      let pages-long = leb-true (pagesLength (bare h)) (length pages) (and-first _ (leb (sketchesLength (bare h)) (length sketches)) long) in
       omega (arith, word-inside (bare h) {k = 1} {p = p} (omega arith) page, pages-long)
 
   pub start-fits : HeaderLimits h → p * h .m < 2 ^ 32
@@ -125,10 +125,10 @@ module _ (ws pages sketches : List ℕ) (r p : ℕ) where
   unfolding longPages sketchesLength asked byTables
   place-shown z =
       let yes = all-yes (tablesFirst ws (longPages (given T) T) (asked (byTables T []) (reading (show r p)))) (omega arith) (sym asked-first ∙ z) in
-      let long = and-right (showsOpening ws) (longPages (given T) T) (yes .1 .0) in
+      let long = and-second (showsOpening ws) (longPages (given T) T) (yes .1 .0) in
       row-inside (given T .symbols) (given T .pages) (length sketches)
       (ltb-true p (given T .pages) (yes .1 .1 .1 .0))
-      (leb-true (sketchesLength (given T)) (length sketches) (and-right (leb (pagesLength (given T)) (length pages)) _ long))
+      (leb-true (sketchesLength (given T)) (length sketches) (and-second (leb (pagesLength (given T)) (length pages)) _ long))
 
   pub place-inside : placeOf T r p .start + placeOf T r p .length ≤ length sketches
   unfolding placeOf startShown lengthShown

@@ -1,6 +1,6 @@
 -- The set of classes open to a reader holds exactly the classes that the register opens to him.
-use mathlib.Core.Path.{_≡_, refl, _∙_}
-use mathlib.Core.Bool.{Bool, true, false, cond, _&&_, _||_}
+use mathlib.Core.Path.{_≡_, refl, sym, _∙_}
+use mathlib.Core.Bool.{Bool, true, false, cond, _&&_, _||_, or-assoc, or-false}
 use mathlib.Core.Logic.{_≢_}
 use mathlib.Core.List.{List, [], _∷_}
 use Prim.Native.Nat.{ℕ, _+_, _*_, _/_, _%_, _^_, _≤_, _<_}
@@ -9,6 +9,7 @@ use lib.Dec.{ltb}
 use lib.ListN.{getD}
 use borrow.Author.Tests.{lt-ltb, ltb-true, ltb-false}
 use Rattle.meaning.specs.Lists.{any, upto}
+use Rattle.meaning.proofs.Lists.{any-upto}
 use Rattle.words.specs.Bits.{bit, withBit, rising, bitsOf, lowest, flag}
 use Rattle.words.proofs.Bits.{bit-zero, bit-or, bits-step, bits-of-zero}
 use Rattle.words.proofs.Flags.{flag-bit}
@@ -16,11 +17,7 @@ use Rattle.layout.specs.Settings.{membersAt, grantsAt}
 use Rattle.rights.specs.declared.Classes.{Classes}
 use Rattle.rights.specs.Register.{isMember, isGranted, opens}
 use Rattle.rights.specs.Open.{isOpen, withGroup, withGroups, openClasses}
-use Rattle.rights.proofs.Any.{any-upto, any-rising}
-
-or-assoc : (a b c : Bool) → (a || b) || c ≡ a || (b || c)
-or-assoc true b c = refl
-or-assoc false b c = refl
+use Rattle.rights.proofs.Any.{any-rising}
 
 -- ---- one group
 
@@ -46,11 +43,7 @@ open-with-group ws k g c h =
 open-with-groups : (ws : List ℕ) (k : Classes) (gs : List ℕ) (c : ℕ) → c < 64
     → isOpen (withGroups ws k gs) c ≡ isOpen k c || any (λ g. isGranted ws g c) gs
 unfolding withGroups any
-open-with-groups ws k [] c h = go (isOpen k c)
-  where
-    go : (t : Bool) → t ≡ t || false
-    go true = refl
-    go false = refl
+open-with-groups ws k [] c h = sym (or-false (isOpen k c))
 open-with-groups ws k (g ∷ gs) c h =
     open-with-groups ws (withGroup ws k g) gs c h
     ∙ rw (open-with-group ws k g c h) (or-assoc (isOpen k c) (isGranted ws g c) (any (λ g. isGranted ws g c) gs))

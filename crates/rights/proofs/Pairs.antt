@@ -10,13 +10,12 @@ use lib.ListN.{length, getD, take}
 use borrow.Author.Tests.{eqb-true, lt-ltb, ltb-true}
 use Rattle.meaning.specs.Lists.{any, keep}
 use Rattle.meaning.specs.Rights.{Pair, pair, samePair, stands, write, strike, Register, noRights, openTo, Change, join, leave, grant, revoke, changeInRange, changed}
+use Rattle.meaning.proofs.Lists.{and-first, and-second, any-upto}
 use Rattle.words.specs.Bits.{flag, withFlag}
 use Rattle.words.proofs.Bits.{bit-zero}
 use Rattle.words.proofs.Flags.{flag-take, flag-with-apart}
 use Rattle.layout.specs.Settings.{settingsLength, membersAt, grantsAt, freeAt}
-use Rattle.layout.proofs.Tests.{and-left, and-right}
 use Rattle.rights.specs.Register.{isMember, isGranted, withMember, withGrant, registered, opens}
-use Rattle.rights.proofs.Any.{any-upto}
 use Rattle.rights.proofs.Register.{flag-put, member-length, member-header, member-free, grant-length, grant-header, grant-free}
 
 -- ---- pairs
@@ -130,8 +129,8 @@ module _ (ws : List ℕ) (R : Register) (h : Holds ws R) where
     with-member : (M : List Pair) (r g : ℕ) (v : Bool) → ((p : Pair) → stands p M ≡ cond (samePair p (pair r g)) v (stands p (R .members)))
         → ltb r 256 && ltb g 32 ≡ true → Changed ws (withMember ws r g v) (record { members = M; grants = R .grants })
     with-member M r g v e i =
-        let hr = ltb-true r 256 (and-left (ltb r 256) (ltb g 32) i) in
-        let hg = ltb-true g 32 (and-right (ltb r 256) (ltb g 32) i) in
+        let hr = ltb-true r 256 (and-first (ltb r 256) (ltb g 32) i) in
+        let hg = ltb-true g 32 (and-second (ltb r 256) (ltb g 32) i) in
         record {
           holds = record {
             members = flags-put ws membersAt 256 32 (R .members) (h .members) M r g v hg (omega arith) e;
@@ -145,8 +144,8 @@ module _ (ws : List ℕ) (R : Register) (h : Holds ws R) where
     with-grant : (G : List Pair) (g c : ℕ) (v : Bool) → ((p : Pair) → stands p G ≡ cond (samePair p (pair g c)) v (stands p (R .grants)))
         → ltb g 32 && ltb c 64 ≡ true → Changed ws (withGrant ws g c v) (record { members = R .members; grants = G })
     with-grant G g c v e i =
-        let hg = ltb-true g 32 (and-left (ltb g 32) (ltb c 64) i) in
-        let hc = ltb-true c 64 (and-right (ltb g 32) (ltb c 64) i) in
+        let hg = ltb-true g 32 (and-first (ltb g 32) (ltb c 64) i) in
+        let hc = ltb-true c 64 (and-second (ltb g 32) (ltb c 64) i) in
         record {
           holds = record {
             members = flags-keep ws membersAt 256 32 (R .members) (h .members) grantsAt (g * 64 + c) v (λ a b ha hb q. omega arith);

@@ -10,8 +10,8 @@ use lib.Dec.{ltb, leb}
 use lib.ListN.{length}
 use Rattle.meaning.specs.Refusal.{firstNo}
 use Rattle.meaning.specs.Sketch.{inRange}
+use Rattle.meaning.proofs.Lists.{and-first}
 use Rattle.layout.specs.declared.Header.{Header}
-use Rattle.layout.proofs.Tests.{and-left}
 use Rattle.entry.proofs.Questions.{all-yes}
 use Rattle.search.specs.Ready.{Fits}
 use Rattle.search.specs.Questions.{queryAsked}
@@ -45,4 +45,4 @@ module _ (h : Header) (reader radius : ℕ) (x : List ℕ) where
   unfolding queryAsked
   query-passed z =
       let yes = all-yes (queryAsked h reader radius x) (omega arith) z in
-      (ltb-true reader 256 (and-left (ltb reader 256) (leb radius 64) (yes .0)), record { count = eqb-true (length x) (h .m) (yes .1 .0); range = yes .1 .1 .0 })
+      (ltb-true reader 256 (and-first (ltb reader 256) (leb radius 64) (yes .0)), record { count = eqb-true (length x) (h .m) (yes .1 .0); range = yes .1 .1 .0 })

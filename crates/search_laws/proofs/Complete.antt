@@ -17,11 +17,11 @@ use Rattle.layout.specs.Limits.{HeaderLimits}
 use Rattle.layout.specs.Lengths.{sketchesLength}
 use Rattle.layout.specs.Pages.{isLive}
 use Rattle.layout.proofs.Rows.{row-inside, length-row}
-use Rattle.layout.proofs.Tests.{and-left, and-right, and-both}
 use Rattle.rights.specs.Register.{opens}
 use Rattle.sketch_laws.proofs.Walk.{met-somewhere}
 use Rattle.meaning.specs.Trie.{pagesIn as pagesUpon}
 use Rattle.children.specs.Phys.{tree}
+use Rattle.meaning.proofs.Lists.{and-first, and-second, and-intro}
 use Rattle.trie_laws.specs.Block.{SoundBlock}
 use Rattle.trie_laws.proofs.Block.{each-get}
 use Rattle.trie_laws.proofs.Pages.{stands-any}
@@ -49,13 +49,13 @@ module _ (T : Tables) (F : List Tree) (sound : Sound T F) (limits : HeaderLimits
   module _ (reader radius : ℕ) (x : List ℕ) (count : length x ≡ given T .symbols) (range : inRange (given T .bits) x ≡ true)
       (p : ℕ) (page : p < given T .pages) (w : wanted T reader radius x p ≡ true) where
     near : distance (pageRow T p) x ≤ radius
-    near = leb-true (distance (pageRow T p) x) radius (and-right (isShown T reader p) (leb (distance (pageRow T p) x) radius) w)
+    near = leb-true (distance (pageRow T p) x) radius (and-second (isShown T reader p) (leb (distance (pageRow T p) x) radius) w)
 
     live : livePage T p ≡ true
     unfolding livePage isShown
     live =
-        and-both (ltb p (given T .pages)) (isLive (T .pages) p) (lt-ltb p (given T .pages) page)
-        (and-left (isLive (T .pages) p) (opens (T .settings) reader (pageClass T p)) (and-left (isShown T reader p) (leb (distance (pageRow T p) x) radius) w))
+        and-intro (ltb p (given T .pages)) (isLive (T .pages) p) (lt-ltb p (given T .pages) page)
+        (and-first (isLive (T .pages) p) (opens (T .settings) reader (pageClass T p)) (and-first (isShown T reader p) (leb (distance (pageRow T p) x) radius) w))
 
     row-long : length (pageRow T p) ≡ given T .symbols
     unfolding pageRow sketchesLength

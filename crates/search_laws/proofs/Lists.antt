@@ -18,8 +18,7 @@ use Rattle.layout.specs.Lengths.{sketchesLength}
 use Rattle.layout.specs.Working.{mapWords}
 use Rattle.layout.specs.Pages.{isLive}
 use Rattle.layout.proofs.Sizes.{pages-mapped}
-use Rattle.layout.proofs.Tests.{and-left}
-use Rattle.meaning.proofs.Lists.{or-second}
+use Rattle.meaning.proofs.Lists.{or-second, and-first}
 use Rattle.promises.specs.Tables.{Tables, given, scan}
 use Rattle.hits.specs.Hit.{isHit}
 use Rattle.hits.specs.Marks.{summaryOf, Room, listOf, keptMap}
@@ -82,7 +81,7 @@ module _ (T : Tables) (reader radius : ℕ) (x : List ℕ) where
           (rw (sound .forest) (sound .blocks)) (omega (arith, sound .holding .all)))
         where
           below : (p : ℕ) → livePage T p ≡ true → p < given T .pages
-          below p e = ltb-true p (given T .pages) (and-left (ltb p (given T .pages)) (isLive (T .pages) p) (unfold livePage in e))
+          below p e = ltb-true p (given T .pages) (and-first (ltb p (given T .pages)) (isLive (T .pages) p) (unfold livePage in e))
 
       met-below : all (λ p. ltb p (given T .pages)) met-all ≡ true
       met-below = rw (← sound .forest) (from-small (given T) radius x (sound .tries) 0 (sound .holding .roots))

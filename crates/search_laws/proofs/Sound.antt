@@ -10,7 +10,7 @@ use lib.ListN.{length, getD}
 use lib.Pow.{pow-mono}
 use Rattle.meaning.specs.Lists.{all, sum}
 use Rattle.meaning.specs.Sketch.{perByte, inRange, symbolsAt, block, blockLength}
-use Rattle.meaning.specs.Trie.{Tree, leaf, inner, met, nodes}
+use Rattle.meaning.specs.Trie.{met, nodes}
 use Rattle.meaning.specs.Ledger.{Settings}
 use Rattle.meaning.specs.Forest.{blockBytes, bytesOfSketch, metFrom, totalNodes}
 use Rattle.layout.specs.Header.{headerOf, bare}
@@ -23,8 +23,8 @@ use Rattle.children.specs.Heap.{Holds}
 use Rattle.children.specs.Phys.{Phys, root, tree, cells}
 use Rattle.children.specs.Phys.{Sound as SoundNodes}
 use Rattle.trie_laws.specs.Block.{SoundBlock, EachFrom}
-use Rattle.meaning.proofs.Lists.{and-intro, all-append}
-use Rattle.trie_laws.proofs.Lists.{count-upto}
+use Rattle.meaning.proofs.Lists.{and-intro, all-append, count-upto}
+use Rattle.trie_laws.proofs.Nodes.{nodes-some}
 use Rattle.trie_laws.proofs.Pages.{stands-length}
 use Rattle.promises.specs.Sound.{triesCells, Rooted}
 use Rattle.walk.specs.Mark.{Marks, marks, markAll, onMarks}
@@ -47,15 +47,10 @@ from-small s radius x (t ∷ ts) j r =
     (from-small s radius x ts (suc j) (r .2))
 
 -- each trie has a node
-some-nodes : (t : Tree) → 1 ≤ nodes t
-unfolding nodes
-some-nodes (leaf ps) = omega arith
-some-nodes (inner cs) = omega arith
-
 tries-some : (ts : List Phys) → length ts ≤ totalNodes (map tree ts)
 unfolding totalNodes sum
 tries-some [] = omega arith
-tries-some (t ∷ ts) = omega (arith, some-nodes (tree t), tries-some ts)
+tries-some (t ∷ ts) = omega (arith, nodes-some (tree t), tries-some ts)
 
 -- walks leave a map, and of a budget all but the nodes that they can read
 pub record Whole (walks : Marks) (after : List ℕ) (budget read : ℕ) : Type 0 where

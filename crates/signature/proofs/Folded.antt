@@ -11,8 +11,7 @@ use lib.ListN.{length, length-map}
 use borrow.Author.Tests.{ltb-true}
 use Rattle.meaning.specs.Lists.{all, from, upto}
 use Rattle.meaning.specs.Sketch.{inRange, packByte, pack, group}
-use Rattle.meaning.proofs.Lists.{and-first, and-second}
-use Rattle.sketch_laws.proofs.Lists.{length-upto, upto-at}
+use Rattle.meaning.proofs.Lists.{and-first, and-second, length-upto, upto-at}
 use Rattle.sketch_laws.proofs.Packing.{range-of, group-byte, pack-byte}
 use Rattle.signature.specs.Signature.{foldedByte, folded}
 

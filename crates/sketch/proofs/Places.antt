@@ -3,17 +3,18 @@ use mathlib.Core.Bool.{Bool, true, false, cond, not, _&&_, and-assoc, and-true}
 use mathlib.Core.List.{List}
 use mathlib.Core.Path.{_≡_, refl, sym, subst, _∙_}
 use Prim.Native.Nat.{ℕ, suc, _+_, _^_, _<_, _≤_}
-use native.Mathlib.Nat.{le-trans, add-zero, zero-add}
+use native.Mathlib.Nat.{add-zero, zero-add}
 use native.Mathlib.Numerals.{add-one}
 use native.Mathlib.Omega.{arith}
-use lib.Bits.{bitOr, or-lt, or-add-and, and-le-l, and-le-r}
+use lib.Bits.{bitOr}
 use lib.Dec.{ltb, eqb}
 use lib.ListN.{length, getD, take, drop, drop-of-length-le}
 use lib.Seq.{drop-cons}
 use mir.Val.{boolByte}
-use borrow.Author.Tests.{lt-ltb, le-ltb, ltb-true, ltb-false}
+use borrow.Author.Tests.{ltb-true, ltb-false}
 use Rattle.meaning.specs.Lists.{all}
 use Rattle.meaning.specs.Sketch.{distance, inRange}
+use Rattle.words.proofs.Bits.{or-below}
 use Rattle.sketch.proofs.Lists.{all-take, all-drop}
 
 -- d of the places before i differ
@@ -69,21 +70,6 @@ range-step b xs i h = rw (add-one, drop-cons xs i 0 h)
 pub range-end : (b : ℕ) (t : Bool) (xs : List ℕ) (i : ℕ) → length xs ≤ i → t && inRange b (drop i xs) ≡ t
 unfolding inRange all
 range-end b t xs i h = rw (drop-of-length-le xs h, and-true)
-
--- together, bit by bit, two numbers are below 2^b just where both are
-or-below : (b x y : ℕ) → ltb (bitOr x y) (2 ^ b) ≡ ltb x (2 ^ b) && ltb y (2 ^ b)
-or-below b x y = go (ltb x (2 ^ b)) (ltb y (2 ^ b)) refl refl
-  where
-    above-l : x ≤ bitOr x y
-    above-l = omega (arith, or-add-and x y, and-le-r x y)
-
-    above-r : y ≤ bitOr x y
-    above-r = omega (arith, or-add-and x y, and-le-l x y)
-
-    go : (s t : Bool) → ltb x (2 ^ b) ≡ s → ltb y (2 ^ b) ≡ t → ltb (bitOr x y) (2 ^ b) ≡ s && t
-    go true true e f = lt-ltb (bitOr x y) (2 ^ b) (or-lt b x y (ltb-true x (2 ^ b) e) (ltb-true y (2 ^ b) f))
-    go true false e f = le-ltb (bitOr x y) (2 ^ b) (le-trans (ltb-false y (2 ^ b) f) above-r)
-    go false t e f = le-ltb (bitOr x y) (2 ^ b) (le-trans (ltb-false x (2 ^ b) e) above-l)
 
 pub range-more : (b bits : ℕ) (xs : List ℕ) (i : ℕ) → i < length xs
     → ltb (bitOr bits (getD xs i 0)) (2 ^ b) && inRange b (drop (i + 1) xs) ≡ ltb bits (2 ^ b) && inRange b (drop i xs)

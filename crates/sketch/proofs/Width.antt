@@ -1,15 +1,20 @@
 -- z symbols of b bits fit a byte.
 use mathlib.Core.Path.{_≡_, _∙_}
+use mathlib.Core.Bool.{not}
+use mathlib.Core.Path.{_≡_}
 use Prim.Native.Nat.{ℕ, suc, _+_, _-_, _*_, _%_, _^_, _<_, _≤_}
-use native.Mathlib.Nat.{lt-div-mul-add, le-trans, mul-le-mul-left, div-le-self, le-div-iff-mul-le, mul-div-le, one-mul}
+use native.Mathlib.Nat.{lt-div-mul-add, le-trans, mul-le-mul-left, div-le-self, le-div-iff-mul-le, mul-div-le}
 use native.Mathlib.Omega.{arith}
 use lib.Pow.{shl-exact}
-use Rattle.meaning.specs.Sketch.{perByte, packedLength}
+use Rattle.meaning.specs.Sketch.{perByte, packedLength, byteDistance, group}
+use lib.Dec.{eqb}
+use Rattle.meaning.proofs.Lists.{count-upto}
+use Rattle.words.proofs.Machine.{one-bit}
 use Rattle.sketch.specs.Settings.{Bits}
 
 -- 2^k as the code makes it
 pub shifted : (k : ℕ) → k ≤ 8 → 1 * 2 ^ k % 2 ^ 32 ≡ 2 ^ k
-shifted k h = shl-exact 1 k 32 (omega arith) (omega arith) ∙ one-mul (2 ^ k)
+shifted k h = one-bit k (omega arith)
 
 pub z-pos : (b : ℕ) → Bits b → 0 < perByte b
 unfolding perByte
@@ -50,3 +55,7 @@ unfolding packedLength
 byte-of b n j h w =
     let p : 0 < perByte b = z-pos b h in
     le-div-iff-mul-le {k = perByte b} {x = suc j} {y = n + perByte b - 1} p .1 (omega arith)
+
+pub byte-distance-most : (b v : ℕ) → byteDistance b v ≤ 8
+unfolding byteDistance
+byte-distance-most b v = omega (arith, count-upto (λ (i : ℕ). not (eqb (group b v i) 0)) (perByte b), z-most b)

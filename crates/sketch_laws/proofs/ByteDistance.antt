@@ -12,8 +12,9 @@ use lib.ListN.{length, getD, take, drop, length-take, length-drop}
 use borrow.Author.Tests.{eqb-true, eqb-false, eq-eqb, ne-eqb}
 use Rattle.meaning.specs.Lists.{count, from, upto}
 use Rattle.meaning.specs.Sketch.{distance, inRange, perByte, packedLength, packByte, packBytes, pack, group, byteDistance}
+use Rattle.meaning.proofs.Lists.{count-upto}
 use Rattle.sketch_laws.specs.Packed.{groupDistance, sumPairs, packedDistance}
-use Rattle.sketch_laws.proofs.Lists.{count-suc, count-upto-le, count-same, count-none, count-le, length-upto}
+use Rattle.sketch_laws.proofs.Lists.{count-suc, count-upto-le, count-same, count-none}
 use Rattle.sketch_laws.proofs.Packing.{range-take, range-drop, group-byte, per-byte-pos, packed-covers}
 use Rattle.sketch_laws.proofs.Distance.{distance-le, distance-split}
 
@@ -66,7 +67,7 @@ group-distance-le b v i h = count-upto-le (λ j. not (eqb (group b v j) 0)) i (p
 
 pub byte-distance-le : (b v : ℕ) → byteDistance b v ≤ perByte b
 unfolding byteDistance
-byte-distance-le b v = omega (arith, count-le (λ i. not (eqb (group b v i) 0)) (upto (perByte b)), length-upto (perByte b))
+byte-distance-le b v = count-upto (λ i. not (eqb (group b v i) 0)) (perByte b)
 
 pub byte-distance-zero : (b : ℕ) → byteDistance b 0 ≡ 0
 unfolding byteDistance group

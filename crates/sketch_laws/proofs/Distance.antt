@@ -1,13 +1,14 @@
 -- Laws of the distance of two sketches.
 use Prim.Native.Nat.{ℕ, suc, _+_, _≤_, _<_}
 use native.Mathlib.Omega.{arith}
-use mathlib.Core.Path.{_≡_, refl, sym, ap, fun-ext}
+use mathlib.Core.Path.{_≡_, refl, ap, fun-ext}
 use mathlib.Core.Bool.{Bool, true, false, cond}
 use mathlib.Core.List.{List, [], _∷_, _++_}
 use lib.Dec.{eqb}
 use lib.ListN.{length, getD, take, drop}
-use borrow.Author.Tests.{eqb-true, eqb-false, eq-eqb, ne-eqb}
+use borrow.Author.Tests.{eq-eqb}
 use Rattle.meaning.specs.Sketch.{distance}
+use Rattle.meaning.proofs.Lists.{eqb-comm}
 use Rattle.sketch_laws.specs.Packed.{sumPairs}
 use Rattle.sketch_laws.proofs.Pairs.{pairs-append, pairs-split, pairs-take, pairs-suc, pairs-comm, pairs-self, pairs-le}
 
@@ -24,13 +25,6 @@ same-pairs (x ∷ xs) (y ∷ ys) = ap (λ (n : ℕ). other x y + n) (same-pairs 
 -- the distance is a sum over pairs
 as-pairs : distance ≡ sumPairs other
 as-pairs = fun-ext (λ xs. fun-ext (same-pairs xs))
-
-pub eqb-comm : (x y : ℕ) → eqb x y ≡ eqb y x
-eqb-comm x y = go (eqb x y) refl
-  where
-    go : (t : Bool) → eqb x y ≡ t → t ≡ eqb y x
-    go true e = sym (eq-eqb y x (sym (eqb-true x y e)))
-    go false e = sym (ne-eqb y x (λ q. eqb-false x y e (sym q)))
 
 other-le : (x y : ℕ) → other x y ≤ 1
 other-le x y = go (eqb x y)

@@ -18,8 +18,8 @@ use borrow.Author.Tests.{ltb-true, lt-ltb}
 use Rattle.meaning.specs.Lists.{all, from, upto}
 use Rattle.meaning.specs.Sketch.{inRange, perByte, packedLength, packByte, packBytes, pack, group, symbolsAt, packable, allPackable, unpack}
 use Rattle.sketch_laws.specs.Packed.{symbolsOf}
-use Rattle.meaning.proofs.Lists.{not-so, and-intro, and-first, and-second}
-use Rattle.sketch_laws.proofs.Lists.{length-upto, upto-suc, upto-at, all-upto, upto-all}
+use Rattle.meaning.proofs.Lists.{not-so, and-intro, and-first, and-second, length-upto, upto-suc, upto-at, upto-all}
+use Rattle.sketch_laws.proofs.Lists.{all-upto}
 
 -- ---- symbols in range
 module _ (b : ℕ) where
@@ -245,7 +245,7 @@ module _ (b : ℕ) where
       ∙ byte-groups b (getD bs k 0) (symbolsAt b n k)
       ∙ mod-eq-of-lt
       (ltb-true (getD bs k 0) (2 ^ (b * symbolsAt b n k))
-      (upto-all (λ k. packable b n k (getD bs k 0)) (packedLength b n) k h (omega arith))))
+      (upto-all (λ k. packable b n k (getD bs k 0)) (packedLength b n) h k (omega arith))))
 
   pub unpack-pack : (n : ℕ) (xs : List ℕ) → 0 < b → b ≤ 8 → length xs ≡ n → inRange b xs ≡ true → unpack b n (pack b xs) ≡ xs
   unpack-pack n xs lo hi e r =

@@ -12,11 +12,12 @@ use borrow.Author.Tests.{le-leb, eqb-true}
 use Rattle.meaning.specs.Lists.{all, any}
 use Rattle.meaning.specs.Sketch.{distance, inRange, packedLength, pack, byteDistance, blockLength, block}
 use Rattle.meaning.specs.Trie.{Tree, leaf, inner, Children, none, child, byteAt, met, metIn, pagesIn, pagesAmong}
+use Rattle.meaning.proofs.Lists.{all-each}
 use Rattle.sketch_laws.specs.Packed.{packedDistance}
 use Rattle.sketch_laws.specs.Paths.{OnPath, OnPathUnder, Shallow, ShallowUnder}
 use Rattle.sketch_laws.proofs.Prefix.{packed-drop}
 use Rattle.sketch_laws.proofs.Blocks.{block-packed, near-packed}
-use Rattle.sketch_laws.proofs.Lists.{in-both, in-cond, all-in}
+use Rattle.sketch_laws.proofs.Lists.{in-both, in-cond}
 
 -- ---- what is met is in the trie
 mutual
@@ -44,7 +45,7 @@ module _ (bytesOf : ℕ → List ℕ) where
       → byteDistance b (bitXor c (getD ys k 0)) + packedDistance b (drop (suc k) (bytesOf p)) (drop (suc k) ys) ≤ r
   unfolding byteAt
   near-below b r k c p us ys l e a i n =
-      let path : getD (bytesOf p) k 0 ≡ c = eqb-true (getD (bytesOf p) k 0) c (all-in (λ u. eqb (byteAt bytesOf k u) c) p us a i) in
+      let path : getD (bytesOf p) k 0 ≡ c = eqb-true (getD (bytesOf p) k 0) c (all-each (λ u. eqb (byteAt bytesOf k u) c) us a p i) in
       rw path at (rw (packed-drop b k (bytesOf p) ys (omega arith) l) at n)
 
   mutual

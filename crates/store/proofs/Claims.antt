@@ -4,10 +4,9 @@ use native.Mathlib.Decide.{decLt, ℕ-discrete}
 use native.Mathlib.Nat.{suc-mul}
 use native.Mathlib.Omega.{arith}
 use mathlib.Core.Path.{_≡_, refl, sym}
-use mathlib.Core.Bool.{Bool, true, false, cond}
+use mathlib.Core.Bool.{Bool, false}
 use mathlib.Core.Logic.{_≢_, by-cases}
 use mathlib.Core.List.{List, [], _∷_, map}
-use borrow.Author.Tests.{eq-eqb, ne-eqb, eqb-true, eqb-false}
 use lib.Dec.{eqb}
 use Rattle.meaning.specs.Lists.{count}
 use Rattle.meaning.specs.Trie.{Children, pagesIn, pagesAmong}
@@ -17,21 +16,13 @@ use Rattle.layout.proofs.Rows.{rows-apart}
 use Rattle.children.specs.Heap.{hit, pageClaims}
 use Rattle.children.specs.Phys.{Phys, Buckets, Chain, leafP, innerP, end, bucket, stop, link, root, tree, childrenB, childrenC, pageCells, noHeads, cells, cellsB, cellsC, freeCells, Below, Sound, SoundB, SoundC}
 use Rattle.children.proofs.Frame.{hit-other}
+use Rattle.children.proofs.Claims.{page-claims}
 use Rattle.trie_laws.specs.Sound.{Stands}
 use Rattle.trie_laws.specs.Block.{EachFrom}
 use Rattle.meaning.proofs.Lists.{count-append}
 use Rattle.promises.specs.Sound.{triesCells, Rooted}
 
--- the same page, or the same link
-hit-page : (base p x : ℕ) → hit (base + p) (base + x) ≡ cond (eqb x p) 1 0
-unfolding hit
-hit-page base p x = go (eqb x p) refl
-  where
-    go : (t : Bool) → eqb x p ≡ t → _≡_ {A = ℕ} (cond (eqb (base + p) (base + x)) 1 0) (cond t 1 0)
-    go true e = rw (eq-eqb (base + p) (base + x) (omega (arith, eqb-true x p e))) refl
-    go false e = rw (ne-eqb (base + p) (base + x) (λ q. eqb-false x p e (omega arith))) refl
-
-no-heads : (cap n a : ℕ) → pageClaims (noHeads cap n) a ≡ 0
+pub no-heads : (cap n a : ℕ) → pageClaims (noHeads cap n) a ≡ 0
 unfolding noHeads
 no-heads cap n a = omega arith
 
@@ -40,16 +31,11 @@ free-none cap a [] = refl
 free-none cap a (f ∷ fs) = omega (arith, no-heads cap f a, free-none cap a fs)
 
 module _ (cap base x : ℕ) where
-  leaf-claims : (ps : List ℕ) → pageClaims (pageCells base ps) (base + x) ≡ count (eqb x) ps
-  unfolding count
-  leaf-claims [] = refl
-  leaf-claims (p ∷ ps) = omega (arith, hit-page base p x, leaf-claims ps)
-
   mutual
     unfolding pagesIn count
 
     pub trie-claims : (t : Phys) → pageClaims (cells cap base t) (base + x) ≡ count (eqb x) (pagesIn (tree t))
-    trie-claims (leafP n ps) = omega (arith, no-heads cap n (base + x), leaf-claims ps)
+    trie-claims (leafP n ps) = omega (arith, no-heads cap n (base + x), page-claims base x ps)
     trie-claims (innerP n bs) = omega (arith, bucket-claims bs n 0)
 
     bucket-claims : (bs : Buckets) (n g : ℕ) → pageClaims (cellsB cap base bs n g) (base + x) ≡ count (eqb x) (pagesAmong (childrenB bs))

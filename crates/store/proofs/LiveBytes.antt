@@ -9,8 +9,8 @@ use borrow.Author.Tests.{eqb-true, eqb-false, ltb-true}
 use lib.Dec.{ltb, eqb}
 use Rattle.meaning.specs.Ledger.{Settings, Row}
 use Rattle.meaning.specs.Forest.{bytesOfSketch, bytesIn}
+use Rattle.meaning.proofs.Lists.{and-first, and-second}
 use Rattle.layout.specs.Pages.{isLive}
-use Rattle.layout.proofs.Tests.{and-left, and-right}
 use Rattle.promises.specs.Tables.{Tables, given, pageClass, pageRow, rowsFrom, rowsOf}
 use Rattle.promises.specs.Sound.{livePage, pageBytes}
 
@@ -34,7 +34,7 @@ module _ (T : Tables) where
   pub live-bytes : (j q : ℕ) → livePage T q ≡ true → bytesIn (given T) (rowsOf T) j q ≡ pageBytes T j q
   unfolding rowsOf livePage pageBytes
   live-bytes j q live =
-      rows-bytes (given T) j (isLive (T .pages)) (λ i. record { page = i; class = pageClass T i; sketch = pageRow T i }) (λ i. refl) q 0 (given T .pages)
+      rows-bytes (given T) j (isLive (T .pages)) (λ i. row i (pageClass T i) (pageRow T i)) (λ i. refl) q 0 (given T .pages)
       (omega arith)
-      (omega (arith, ltb-true q (given T .pages) (and-left (ltb q (given T .pages)) (isLive (T .pages) q) live)))
-      (and-right (ltb q (given T .pages)) (isLive (T .pages) q) live)
+      (omega (arith, ltb-true q (given T .pages) (and-first (ltb q (given T .pages)) (isLive (T .pages) q) live)))
+      (and-second (ltb q (given T .pages)) (isLive (T .pages) q) live)

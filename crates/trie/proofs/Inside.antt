@@ -13,8 +13,12 @@ use Rattle.children.specs.declared.place.Place.the-variants.{Found, Missing, Br
 use Rattle.children.specs.Places.{findPlace, Inside as PlaceInside}
 use Rattle.children.proofs.Places.{find-inside}
 use Rattle.trie.specs.declared.path.Reach.{Reach}
-use Rattle.trie.specs.declared.path.Reach.the-variants.{Leaf, Broken}
+use Rattle.trie.specs.declared.path.Reach.the-variants.{Leaf, Gap, Broken}
 use Rattle.trie.specs.Descend.{onward, atNode, descend, descendTo, Inside}
+
+-- what a match tells
+pub gap-level : (N : List ℕ) (cap len : ℕ) (x : Reach) (n s k : ℕ) → x ≡ Gap n s k → Inside N cap len x → k < len
+gap-level N cap len x n s k e h = (rw e at h) .2
 
 module _ (N : List ℕ) (cap : ℕ) (Y : List ℕ) (octets : (k : ℕ) → getD Y k 0 < 256) where
   abbrev In : Reach → Type 0

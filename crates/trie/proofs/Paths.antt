@@ -4,12 +4,11 @@ use native.Mathlib.Nat.{add-zero}
 use mathlib.Core.Path.{_≡_, refl, ap, _∙_}
 use mathlib.Core.Bool.{true, false, cond}
 use mathlib.Core.List.{List}
-use lib.Dec.{ltb}
-use Rattle.meaning.specs.Trie.{Tree, leaf, inner, Children, none, child, byteAt}
-use Rattle.trie_laws.specs.Path.{has, childBy, hasBelow, below, setBelow, hasPath, subtree, replace, pathOf, depth, depthIn}
+use Rattle.meaning.specs.Trie.{Tree, leaf, inner, byteAt}
+use Rattle.trie_laws.specs.Path.{hasBelow, below, setBelow, hasPath, subtree, replace, pathOf, depth}
 use Rattle.meaning.proofs.Lists.{and-intro}
-use Rattle.trie_laws.proofs.Lists.{holds, fails, truth}
 use Rattle.trie_laws.proofs.Path.{path-parts, shift}
+use Rattle.trie_laws.proofs.Reach.{depth-child}
 
 module _ (bytesOf : ℕ → List ℕ) (p : ℕ) where
   -- one byte longer
@@ -36,18 +35,10 @@ module _ (bytesOf : ℕ → List ℕ) (p : ℕ) where
       rw (shift k d) (ap (λ (x : Tree). setBelow y x t) (rep-next d (suc k) (below y t) u))
 
   -- no longer
-  depth-child : (k : ℕ) (cs : Children) → depthIn bytesOf k p cs ≡ cond (has (byteAt bytesOf k p) cs) (suc (depth bytesOf (suc k) p (childBy (byteAt bytesOf k p) cs))) 0
-  unfolding depth has childBy
-  depth-child k none = refl
-  depth-child k (child c t cs) = elim (truth (ltb c (byteAt bytesOf k p))) [
-    | holds e ↦ rw e (depth-child k cs)
-    | fails e ↦ rw e refl
-  ]
-
   depth-below : (k : ℕ) (t : Tree) → depth bytesOf k p t ≡ cond (hasBelow (byteAt bytesOf k p) t) (suc (depth bytesOf (suc k) p (below (byteAt bytesOf k p) t))) 0
   unfolding depth hasBelow below
   depth-below k (leaf ps) = refl
-  depth-below k (inner cs) = depth-child k cs
+  depth-below k (inner cs) = depth-child bytesOf p k cs
 
   pub path-depth : (d k : ℕ) (t : Tree) → hasPath (pathOf bytesOf k p d) t ≡ true → hasBelow (byteAt bytesOf (k + d) p) (subtree (pathOf bytesOf k p d) t) ≡ false →
       depth bytesOf k p t ≡ d

@@ -1,8 +1,7 @@
 -- How often a trie and the free nodes claim a word of the node table: as often as the node stands there that the word belongs to.
 use Prim.Native.Nat.{ℕ, zero, suc, _+_, _*_, _-_, _/_, _≤_, _<_}
 use native.Mathlib.Decide.{decLt, ℕ-discrete}
-use native.Mathlib.Nat.{add-zero, zero-add}
-use native.Mathlib.Numerals.{towards-suc}
+use native.Mathlib.Nat.{zero-add}
 use native.Mathlib.Omega.{arith}
 use mathlib.Core.Path.{_≡_, refl, sym, ap, ap₂, _∙_, fun-ext}
 use mathlib.Core.Bool.{Bool, true, false, cond}
@@ -13,12 +12,13 @@ use lib.ListN.{length, getD}
 use borrow.Author.Tests.{ltb-true, ltb-false, lt-ltb, le-ltb, eqb-true, ne-eqb}
 use Rattle.meaning.specs.Lists.{count}
 use Rattle.meaning.specs.Trie.{nodes}
+use Rattle.meaning.proofs.Lists.{eqb-comm}
 use Rattle.layout.specs.Nodes.{chainAt, stateAt, headAt, freeState, nodeWords}
 use Rattle.children.specs.Heap.{hit, nodeClaims, Holds}
 use Rattle.children.specs.Phys.{Phys, leafP, innerP, Buckets, end, bucket, Chain, stop, link, root, tree, noHeads, pageCells, freeCells, cells, cellsB, cellsC, Below, Sound, SoundB, SoundC}
 use Rattle.children.proofs.Frame.{hit-same, hit-other}
+use Rattle.children.proofs.Claims.{among, among-out, heads, root-below}
 use Rattle.trie.proofs.Spans.{sumTo, sum-add, sum-none, sum-hit}
-use Rattle.trie_laws.proofs.Lists.{eqb-comm}
 use Rattle.trie_check_laws.specs.Uses.{uses, usesB, usesC}
 use Rattle.trie_check_laws.proofs.WholeFit.{size, sizeB, sizeC, size-nodes, chains-left}
 
@@ -28,17 +28,6 @@ use Rattle.trie_check_laws.proofs.WholeFit.{size, sizeB, sizeC, size-no
 unfoldable pub owner : ℕ → ℕ → ℕ
 owner cap a = cond (ltb a cap) a (cond (ltb a (2 * cap)) (a - cap) (cond (ltb a (nodeWords cap)) ((a - 2 * cap) / 8) cap))
 
--- how often a word is among n from k on
-among : ℕ → ℕ → ℕ → ℕ
-among k zero a = 0
-among k (suc n) a = hit k a + among (suc k) n a
-
-among-out : (k n a : ℕ) → (k ≤ a → k + n ≤ a) → among k n a ≡ 0
-unfolding among
-among-out k zero a h = refl
-among-out k (suc n) a h =
-    omega (arith, hit-other {a = a} {b = k} (λ e. omega (arith, h (omega arith))), among-out (suc k) n a (λ l. omega (arith, h (omega arith))))
-
 among-in : (k n a : ℕ) → k ≤ a → a < k + n → among k n a ≡ 1
 unfolding among
 among-in k zero a l m = absurd (omega arith)
@@ -47,10 +36,6 @@ among-in k (suc n) a l m = go (λ p q. among-in (suc k) n a p q) (ℕ-discrete a
     go : (suc k ≤ a → a < suc k + n → among (suc k) n a ≡ 1) → Dec (a ≡ k) → hit k a + among (suc k) n a ≡ 1
     go more (yes e) = omega (arith, hit-same {a = a} {b = k} e, among-out (suc k) n a (λ q. absurd (omega arith)))
     go more (no e) = omega (arith, hit-other {a = a} {b = k} e, more (omega arith) (omega arith))
-
-heads : (cap n a : ℕ) → nodeClaims (noHeads cap n) a ≡ among (headAt cap n 0) 8 a
-unfolding noHeads among
-heads cap n a = simp (towards-suc, add-zero)
 
 -- each word of a node belongs to it
 module _ (cap a n : ℕ) (below : n < cap) where
@@ -187,14 +172,10 @@ free-beyond cap x [] l b = refl
 free-beyond cap x (f ∷ fs) l b = rw (ne-eqb x f (λ e. omega (arith, b .0))) (omega (arith, free-beyond cap x fs l (b .1)))
 
 -- ---- word by word
-root-in : (cap pcap : ℕ) (t : Phys) → Sound cap pcap t → root t < cap
-root-in cap pcap (leafP n ps) s = s .0
-root-in cap pcap (innerP n bs) s = s .0
-
 module _ (cap pcap base : ℕ) (t : Phys) (s : Sound cap pcap t) where
   -- a word that is no chain word of the table is not the root's
   apart : (a : ℕ) → cap ≤ a → hit (chainAt (root t)) a ≡ 0
-  apart a l = hit-other {a = a} {b = root t} (λ e. omega (arith, root-in cap pcap t s))
+  apart a l = hit-other {a = a} {b = root t} (λ e. omega (arith, root-below cap pcap t s))
 
   pub chain-claims : (x : ℕ) → x < cap → nodeClaims (cells cap base t) (chainAt x) + hit (root t) x ≡ uses t x
   chain-claims x l = trie-words cap pcap base x t s ∙ ap (λ n. uses t n) (owner-chain cap x l)

@@ -6,16 +6,17 @@ use mathlib.Core.Bool.{Bool, true, false, cond, _&&_, _||_, true≢false, false�
 use mathlib.Core.List.{List, [], _∷_, _++_}
 use lib.Dec.{ltb, eqb}
 use lib.ListN.{length}
-use borrow.Author.Tests.{eqb-true, ltb-true, lt-ltb}
+use borrow.Author.Tests.{eqb-true, ltb-true}
 use Rattle.meaning.specs.Lists.{all, any, count, from, upto}
 use Rattle.meaning.specs.Trie.{Children, child, byteAt, pagesIn, pagesAmong}
 use Rattle.layout.specs.Nodes.{headAt}
 use Rattle.layout.specs.Pages.{isLive}
 use Rattle.children.specs.Heap.{Holds}
 use Rattle.children.specs.Phys.{Phys, leafP, innerP, Buckets, end, bucket, Chain, stop, link, root, tree, childrenB, childrenC, pageCells, cells, cellsB, cellsC, Below, Sound, SoundB, SoundC}
+use Rattle.children.proofs.Claims.{below-all}
 use Rattle.trie_laws.specs.Sound.{soundTrie, soundFrom, Stands}
-use Rattle.meaning.proofs.Lists.{and-intro, not-so, count-append, all-append}
-use Rattle.trie_laws.proofs.Lists.{Truth, holds, fails, truth, less, same, more, compared, any-count, any-none, all-each}
+use Rattle.meaning.proofs.Lists.{and-intro, not-so, count-append, all-append, all-each}
+use Rattle.trie_laws.proofs.Lists.{Truth, holds, fails, truth, less, same, more, compared, any-count, any-none}
 use Rattle.trie_laws.proofs.Sound.{inner-parts, child-parts}
 use Rattle.trie_laws.proofs.Walk.{walk-sound}
 use Rattle.trie_laws.proofs.Distinct.{distinct-once, distinct-count}
@@ -100,11 +101,6 @@ module _ (base : ℕ) (N P : List ℕ) (bytesOf : ℕ → List ℕ) (b n len : �
         (chain-once ch (root t) c k (suc c) cs (h .1 .1) (parts .rest) later)
 
 -- ---- the pages are below the capacity
-below-all : (pcap : ℕ) (ps : List ℕ) → Below pcap ps → all (λ p. ltb p pcap) ps ≡ true
-unfolding all
-below-all pcap [] h = refl
-below-all pcap (p ∷ ps) h = and-intro (ltb p pcap) (all (λ p. ltb p pcap) ps) (lt-ltb p pcap (h .0)) (below-all pcap ps (h .1))
-
 module _ (cap pcap : ℕ) where
   abbrev small : ℕ → Bool
   small p = ltb p pcap

@@ -17,8 +17,7 @@ use Rattle.children.specs.Heap.{Holds}
 use Rattle.children.specs.Phys.{first, pageCells, noHeads, Below}
 use Rattle.blocks.specs.Packed.{pageByte, levelAt}
 use Rattle.trie_laws.specs.Path.{follows}
-use Rattle.meaning.proofs.Lists.{and-intro}
-use Rattle.trie_laws.proofs.Lists.{upto-all}
+use Rattle.meaning.proofs.Lists.{and-intro, upto-all}
 use Rattle.trie_laws.proofs.Path.{shift}
 use Rattle.node_check.specs.declared.leaf.Kind.the-variants.{Inner, Leaf, Damaged}
 use Rattle.node_check.specs.declared.leaf.Left.{Left}

@@ -15,8 +15,9 @@ use Rattle.layout.specs.Pages.{isLive}
 use Rattle.children.specs.Heap.{Holds, hit}
 use Rattle.children.specs.Phys.{Phys, leafP, innerP, Buckets, end, bucket, Chain, stop, link, root, first, tree, cells, cellsB, cellsC, Below, SoundB, SoundC}
 use Rattle.children.specs.Phys.{Sound as SoundNodes}
-use Rattle.children.proofs.Spot.{root-below}
+use Rattle.children.proofs.Claims.{root-below}
 use Rattle.children.proofs.Chains.{linkC, chain-head, link-below}
+use Rattle.children.specs.Phys.{Sound as SoundNodes}
 use Rattle.trie_laws.specs.Sound.{filled}
 use Rattle.node_check.specs.declared.frame.Frame.{Frame}
 use Rattle.node_check.specs.declared.frame.Step.the-variants as step
@@ -377,7 +378,7 @@ module _ (w : Given) (bytesOf : ℕ → List ℕ) (small : w .block .nodes ≤ m
         link-through t ch ys c hi
         (λ f′ s′ e′ l′ g′ r′ n′. chain-through ch ys (chainAt (root t)) c (suc c) hi (h .1 .1) (b .3) (u .3) v f′ s′ e′ l′ g′ r′ n′) f s g r n
         (tree-through t ys c (linkC ch) (h .1 .0) (b .2) (u .2) (u .1) v f s
-        (to-child N cap (w .rows .bits) (w .rows .length) (length (s .stack)) (s .frame) (root t) c (linkC ch) e (root-below cap pcap base small t (b .2))
+        (to-child N cap (w .rows .bits) (w .rows .length) (length (s .stack)) (s .frame) (root t) c (linkC ch) e (root-below cap pcap t (b .2))
         (slot-word ch (root t) c (h .1 .1)) (omega (arith, link-below cap pcap base small ch (suc c) hi (b .3))) (omega (arith, b .0)) (omega (arith, b .1))
         (rw (r .level) (u .0))) (omega arith)
         (ready-first w s ys (λ a. uses t a) (λ a. usesC ch a) (size t) (sizeC ch) (load t) (loadC ch) r))

@@ -10,6 +10,7 @@ use lib.ListN.{length, getD}
 use Rattle.meaning.specs.Trie.{Tree, leaf, inner, Children, none, child, byteAt, push, putLeaf, split, addLeaf, insert, insertIn, nodes, nodesIn}
 use Rattle.children.proofs.Abstract.{Skips, Above, Leaves}
 use Rattle.trie.proofs.Abstract.{Kept, Walks}
+use Rattle.trie_laws.proofs.Nodes.{push-nodes}
 
 -- a page put into the child leaf of a byte
 pub put-skips : (b p : ℕ) → Skips b (putLeaf b p)
@@ -60,11 +61,6 @@ leaves-put b p (child c (leaf ps) cs) h = go (leaves-put b p cs h) (ltb b c) (eq
     go more false true = h
     go more false false = more
 
-push-nodes : (p : ℕ) (t : Tree) → nodes (push p t) ≡ nodes t
-unfolding push nodes
-push-nodes p (leaf ps) = refl
-push-nodes p (inner cs) = refl
-
 pub put-grows : (b p : ℕ) (cs : Children) → nodesIn cs ≤ nodesIn (putLeaf b p cs)
 unfolding putLeaf nodes
 put-grows b p none = omega arith
@@ -81,7 +77,7 @@ unfolding split
 split-grows bytesOf k [] cs = omega arith
 split-grows bytesOf k (p ∷ ps) cs = omega (arith, put-grows (byteAt bytesOf k p) p cs, split-grows bytesOf k ps (putLeaf (byteAt bytesOf k p) p cs))
 
--- a leaf that a page was put into is not empty, and has a node at least
+-- a leaf that a page was put into is not empty
 pub kept-add : (bytesOf : ℕ → List ℕ) (len : ℕ) (τ : List ℕ) (k p : ℕ) (ps : List ℕ) → Kept (addLeaf bytesOf len τ k p ps)
 unfolding addLeaf
 kept-add bytesOf len τ k p ps = go (ltb k len && ltb (getD τ k 0) (suc (length ps)))
@@ -89,8 +85,3 @@ kept-add bytesOf len τ k p ps = go (ltb k len && ltb (getD τ k 0) (suc (length
     go : (q : Bool) → Kept (cond q (inner (split bytesOf k (p ∷ ps) none)) (leaf (p ∷ ps)))
     go true = tt
     go false = tt
-
-pub some-node : (t : Tree) → 1 ≤ nodes t
-unfolding nodes
-some-node (leaf ps) = omega arith
-some-node (inner cs) = omega arith

@@ -26,7 +26,8 @@ use Rattle.trie.proofs.Way.{go-in}
 use Rattle.trie.proofs.Arrival.{Leads, AtLeaf, AtGap, Arrives, arrives}
 use Rattle.trie_insert.specs.Split.{growLeaf}
 use Rattle.trie_insert.specs.Insert.{leafFor, insertPage}
-use Rattle.trie_insert.proofs.Abstract.{insert-skips, insert-new, insert-empty, insert-walks, kept-add, some-node}
+use Rattle.trie_laws.proofs.Nodes.{nodes-some}
+use Rattle.trie_insert.proofs.Abstract.{insert-skips, insert-new, insert-empty, insert-walks, kept-add}
 use Rattle.trie_insert.proofs.Grow.{Grown, grow-right}
 
 module _ (bytesOf : ℕ → List ℕ) (S τ Y : List ℕ) (r : Rows) (cap pcap base p : ℕ) (rows : RowTable pcap r S) (small : cap ≤ mostNodes) (lp : p < pcap)
@@ -124,7 +125,7 @@ module _ (bytesOf : ℕ → List ℕ) (S τ Y : List ℕ) (r : Rows) (cap pcap b
         let w : insert bytesOf (r .bytes) τ 0 p (tree t) ≡ a .way .context .around (inner (a .spot .before (child b A K))) =
         ap (insert bytesOf (r .bytes) τ 0 p) here ∙ inner-lift (childrenB (a .buckets)) ∙ ap (λ (cs : Children). a .way .context .around (inner cs)) children-then in
         rw (w, here)
-        (omega (arith, a .way .context .count (inner (a .spot .before (child b A K))) (inner (childrenB (a .buckets))), a .spot .count (child b A K) K, some-node A, ap nodesIn children-now))
+        (omega (arith, a .way .context .count (inner (a .spot .before (child b A K))) (inner (childrenB (a .buckets))), a .spot .count (child b A K) K, nodes-some A, ap nodesIn children-now))
 
     -- the first free node is made the leaf, and the page put in
     module _ {N P : List ℕ} {free v f : ℕ} {fs : List ℕ} {G : Cells} (st : State cap pcap base N P free t (f ∷ fs) (page (base + p) v ⊕ G)) where

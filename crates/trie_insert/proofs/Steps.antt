@@ -183,9 +183,6 @@ leaf-node N cap len x n s k e h = (rw e at h) .0
 pub gap-slot : (N : List ℕ) (cap len : ℕ) (x : Reach) (n s k : ℕ) → x ≡ Gap n s k → Inside N cap len x → s < nodeWords cap
 gap-slot N cap len x n s k e h = (rw e at h) .1
 
-pub gap-level : (N : List ℕ) (cap len : ℕ) (x : Reach) (n s k : ℕ) → x ≡ Gap n s k → Inside N cap len x → k < len
-gap-level N cap len x n s k e h = (rw e at h) .2
-
 pub target-in : (cap : ℕ) (x : Target) (n k free : ℕ) → x ≡ Ready n k free → targetIn x ≤ cap → n < cap
 target-in cap x n k free e h = rw e at h
 

@@ -12,8 +12,8 @@ use Rattle.meaning.specs.Lists.{all, any, count}
 use Rattle.meaning.specs.Trie.{Tree, leaf, inner, Children, none, child, without, prune, byteAt, remove, removeIn, addLeaf, insert, insertIn, pagesIn, pagesAmong}
 use Rattle.trie_laws.specs.Sound.{filled, packs, soundTrie, soundFrom, Stands}
 use Rattle.trie_laws.specs.Needed.{splits, splitNodes, needed, neededIn}
-use Rattle.meaning.proofs.Lists.{any-append}
-use Rattle.trie_laws.proofs.Lists.{less, same, more, compared, holds, fails, truth, or-none, eqb-comm}
+use Rattle.meaning.proofs.Lists.{any-append, eqb-comm}
+use Rattle.trie_laws.proofs.Lists.{less, same, more, compared, holds, fails, truth, or-none}
 use Rattle.trie_laws.proofs.Distinct.{distinct-some}
 use Rattle.trie_laws.proofs.Leaf.{add-stays}
 use Rattle.trie_laws.proofs.Sound.{inner-parts, child-parts}

@@ -9,8 +9,8 @@ use lib.ListN.{length}
 use borrow.Author.Tests.{ltb-true, eqb-true, eq-eqb, ne-eqb}
 use Rattle.meaning.specs.Lists.{all, any, count, from, upto}
 use Rattle.trie_laws.specs.Needed.{distinctFrom, distinct}
-use Rattle.meaning.proofs.Lists.{and-first, and-second, or-first, or-second}
-use Rattle.trie_laws.proofs.Lists.{less, same, more, compared, holds, fails, truth, count-none, count-upto}
+use Rattle.meaning.proofs.Lists.{and-first, and-second, or-first, or-second, count-upto}
+use Rattle.trie_laws.proofs.Lists.{less, same, more, compared, holds, fails, truth, count-none}
 
 -- only what was seen of the list's own bytes counts
 pub distinct-agree : (s r : ℕ → Bool) (xs : List ℕ) → ((y : ℕ) → any (eqb y) xs ≡ true → s y ≡ r y) → distinctFrom s xs ≡ distinctFrom r xs

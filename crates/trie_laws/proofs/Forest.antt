@@ -9,10 +9,11 @@ use lib.ListN.{length, getD, replicate}
 use borrow.Author.Tests.{ltb-true, eqb-true, ne-eqb}
 use Rattle.meaning.specs.Lists.{keep, sum}
 use Rattle.meaning.specs.Trie.{Tree, fresh, insert, remove, nodes}
-use Rattle.meaning.specs.Ledger.{Settings, Row, add, drop, putRow}
+use Rattle.meaning.specs.Ledger.{Settings, Row, row, add, drop, putRow}
 use Rattle.meaning.specs.Forest.{blockBytes, bytesOfSketch, bytesIn, eachFrom, forestAfter, totalNodes}
+use Rattle.meaning.proofs.Lists.{eqb-comm}
 use Rattle.trie_laws.specs.Needed.{needed, frees, sumFrom}
-use Rattle.trie_laws.proofs.Lists.{holds, fails, truth, eqb-comm}
+use Rattle.trie_laws.proofs.Lists.{holds, fails, truth}
 use Rattle.trie_laws.proofs.Nodes.{insert-nodes, remove-nodes}
 
 module _ (f : ℕ → Tree → Tree) where
@@ -59,9 +60,9 @@ total-fresh (suc q) = omega (arith, total-fresh q)
 -- after an accepted call
 pub total-add : (s : Settings) (rows : List Row) (p c : ℕ) (x : List ℕ) (F : List Tree) →
     totalNodes (forestAfter s rows (add p c x) F) ≡
-    totalNodes F + sumFrom (λ j. needed (bytesIn s (putRow (record { page = p; class = c; sketch = x }) rows) j) (blockBytes s j) (s .thresholds) 0 p) 0 F
+    totalNodes F + sumFrom (λ j. needed (bytesIn s (putRow (row p c x) rows) j) (blockBytes s j) (s .thresholds) 0 p) 0 F
 unfolding forestAfter
-total-add s rows p c x F = total-insert (bytesIn s (putRow (record { page = p; class = c; sketch = x }) rows)) p (blockBytes s) (s .thresholds) 0 F
+total-add s rows p c x F = total-insert (bytesIn s (putRow (row p c x) rows)) p (blockBytes s) (s .thresholds) 0 F
 
 pub total-drop : (s : Settings) (rows : List Row) (p : ℕ) (F : List Tree) →
     totalNodes (forestAfter s rows (drop p) F) + sumFrom (λ j t. cond (frees (bytesIn s rows j) 0 p t) 1 0) 0 F ≡ totalNodes F

@@ -12,8 +12,8 @@ use Rattle.meaning.specs.Sketch.{packedLength, packable, allPackable}
 use Rattle.meaning.specs.Trie.{Tree, leaf, inner, Children, none, child, fresh, push, putLeaf, prune, byteAt, split, remove, removeIn, addLeaf, insert, insertIn, pagesIn, pagesAmong}
 use Rattle.trie_laws.specs.Sound.{filled, packs, soundTrie, soundFrom}
 use Rattle.trie_laws.specs.Needed.{splits}
-use Rattle.meaning.proofs.Lists.{and-intro, and-first, and-second, or-second, all-append}
-use Rattle.trie_laws.proofs.Lists.{less, same, more, compared, holds, fails, truth, all-more, upto-all}
+use Rattle.meaning.proofs.Lists.{and-intro, and-first, and-second, or-second, all-append, upto-all}
+use Rattle.trie_laws.proofs.Lists.{less, same, more, compared, holds, fails, truth, all-more}
 use Rattle.trie_laws.proofs.Leaf.{splits-level, add-splits, add-stays}
 use Rattle.trie_laws.proofs.Sound.{SoundBelow, inner-parts, inner-whole, child-parts, lower, sound-last, sound-before, sound-instead, sound-behind}
 use Rattle.trie_laws.proofs.Pages.{insert-all, remove-all}

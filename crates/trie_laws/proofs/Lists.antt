@@ -1,13 +1,13 @@
 -- Tests of two parts, the three orders of two bytes, and laws of `all`, `any` and `count` (crate meaning, Lists.antt).
-use Prim.Native.Nat.{ℕ, zero, suc, _+_, _≤_, _<_}
+use Prim.Native.Nat.{ℕ, _+_, _≤_, _<_}
 use native.Mathlib.Omega.{arith}
 use native.Mathlib.Nat.{zero-add}
-use mathlib.Core.Path.{_≡_, refl, sym, ap, _∙_}
-use mathlib.Core.Bool.{Bool, true, false, cond, not, _&&_, _||_, and-assoc, or-assoc, true≢false, false≢true}
-use mathlib.Core.List.{List, [], _∷_, _++_}
+use mathlib.Core.Path.{_≡_, refl, sym}
+use mathlib.Core.Bool.{Bool, true, false, cond, not, _&&_, _||_, true≢false}
+use mathlib.Core.List.{List, [], _∷_}
 use lib.Dec.{ltb, eqb}
 use borrow.Author.Tests.{ltb-true, ltb-false, eqb-true, eqb-false, lt-ltb, le-ltb, eq-eqb, ne-eqb}
-use Rattle.meaning.specs.Lists.{all, any, count, from, upto}
+use Rattle.meaning.specs.Lists.{all, any, count}
 use Rattle.meaning.proofs.Lists.{and-intro, and-first, and-second, or-first, or-second}
 
 pub or-none : (s t : Bool) → s || t ≡ false → (s ≡ false) × (t ≡ false)
@@ -22,12 +22,6 @@ pub data Truth (q : Bool) : Type 0 where
 pub truth : (q : Bool) → Truth q
 truth true = holds refl
 truth false = fails refl
-
-pub eqb-comm : (a b : ℕ) → eqb a b ≡ eqb b a
-eqb-comm a b = elim (truth (eqb a b)) [
-  | holds e ↦ e ∙ sym (eq-eqb b a (sym (eqb-true a b e)))
-  | fails e ↦ e ∙ sym (ne-eqb b a (λ q. eqb-false a b e (sym q)))
-]
 
 -- ---- two bytes: in which of three orders they stand, with what the tests then give
 pub record Tests (b c : ℕ) (below above equal : Bool) : Type 0 where
@@ -113,55 +107,9 @@ module _ {A : Type 0} (p : A → Bool) where
   all-any r [] h e = refl
   all-any r (x ∷ xs) h e = rw (e x (and-first (p x) (all p xs) h)) (all-any r xs (and-second (p x) (all p xs) h) e)
 
--- what holds of each member holds of all
-pub each-all : (q : ℕ → Bool) (xs : List ℕ) → ((x : ℕ) → any (eqb x) xs ≡ true → q x ≡ true) → all q xs ≡ true
-unfolding all any
-each-all q [] h = refl
-each-all q (x ∷ xs) h =
-    and-intro (q x) (all q xs) (h x (or-first (eqb x x) (any (eqb x) xs) (eq-eqb x x refl)))
-    (each-all q xs (λ y m. h y (or-second (eqb y x) (any (eqb y) xs) m)))
-
--- and the other way round
-pub all-each : (q : ℕ → Bool) (xs : List ℕ) → all q xs ≡ true → (x : ℕ) → any (eqb x) xs ≡ true → q x ≡ true
-unfolding all any
-all-each q [] h x m = absurd (false≢true m)
-all-each q (y ∷ ys) h x m = elim (truth (eqb x y)) [
-  | holds e ↦ rw (eqb-true x y e) (and-first (q y) (all q ys) h)
-  | fails e ↦ all-each q ys (and-second (q y) (all q ys) h) x (rw e at m)
-]
-
 -- two tests that are the same on each member
 pub all-agree : (q r : ℕ → Bool) (xs : List ℕ) → ((x : ℕ) → any (eqb x) xs ≡ true → q x ≡ r x) → all q xs ≡ all r xs
 unfolding all any
 all-agree q r [] h = refl
 all-agree q r (x ∷ xs) h =
     rw (h x (or-first (eqb x x) (any (eqb x) xs) (eq-eqb x x refl)), all-agree q r xs (λ y m. h y (or-second (eqb y x) (any (eqb y) xs) m))) refl
-
--- every number below n passes
-all-from : (q : ℕ → Bool) (j n : ℕ) → all q (from j n) ≡ true → (i : ℕ) → j ≤ i → i < j + n → q i ≡ true
-unfolding all from
-all-from q j zero h i l u = absurd (omega arith)
-all-from q j (suc n) h i l u = elim (compared j i) [
-  | less m s ↦ all-from q (suc j) n (and-second (q j) (all q (from (suc j) n)) h) i m (omega arith)
-  | same m s ↦ rw (← m) (and-first (q j) (all q (from (suc j) n)) h)
-  | more m s ↦ absurd (omega arith)
-]
-
-pub upto-all : (q : ℕ → Bool) (n : ℕ) → all q (upto n) ≡ true → (i : ℕ) → i < n → q i ≡ true
-unfolding upto
-upto-all q n h i l = all-from q 0 n h i (omega arith) (omega arith)
-
--- at most n numbers below n pass
-count-from : (f : ℕ → Bool) (j m : ℕ) → count f (from j m) ≤ m
-unfolding count from
-count-from f j zero = omega arith
-count-from f j (suc m) =
-    let h : count f (from (suc j) m) ≤ m = count-from f (suc j) m in
-    elim (truth (f j)) [
-      | holds e ↦ rw e (omega arith)
-      | fails e ↦ rw e (omega arith)
-    ]
-
-pub count-upto : (f : ℕ → Bool) (n : ℕ) → count f (upto n) ≤ n
-unfolding upto
-count-upto f n = count-from f 0 n

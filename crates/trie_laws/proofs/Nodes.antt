@@ -21,7 +21,7 @@ nodes-some (leaf ps) = omega arith
 nodes-some (inner cs) = omega arith
 
 -- a page put into the child leaf of its byte makes a node where the byte is new
-push-nodes : (p : ℕ) (t : Tree) → nodes (push p t) ≡ nodes t
+pub push-nodes : (p : ℕ) (t : Tree) → nodes (push p t) ≡ nodes t
 unfolding push nodes
 push-nodes p (leaf ps) = refl
 push-nodes p (inner cs) = refl

@@ -13,8 +13,8 @@ use Rattle.meaning.specs.Trie.{Tree, leaf, inner, Children, none, child, withou
 use Rattle.trie_laws.specs.Sound.{soundTrie, soundFrom, Stands, withPage, withoutPage}
 use Rattle.trie_laws.specs.Needed.{splits}
 use Rattle.trie_laws.specs.Path.{isLeaf, leaves}
-use Rattle.meaning.proofs.Lists.{and-first, and-second, not-so, any-append, count-append}
-use Rattle.trie_laws.proofs.Lists.{less, same, more, compared, holds, fails, truth, or-none, eqb-comm, any-count, all-count, count-none, all-any, each-all}
+use Rattle.meaning.proofs.Lists.{and-first, and-second, not-so, any-append, count-append, eqb-comm, each-all}
+use Rattle.trie_laws.proofs.Lists.{less, same, more, compared, holds, fails, truth, or-none, any-count, all-count, count-none, all-any}
 use Rattle.trie_laws.proofs.Distinct.{distinct-once, distinct-count}
 use Rattle.trie_laws.proofs.Leaf.{add-splits, add-stays}
 use Rattle.trie_laws.proofs.Sound.{inner-parts, child-parts}

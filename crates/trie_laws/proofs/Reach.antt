@@ -12,8 +12,8 @@ use Rattle.meaning.specs.Lists.{all, any, count}
 use Rattle.meaning.specs.Trie.{Tree, leaf, inner, Children, none, child, fresh, byteAt, nodes, nodesIn, pagesIn, pagesAmong}
 use Rattle.trie_laws.specs.Sound.{soundTrie, soundFrom}
 use Rattle.trie_laws.specs.Path.{has, childBy, hasBelow, below, hasPath, subtree, pathOf, follows, depth, depthIn}
-use Rattle.meaning.proofs.Lists.{and-intro, and-first, and-second, any-append, count-append, all-append}
-use Rattle.trie_laws.proofs.Lists.{holds, fails, truth, eqb-comm, any-count, any-none, all-both, all-true}
+use Rattle.meaning.proofs.Lists.{and-intro, and-first, and-second, any-append, count-append, all-append, eqb-comm}
+use Rattle.trie_laws.proofs.Lists.{holds, fails, truth, any-count, any-none, all-both, all-true}
 use Rattle.trie_laws.proofs.Sound.{SoundBelow, inner-parts, child-parts}
 use Rattle.trie_laws.proofs.Pages.{off-byte, off-bytes}
 use Rattle.trie_laws.proofs.Children.{drop-nodes, drop-count, child-sound}
@@ -21,7 +21,7 @@ use Rattle.trie_laws.proofs.Path.{path-parts, shift}
 
 -- ---- the longest path of a page's bytes
 module _ (bytesOf : ℕ → List ℕ) (p : ℕ) where
-  depth-child : (k : ℕ) (cs : Children) → depthIn bytesOf k p cs ≡
+  pub depth-child : (k : ℕ) (cs : Children) → depthIn bytesOf k p cs ≡
       cond (has (byteAt bytesOf k p) cs) (suc (depth bytesOf (suc k) p (childBy (byteAt bytesOf k p) cs))) 0
   unfolding depth has childBy
   depth-child k none = refl

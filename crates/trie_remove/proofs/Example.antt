@@ -2,9 +2,9 @@
 use Prim.Native.Nat.{ℕ, zero, suc, _+_, _≤_, _<_}
 use native.Mathlib.Omega.{arith}
 use mathlib.Core.Path.{_≡_, refl}
-use mathlib.Core.Bool.{Bool, true, false, cond, not, _&&_, false≢true}
+use mathlib.Core.Bool.{Bool, true, false, cond, not, _&&_}
 use mathlib.Core.List.{List, [], _∷_, _++_}
-use borrow.Author.Tests.{eqb-true}
+use borrow.Author.Tests.{eqb-true, not-true}
 use lib.Dec.{eqb, lit<, lit≤}
 use lib.ListN.{getD, replicate}
 use Rattle.meaning.specs.Lists.{all, any, count}
@@ -14,8 +14,8 @@ use Rattle.children.specs.Heap.{Cells, hit, nodeClaims, pageClaims, nil, node, 
 use Rattle.children.specs.Places.{placeFrom, findPlace}
 use Rattle.children.specs.Phys.{Phys, Buckets, tree, noHeads, cells, State, leafP, innerP, end, bucket, stop, link}
 use Rattle.trie_laws.specs.Sound.{filled, soundTrie}
-use Rattle.meaning.proofs.Lists.{and-first, and-second, count-append}
-use Rattle.trie_laws.proofs.Lists.{holds, fails, truth, eqb-comm, any-none}
+use Rattle.meaning.proofs.Lists.{and-first, and-second, count-append, eqb-comm}
+use Rattle.trie_laws.proofs.Lists.{holds, fails, truth, any-none}
 use Rattle.trie.specs.Descend.{descend, descendTo}
 use Rattle.trie.proofs.Arrival.{Leads, sound-leads}
 use Rattle.trie_remove.specs.declared.Removed.the-variants.{Done}
@@ -62,10 +62,6 @@ page-claims (xs ⊕ ys) a = omega (arith, count-append (eqb a) (pagesOf xs) (pag
 abbrev pub once : List ℕ → Bool
 once [] = true
 once (x ∷ xs) = not (any (eqb x) xs) && once xs
-
-not-true : (q : Bool) → not q ≡ true → q ≡ false
-not-true true h = absurd (false≢true h)
-not-true false h = refl
 
 pub once-count : (a : ℕ) (xs : List ℕ) → once xs ≡ true → count (eqb a) xs ≤ 1
 unfolding count

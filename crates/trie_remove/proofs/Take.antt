@@ -2,19 +2,20 @@
 use Prim.Native.Nat.{ℕ, _+_, _-_, _<_, _≤_}
 use native.Mathlib.Omega.{arith}
 use mathlib.Core.Path.{_≡_, refl, ap, _∙_, sym}
-use mathlib.Core.Bool.{true, false, cond, false≢true}
+use mathlib.Core.Bool.{true, false, false≢true}
 use mathlib.Core.List.{List, [], _∷_}
-use borrow.Author.Tests.{eq-eqb, ne-eqb, lt-ltb, eqb-true, eqb-false}
-use lib.Dec.{ltb, eqb}
+use borrow.Author.Tests.{eq-eqb, eqb-true, eqb-false}
+use lib.Dec.{eqb}
 use lib.ListN.{length, getD, set, length-set}
-use Rattle.meaning.specs.Lists.{all, any, count}
+use Rattle.meaning.specs.Lists.{any, count}
 use Rattle.meaning.specs.Trie.{without}
 use Rattle.children.specs.Heap.{Cells, hit, pageClaims, Heap, page, _⊕_}
 use Rattle.layout.specs.Tables.{PageTable}
 use Rattle.children.specs.Phys.{first, pageCells, Below}
-use Rattle.children.proofs.Frame.{Less, less, page-write}
-use Rattle.meaning.proofs.Lists.{and-intro}
-use Rattle.trie_laws.proofs.Lists.{holds, fails, truth, eqb-comm}
+use Rattle.children.proofs.Frame.{Less, less, page-write, hit-same}
+use Rattle.meaning.proofs.Lists.{and-intro, eqb-comm}
+use Rattle.trie_laws.proofs.Lists.{holds, fails, truth}
+use Rattle.children.proofs.Claims.{page-claims, below-all}
 use Rattle.trie_laws.proofs.Distinct.{distinct-once, distinct-below}
 use Rattle.trie_remove.specs.declared.Taken.{Taken}
 use Rattle.trie_remove.specs.declared.Taken.the-variants.{First, Inside, Missing, Broken}
@@ -22,30 +23,9 @@ use Rattle.trie_remove.specs.Take.{Took, takeFrom, takePage, took}
 use Rattle.trie_remove.proofs.Steps.{first-out, not-first, take-here, take-on}
 
 -- ---- each page of a chain stands in it once, so it has no more pages than there are
-hit-page : (base x y : ℕ) → hit (base + x) (base + y) ≡ cond (eqb y x) 1 0
-unfolding hit
-hit-page base x y = elim (truth (eqb y x)) [
-  | holds e ↦ rw (e, eq-eqb (base + x) (base + y) (ap (λ (z : ℕ). base + z) (sym (eqb-true y x e)))) refl
-  | fails e ↦ rw (e, ne-eqb (base + x) (base + y) (λ q. eqb-false y x e (omega arith))) refl
-]
-
-claims-count : (base y : ℕ) (ps : List ℕ) → pageClaims (pageCells base ps) (base + y) ≡ count (eqb y) ps
-unfolding count
-claims-count base y [] = refl
-claims-count base y (x ∷ ps) = omega (arith, hit-page base x y, claims-count base y ps)
-
-below-all : (m : ℕ) (ps : List ℕ) → Below m ps → all (λ x. ltb x m) ps ≡ true
-unfolding all
-below-all m [] h = refl
-below-all m (x ∷ ps) h = and-intro (ltb x m) (all (λ y. ltb y m) ps) (lt-ltb x m (h .0)) (below-all m ps (h .1))
-
-hit-same : (a : ℕ) → hit a a ≡ 1
-unfolding hit
-hit-same a = rw (eq-eqb a a refl)
-
 chain-short : (base : ℕ) (ps : List ℕ) {N P : List ℕ} {R : Cells} (m : ℕ) → Below m ps → Heap N P (pageCells base ps ⊕ R) → length ps ≤ m
 chain-short base ps m l h =
-    omega (arith, distinct-once (λ y. false) ps (λ y. omega (arith, h .pages (base + y), claims-count base y ps)), distinct-below m (λ y. false) ps (below-all m ps l))
+    omega (arith, distinct-once (λ y. false) ps (λ y. omega (arith, h .pages (base + y), page-claims base y ps)), distinct-below m (λ y. false) ps (below-all m ps l))
 
 first-below : (m : ℕ) (ps : List ℕ) → Below m ps → first ps ≤ m
 first-below m [] l = omega arith
@@ -104,7 +84,7 @@ module _ (pcap base p : ℕ) (N P : List ℕ) (t : PageTable pcap base P) (x f :
   behind-here rs {R} h =
       let g = less (apart base x p rs R) h in
       let v : getD P (base + p) 0 ≡ first rs = g .holds .1 .0 in
-      let o : count (eqb p) rs ≡ 0 = omega (arith, g .pages (base + p), claims-count base p rs, hit-same (base + p)) in
+      let o : count (eqb p) rs ≡ 0 = omega (arith, g .pages (base + p), page-claims base p rs, hit-same {a = base + p} {b = base + p} refl) in
       let w : without p (x ∷ p ∷ rs) ≡ x ∷ rs = without-other p x (p ∷ rs) e ∙ ap (λ (ys : List ℕ). x ∷ ys) (without-this p rs o) in
       record {
         pagesTo = set P (base + x) (first rs);
@@ -165,7 +145,7 @@ module _ (pcap base p : ℕ) {N P : List ℕ} (t : PageTable pcap base P) where
   take-first : (qs : List ℕ) {R : Cells} → Heap N P (pageCells base (p ∷ qs) ⊕ R) → Below pcap (p ∷ qs) → TakeDone N P base p (p ∷ qs) R (takePage P pcap base (p + 1) p)
   take-first qs h l =
       let v : getD P (base + p) 0 ≡ first qs = h .holds .0 .0 in
-      let o : count (eqb p) qs ≡ 0 = omega (arith, h .pages (base + p), claims-count base p qs, hit-same (base + p)) in
+      let o : count (eqb p) qs ≡ 0 = omega (arith, h .pages (base + p), page-claims base p qs, hit-same {a = base + p} {b = base + p} refl) in
       let w : without p (p ∷ qs) ≡ qs = without-this p qs o in
       record {
         pagesTo = P;

@@ -4,7 +4,7 @@ use mathlib.Core.Path.{_≡_, refl}
 use mathlib.Core.List.{List, [], _∷_, _++_}
 use lib.ListN.{replicate}
 use Rattle.meaning.specs.Sketch.{perByte, packedLength, blockStart, blockLength}
-use Rattle.meaning.specs.Ledger.{Settings}
+use Rattle.meaning.specs.Ledger.{settingsGiven, Settings}
 use Rattle.meaning.specs.Forest.{blockBytes}
 use Rattle.blocks.specs.Packed.{rowByte, pageByte, levelAt}
 use Rattle.trie.specs.Model.{spanFrom}
@@ -18,7 +18,7 @@ use Rattle.blocks.specs.RowBytes.{rowsOf}
 use Rattle.trie_room.specs.Needs.{distinctBytes, gapNeeds, leafNeeds, nodesNeeded}
 
 settings : Settings
-settings = record { bits = 2; symbols = 4; blocks = 1; pages = 2; nodes = 4; thresholds = [] }
+settings = settingsGiven 2 4 1 2 4 []
 
 -- chain words, states, heads: the root's first page is page 0, and nodes 1, 2 and 3 are free
 nodes : List ℕ

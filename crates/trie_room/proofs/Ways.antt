@@ -54,9 +54,6 @@ module _ (P S τ : List ℕ) (pcap base : ℕ) (r : Rows) (k link byte : ℕ) (q
 pub leaf-in : (N : List ℕ) (cap len : ℕ) (g : Reach) (n s k : ℕ) → g ≡ Leaf n s k → Inside N cap len g → (n < cap) × (1 < getD N (stateAt cap n) 0)
 leaf-in N cap len g n s k q h = let i : Inside N cap len (Leaf n s k) = rw q at h in (i .0, i .3)
 
-pub gap-in : (N : List ℕ) (cap len : ℕ) (g : Reach) (n s k : ℕ) → g ≡ Gap n s k → Inside N cap len g → k < len
-gap-in N cap len g n s k q h = let i : Inside N cap len (Gap n s k) = rw q at h in i .2
-
 -- `neededAt`
 module _ (P S τ : List ℕ) (pcap base : ℕ) (r : Rows) (Y N : List ℕ) (cap : ℕ) (g : Reach) where
   module _ (n s k : ℕ) (q : g ≡ Leaf n s k) where

@@ -1,11 +1,11 @@
-// The program: a journal from standard input, its lines to standard output. What a turn does is in crates/journal_calls.
-use journal_calls::turn::take_turn;
+// The program: a journal from standard input, its lines to standard output. What a turn does is in crates/journal_turns.
+use journal_turns::turn::take_turn;
 use libc::STDIN_FILENO;
 use libc::STDOUT_FILENO;
 ghost use Prim.Native.Nat.{_+_, _*_, _≤_};
 ghost use lib.ListN.{length};
 ghost use Rattle.promises.specs.Tables.{tables};
-ghost use Rattle.journal_calls.specs.Runs.{Ended, Completed};
+ghost use Rattle.journal_turns.specs.Runs.{Ended, Completed};
 
 // An output for all pages, and a line that lists them.
 const FOUND: usize = journal_calls::commands::PAGES as usize;

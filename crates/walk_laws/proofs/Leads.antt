@@ -15,11 +15,12 @@ use Rattle.layout.specs.Nodes.{linkOf, chainWord, headAt, linkBase, mostNodes}
 use Rattle.children.specs.Heap.{Holds}
 use Rattle.children.specs.Phys.{Phys, leafP, innerP, Buckets, end, bucket, Chain, stop, link, root, first, tree, childrenB, childrenC, pageCells, cells, cellsB, cellsC, Below, Sound, SoundB, SoundC}
 use Rattle.trie_laws.proofs.Lists.{less, same, more, compared}
+use Rattle.children.proofs.Claims.{root-below}
 use Rattle.descent.specs.declared.Cursor.{Cursor}
 use Rattle.descent.specs.Cursor.{ended, ahead, arrive}
 use Rattle.walk_laws.specs.Near.{near, nearB, nearC}
 use Rattle.walk_laws.proofs.Apart.{apart}
-use Rattle.walk_laws.proofs.Chains.{firstLink, slot-word, root-below, first-below, link-in, met-chain}
+use Rattle.walk_laws.proofs.Chains.{firstLink, slot-word, first-below, link-in, met-chain}
 use Rattle.walk_laws.proofs.Descent.{Led, led-end, led-within, arrive-leaf, arrive-inner, led-less, led-more, led-same}
 use Rattle.walk_laws.proofs.Spelt.{Spelt}
 use Rattle.walk_laws.proofs.Fit.{Fit, FitB, FitC, byte-small, unmet, unmet-past, none-near, none-near-past}

@@ -1,8 +1,8 @@
 -- What the maps say once pages are marked: the first has the old marks and the new ones, and the second map's invariant stays.
 use Prim.Native.Nat.{ℕ, _*_, _/_, _≤_, _<_}
 use native.Mathlib.Omega.{arith}
-use mathlib.Core.Path.{_≡_, refl, ap, _∙_}
-use mathlib.Core.Bool.{Bool, true, false, cond, _||_}
+use mathlib.Core.Path.{_≡_, refl, sym, ap, _∙_}
+use mathlib.Core.Bool.{Bool, true, false, cond, _||_, or-assoc, or-false}
 use mathlib.Core.List.{List, [], _∷_, _++_}
 use lib.Dec.{ltb, eqb}
 use lib.ListN.{length}
@@ -21,14 +21,6 @@ or-cond true true = refl
 or-cond true false = refl
 or-cond false true = refl
 or-cond false false = refl
-
-or-assoc : (s t u : Bool) → (s || t) || u ≡ s || (t || u)
-or-assoc true t u = refl
-or-assoc false t u = refl
-
-or-none : (s : Bool) → s ≡ s || false
-or-none true = refl
-or-none false = refl
 
 pub mark-append : (map : List ℕ) (words : ℕ) (ps qs : List ℕ) → markAll map words (ps ++ qs) ≡ markAll (markAll map words ps) words qs
 unfolding markAll
@@ -57,7 +49,7 @@ module _ (words cap : ℕ) (fits : cap ≤ 32 * words) where
   pub flag-marks : (map : List ℕ) (ps : List ℕ) (k : ℕ) → Room map words → all (λ p. ltb p cap) ps ≡ true → k < 32 * words
       → flag (markAll map words ps) 0 k ≡ flag map 0 k || any (eqb k) ps
   unfolding markAll all any
-  flag-marks map [] k r a l = or-none (flag map 0 k)
+  flag-marks map [] k r a l = sym (or-false (flag map 0 k))
   flag-marks map (p ∷ ps) k r a l =
       let here : p < cap = ltb-true p cap (and-first (ltb p cap) (all (λ q. ltb q cap) ps) a) in
       flag-marks (marked map words p) ps k (room-marked map words p r) (and-second (ltb p cap) (all (λ q. ltb q cap) ps) a) l

@@ -17,6 +17,7 @@ use Rattle.meaning.specs.Trie.{Children, none, met, metIn, nodes, nodesIn}
 use Rattle.layout.specs.Nodes.{linkOf, chainWord, headAt, stateAt, stepsFor, mostNodes, nodeSteps}
 use Rattle.children.specs.Heap.{Holds}
 use Rattle.children.specs.Phys.{Phys, leafP, innerP, Buckets, end, bucket, Chain, stop, link, root, first, tree, childrenB, childrenC, cells, cellsB, cellsC, Sound, SoundB, SoundC}
+use Rattle.children.proofs.Claims.{root-below}
 use Rattle.walk.specs.declared.frame.Frame.{Frame}
 use Rattle.walk.specs.Mark.{marks, markAll, onMarks}
 use Rattle.walk.specs.Frame.{entered, stepTo, stepIn}
@@ -26,7 +27,7 @@ use Rattle.walk_laws.specs.Near.{near, nearB, nearC}
 use Rattle.walk_laws.specs.Trail.{exactBelow, trail, trailFrom}
 use Rattle.walk_laws.proofs.Marks.{mark-append}
 use Rattle.walk_laws.proofs.Ran.{leaf-marks, exact-paid, reads-one, reads-none, Ran, ran-none, ran-then, ran-within, ran-to, ran-went, step-stay, step-leaf, step-exact, step-down, step-up, step-end, trail-end, trail-exact, trail-leaf, trail-inner}
-use Rattle.walk_laws.proofs.Chains.{firstLink, slot-word, root-below, first-below, link-in, step-chain, step-next, step-last, to-far, to-leaf, to-exact, to-inner, met-chain}
+use Rattle.walk_laws.proofs.Chains.{firstLink, slot-word, first-below, link-in, step-chain, step-next, step-last, to-far, to-leaf, to-exact, to-inner, met-chain}
 use Rattle.walk_laws.proofs.Fit.{Fit, FitB, FitC, byte-small}
 use Rattle.walk_laws.proofs.Leads.{stepsBelow, stepsAmong, stepsAlong, steps-below}
 use Rattle.walk_laws.proofs.Exact.{sub-marks, sub-near, sub-drew}

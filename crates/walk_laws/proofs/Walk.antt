@@ -8,7 +8,6 @@ use mathlib.Core.List.{List, [], _∷_, _++_}
 use lib.Dec.{ltb, leb}
 use lib.ListN.{length, getD}
 use lib.Bits.{bitXor}
-use borrow.Author.Tests.{lt-ltb}
 use Rattle.meaning.specs.Lists.{all, count}
 use Rattle.meaning.specs.Sketch.{perByte, byteDistance}
 use Rattle.meaning.specs.Trie.{Children, met, metIn, nodes}
@@ -16,6 +15,7 @@ use Rattle.meaning.proofs.Lists.{all-append, and-intro}
 use Rattle.layout.specs.Nodes.{mostNodes}
 use Rattle.children.specs.Heap.{Holds}
 use Rattle.children.specs.Phys.{Phys, leafP, innerP, Buckets, end, bucket, Chain, stop, link, root, tree, childrenB, childrenC, cells, Below, Sound, SoundB, SoundC}
+use Rattle.children.proofs.Claims.{below-all}
 use Rattle.trie_laws.specs.Sound.{soundTrie}
 use Rattle.walk.specs.Walk.{Given}
 use Rattle.walk_laws.specs.Near.{near, nearNodes, pathsIn, pathNear}
@@ -70,11 +70,6 @@ module _ (w : Given) (bytesOf : ℕ → List ℕ) (n : ℕ) (t : Phys) (radius :
       )
 
 -- ---- what is met is below the page capacity
-pub below-all : (pcap : ℕ) (ps : List ℕ) → Below pcap ps → all (λ p. ltb p pcap) ps ≡ true
-unfolding all
-below-all pcap [] h = refl
-below-all pcap (p ∷ ps) h = and-intro (ltb p pcap) (all (λ q. ltb q pcap) ps) (lt-ltb p pcap (h .0)) (below-all pcap ps (h .1))
-
 module _ (cap pcap b : ℕ) where
   abbrev small : List ℕ → Bool
   small ps = all (λ p. ltb p pcap) ps

@@ -6,11 +6,12 @@ use mathlib.Core.List.{List, [], _∷_}
 use Prim.Native.Nat.{ℕ, zero, suc, _+_, _-_, _*_, _/_, _%_, _^_, _≤_, _<_, max, suc-le-suc}
 use native.Mathlib.Nat.{pow-suc, div-one, le-div-iff-mul-le, zero-div}
 use native.Mathlib.Omega.{arith}
-use lib.Dec.{eqb, eqb·zero-suc, eqb·suc-zero, eqb·suc-suc}
+use lib.Dec.{ltb, eqb, eqb·zero-suc, eqb·suc-zero, eqb·suc-suc}
 use lib.Pow.{pow-pos, pow-mono, pow-lt, pow-add, shr-shr}
 use lib.Bits.{bitAnd, bitOr, and-high, or-step, or-shr, or-add-and, or-lt}
+use lib.Bits.{bitAnd, bitOr, and-high, and-step, or-step, and-shr, or-shr, or-add-and, or-lt, or-comm, and-le-r}
 use lib.ListN.{length, getD}
-use borrow.Author.Tests.{eqb-true, eqb-false, eq-eqb, ne-eqb}
+use borrow.Author.Tests.{ltb-true, ltb-false, eqb-true, eqb-false, lt-ltb, le-ltb, eq-eqb, ne-eqb}
 use Rattle.words.specs.Bits.{bit, withBit, rising, bitsOf, lowest, ones}
 use Rattle.words.proofs.Rising.{First, rising-none, rising-first, rising-length}
 
@@ -224,3 +225,17 @@ module _ (w : ℕ) (some : w ≢ 0) (fits : w < 2 ^ 32) where
 
   pub cut-lt : withBit w (lowest w) false < w
   cut-lt = omega (arith, rw lowest-set at (with-sum w (lowest w) false), pow-pos (lowest w))
+
+-- ---- the bits of two words together
+or-above : (a b : ℕ) → a ≤ bitOr a b
+or-above a b = omega (arith, or-add-and a b, and-le-r a b)
+
+-- two numbers have no bit above the lowest k exactly where their joined bits have none
+pub or-below : (k a b : ℕ) → ltb (bitOr a b) (2 ^ k) ≡ ltb a (2 ^ k) && ltb b (2 ^ k)
+or-below k a b = go (ltb a (2 ^ k)) refl (ltb b (2 ^ k)) refl
+  where
+    go : (s : Bool) → ltb a (2 ^ k) ≡ s → (t : Bool) → ltb b (2 ^ k) ≡ t → ltb (bitOr a b) (2 ^ k) ≡ s && t
+    go true e true f = lt-ltb (bitOr a b) (2 ^ k) (or-lt k a b (ltb-true a (2 ^ k) e) (ltb-true b (2 ^ k) f))
+    go true e false f =
+        le-ltb (bitOr a b) (2 ^ k) (omega (arith, ltb-false b (2 ^ k) f, or-above b a, or-comm a b))
+    go false e t f = le-ltb (bitOr a b) (2 ^ k) (omega (arith, ltb-false a (2 ^ k) e, or-above a b))

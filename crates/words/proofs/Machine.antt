@@ -16,7 +16,7 @@ use Rattle.words.proofs.Rising.{rising-map}
 
 -- ---- a shifted 1
 
-one-bit : (k : ℕ) → k < 32 → 1 * 2 ^ k % 2 ^ 32 ≡ 2 ^ k
+pub one-bit : (k : ℕ) → k < 32 → 1 * 2 ^ k % 2 ^ 32 ≡ 2 ^ k
 one-bit k h = shl-exact 1 k 32 (omega arith) (omega arith) ∙ one-mul (2 ^ k)
 
 -- ---- counts of zeros and ones, digit by digit from the lowest

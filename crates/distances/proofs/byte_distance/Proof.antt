@@ -7,33 +7,13 @@ use native.Mathlib.Omega.{arith}
 use lib.Dec.{eqb}
 use lib.ListN.{length, getD}
 use borrow.Author.Needs.{needs}
-use Rattle.meaning.specs.Lists.{count, upto, from}
-use Rattle.meaning.specs.Sketch.{byteDistance, group, perByte}
+use Rattle.meaning.specs.Sketch.{byteDistance}
+use Rattle.meaning.proofs.Lists.{upto-at}
 use Rattle.sketch.specs.Settings.{Bits}
 use Rattle.distances.specs.Table.{distanceTable}
-use Rattle.sketch.proofs.Runs.{length-from, map-upto-at}
-use Rattle.sketch.proofs.Width.{z-most}
-use Rattle.distances.proofs.byte_distance.Statement.{statement}
-use Rattle.distances.proofs.byte_distance.Tie as tie
-
-count-most : {A : Type 0} (p : A → Bool) (xs : List A) → count p xs ≤ length xs
-unfolding count
-count-most p [] = omega arith
-count-most p (x ∷ xs) = go (p x) (count-most p xs)
-  where
-    go : (t : Bool) → count p xs ≤ length xs → cond t 1 0 + count p xs ≤ suc (length xs)
-    go true h = omega arith
-    go false h = omega arith
-
-byte-distance-most : (b v : ℕ) → byteDistance b v ≤ 8
-unfolding byteDistance upto
-byte-distance-most b v =
-    omega (
-      arith,
-      count-most (λ (i : ℕ). not (eqb (group b v i) 0)) (from 0 (perByte b)),
-      length-from 0 (perByte b),
-      z-most b,
-    )
+use Rattle.sketch.proofs.Width.{byte-distance-most}
+use Rattle.sketch.proofs.table.byte_distance.Statement.{statement}
+use Rattle.sketch.proofs.table.byte_distance.Tie as tie
 
 entry : (b v : ℕ) → Bits b → v < 256 → getD distanceTable ((b - 1) * 256 + v) 0 ≡ byteDistance b v
 unfolding distanceTable
@@ -41,7 +21,7 @@ entry b v h hv =
     let k : ℕ = (b - 1) * 256 + v in
     let row : k / 256 + 1 ≡ b = omega arith in
     let place : k % 256 ≡ v = omega arith in
-    map-upto-at (λ (i : ℕ). byteDistance (i / 256 + 1) (i % 256)) 0 2048 k (omega arith)
+    upto-at (λ (i : ℕ). byteDistance (i / 256 + 1) (i % 256)) 2048 k 0 (omega arith)
     ∙ ap₂ byteDistance row place
 
 found : (c : tie.After-result)

@@ -1,7 +1,6 @@
 -- The program's tables are as long as `Roomy` asks, so that a run on them is complete.
 use borrow.Author.Needs.{needs}
-use Rattle.journal_calls.specs.Runs.{Roomy}
-use Rattle.journal_calls.proofs.Runs.{completes}
+use Rattle.journal_turns.proofs.Runs.{completes}
 use Rattle.vetchdawn.proofs.run.Statement.{statement}
 use Rattle.vetchdawn.proofs.run.Tie as tie
 

@@ -6,9 +6,9 @@ use mathlib.Core.List.{List, [], _++_}
 use native.Mathlib.Omega.{arith}
 use lib.ListN.{length}
 use Rattle.promises.specs.Tables.{Tables, tables}
-use Rattle.journal_calls.specs.Turns.{State, state, Turned}
-use Rattle.journal_calls.specs.Runs.{events, begins, turns, Ran}
-use Rattle.journal_calls.proofs.Turns.{turn-inside, turn-on}
+use Rattle.journal_turns.specs.Turns.{State, state, Turned}
+use Rattle.journal_turns.specs.Runs.{events, begins, turns, Ran}
+use Rattle.journal_turns.proofs.Turns.{turn-inside, turn-on}
 use Rattle.vetchdawn.proofs.run_on.Statement.{statement}
 use Rattle.vetchdawn.proofs.run_on.Tie as tie
 

@@ -11,7 +11,8 @@ use lib.ListN.{length, getD, take, drop, length-drop}
 use lib.Seq.{getD-drop}
 use Rattle.meaning.specs.Lists.{all}
 use Rattle.layout.specs.Settings.{settingsOf}
-use Rattle.layout.proofs.Tests.{all-more, or-below}
+use Rattle.words.proofs.Bits.{or-below}
+use Rattle.layout.proofs.Tests.{all-more}
 use Rattle.layout.proofs.Limits.{short}
 use Rattle.layout.proofs.settings.thresholds_fit.Statement.{statement}
 use Rattle.layout.proofs.settings.thresholds_fit.Tie as tie

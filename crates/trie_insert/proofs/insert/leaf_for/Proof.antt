@@ -3,9 +3,10 @@ use native.Mathlib.Omega.{arith}
 use mir.Syntax.{w8}
 use mir.Facts.{fits-widen}
 use Rattle.trie.proofs.Steps.{got-in}
-use Rattle.trie_insert.proofs.Steps.{leaf-node, gap-slot, gap-level, aim-leaf, aim-made, aim-full, aim-failed, aim-nowhere}
+use Rattle.trie_insert.proofs.Steps.{leaf-node, gap-slot, aim-leaf, aim-made, aim-full, aim-failed, aim-nowhere}
 use Rattle.trie_insert.proofs.insert.leaf_for.Statement.{statement}
 use Rattle.trie_insert.proofs.insert.leaf_for.Tie as tie
+use Rattle.trie.proofs.Inside.{gap-level}
 use borrow.Author.Needs.{needs}
 
 descend-to-requires : tie.Need-descend-to-requires

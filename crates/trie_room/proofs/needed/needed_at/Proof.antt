@@ -2,7 +2,8 @@
 use native.Mathlib.Omega.{arith}
 use Prim.Native.Nat.{_+_, _<_}
 use lib.ListN.{getD}
-use Rattle.trie_room.proofs.Ways.{leaf-in, gap-in, at-end, at-leaf, at-gap, at-none}
+use Rattle.trie.proofs.Inside.{gap-level}
+use Rattle.trie_room.proofs.Ways.{leaf-in, at-end, at-leaf, at-gap, at-none}
 use borrow.Author.Needs.{needs}
 use Rattle.trie_room.proofs.needed.needed_at.Statement.{statement}
 use Rattle.trie_room.proofs.needed.needed_at.Tie as tie
@@ -48,7 +49,7 @@ enum-known-reach-2 c = search needs
 add-gap-needs : tie.Need-add-gap-needs
 add-gap-needs c =
     let start = c .before .before .before .before .before .before .before .before in
-    omega (arith, gap-in _ _ _ _ _ _ _ (c .before .reach2 .given .1) (start .pre .1 .1 .1 .1 .1), start .pre .1 .1 .1 .1 .0, start .good)
+    omega (arith, gap-level _ _ _ _ _ _ _ (c .before .reach2 .given .1) (start .pre .1 .1 .1 .1 .1), start .pre .1 .1 .1 .1 .0, start .good)
 
 gap-needs-requires : tie.Need-gap-needs-requires
 gap-needs-requires c κs = search needs

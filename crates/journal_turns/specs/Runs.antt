@@ -1,5 +1,6 @@
 -- A run of the program over a journal: turns, as long as it goes on.
 use Prim.Native.Nat.{ℕ, _+_, _*_, _≤_}
+use mathlib.Core.Path.{_≡_}
 use mathlib.Core.Bool.{Bool, true, false, not}
 use mathlib.Core.List.{List, [], _∷_, _++_}
 use lib.ListN.{length}
@@ -9,7 +10,8 @@ use Rattle.layout.specs.Nodes.{nodeWords}
 use Rattle.layout.specs.Settings.{settingsLength}
 use Rattle.promises.specs.Tables.{Tables}
 use Rattle.history.specs.History.{event, History, Claim}
-use Rattle.journal_calls.specs.Turns.{pageCapacity, nodeCapacity, State, state, made, Turned, ends, refuses, carries}
+use Rattle.journal_calls.specs.Commands.{pageCapacity, nodeCapacity, made}
+use Rattle.journal_turns.specs.Turns.{State, state, Turned, ends, refuses, carries}
 
 -- the call that a turn made, for the ledger: none at the end, and none where 1 to 3 refuse
 abbrev pub events : {bytes : List ℕ} {s : State} {line : List ℕ} {going : Bool} {s′ : State} → Turned bytes s line going s′ → List Event
@@ -70,6 +72,8 @@ pub record Completed (bytes : List ℕ) (at : ℕ) : Type 0 where
   pub found′ : List ℕ
   pub roomy : Roomy before
   pub ended : Ended bytes before found after found′ at
-  -- with two calls or more it is a history of these calls, and the claim about histories holds of the tables that it leaves
-  pub history : 2 ≤ length (ended .ran .calls) → History (ended .ran .calls) after
-  pub claim : 2 ≤ length (ended .ran .calls) → Claim after (ledger (ended .ran .calls)) (forest (ended .ran .calls))
+  -- where its I was accepted it is a history of these calls, and the claim about histories holds of the tables that it leaves
+  pub history : opened (ended .ran .calls) ≡ true → History (ended .ran .calls) after
+  pub claim : opened (ended .ran .calls) ≡ true → Claim after (ledger (ended .ran .calls)) (forest (ended .ran .calls))
+  -- and with two calls or more it was
+  pub further : 2 ≤ length (ended .ran .calls) → opened (ended .ran .calls) ≡ true

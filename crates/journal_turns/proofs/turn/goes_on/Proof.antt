@@ -1,8 +1,8 @@
 -- `goes_on` tests the number.
 use mathlib.Core.Path.{refl}
-use Rattle.journal_calls.specs.Turns.{goesOn}
-use Rattle.journal_calls.proofs.turn.goes_on.Statement.{statement}
-use Rattle.journal_calls.proofs.turn.goes_on.Tie as tie
+use Rattle.journal_turns.specs.Turns.{goesOn}
+use Rattle.journal_turns.proofs.turn.goes_on.Statement.{statement}
+use Rattle.journal_turns.proofs.turn.goes_on.Tie as tie
 
 returns : tie.Need-returns
 unfolding goesOn

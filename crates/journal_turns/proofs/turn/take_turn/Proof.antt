@@ -4,9 +4,9 @@ use mathlib.Core.List.{[]}
 use native.Mathlib.Omega.{arith}
 use borrow.Author.Needs.{needs}
 use Rattle.journal.proofs.Steps.{symbols-there}
-use Rattle.journal_calls.proofs.Takes.{moved-to, take-ended, take-refused, take-carried}
-use Rattle.journal_calls.proofs.turn.take_turn.Statement.{statement}
-use Rattle.journal_calls.proofs.turn.take_turn.Tie as tie
+use Rattle.journal_turns.proofs.Takes.{moved-to, take-ended, take-refused, take-carried}
+use Rattle.journal_turns.proofs.turn.take_turn.Statement.{statement}
+use Rattle.journal_turns.proofs.turn.take_turn.Tie as tie
 
 read-requires : tie.Need-read-requires
 read-requires c κs = search needs

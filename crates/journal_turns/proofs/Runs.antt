@@ -15,11 +15,12 @@ use Rattle.promises.specs.Tables.{Tables}
 use Rattle.promises.specs.Relation.{Answer, Promised}
 use Rattle.history.specs.History.{History, event, Claim}
 use Rattle.history.proofs.Main.{theorem}
-use Rattle.journal_calls.specs.Turns.{State, state, made, goesOn, Carried, ends, refuses, carries}
-use Rattle.journal_calls.specs.Runs.{Run, begins, turns, opened, Roomy, Ended, Completed}
-use Rattle.journal_calls.proofs.Reading.{first-opens}
-use Rattle.journal_calls.proofs.Fits.{opens-or-4}
-use Rattle.journal_calls.proofs.Turns.{turn-none, turn-called, turn-begun}
+use Rattle.journal_calls.specs.Commands.{made}
+use Rattle.journal_turns.specs.Turns.{State, state, goesOn, Carried, ends, refuses, carries}
+use Rattle.journal_turns.specs.Runs.{Run, begins, turns, opened, Roomy, Ended, Completed}
+use Rattle.journal_turns.proofs.Reading.{first-opens}
+use Rattle.journal_turns.proofs.Fits.{opens-or-4}
+use Rattle.journal_turns.proofs.Turns.{turn-none, turn-called, turn-begun}
 
 none : List Event → Bool
 none [] = true
@@ -112,7 +113,7 @@ module _ {bytes : List ℕ} {T : Tables} {found : List ℕ} (long : Roomy T) whe
   going-opened (turns r line going s′ (refuses k e h)) g n = absurd (false≢true (sym (h .stops) ∙ g))
   going-opened (turns {es} {written} {s} r line going s′ (carries c to a e h)) g n = further bytes es s c to a e h g (λ n. standing T found long (not-begun r refl n)) (λ n. going-opened r refl n)
 
-  -- a run that has made two calls is a history: its I was accepted
+  -- a run that has made two calls: its I was accepted
   pub two-opened : {es : List Event} {written : List ℕ} {going : Bool} {s : State} → Run bytes T found es written going s → 2 ≤ length es → opened es ≡ true
   unfolding opened none
   two-opened begins l = absurd (omega arith)
@@ -120,10 +121,6 @@ module _ {bytes : List ℕ} {T : Tables} {found : List ℕ} (long : Roomy T) whe
   two-opened (turns r line going s′ (refuses n e h)) l = two-opened r l
   two-opened (turns {es = []} r line going s′ (carries c to a e h)) l = absurd (omega arith)
   two-opened (turns {es = x ∷ es} r line going s′ (carries c to a e h)) l = going-opened r refl refl
-
-  pub long-claim : {es : List Event} {written : List ℕ} {going : Bool} {s : State} → Run bytes T found es written going s → 2 ≤ length es
-      → Claim (s .tables) (ledger es) (forest es)
-  long-claim r l = run-claim r (two-opened r l)
 
   pub completes : {T′ : Tables} {found′ : List ℕ} {at : ℕ} → Ended bytes T found T′ found′ at → Completed bytes at
   completes {T′} {found′} e = record {
@@ -133,6 +130,7 @@ module _ {bytes : List ℕ} {T : Tables} {found : List ℕ} (long : Roomy T) whe
     found′ = found′;
     roomy = long;
     ended = e;
-    history = λ l. is-history (e .ran .run) (two-opened (e .ran .run) l);
-    claim = λ l. long-claim (e .ran .run) l;
+    history = is-history (e .ran .run);
+    claim = run-claim (e .ran .run);
+    further = two-opened (e .ran .run);
   }

@@ -9,8 +9,9 @@ use Rattle.meaning.specs.Journal.{Command, opens, callOf}
 use Rattle.promises.specs.Tables.{Tables}
 use Rattle.promises.specs.Relation.{Answer, Promised}
 use Rattle.history.specs.History.{History, begun, called, event}
-use Rattle.journal_calls.specs.Turns.{State, made, goesOn, Stopped, Carried, Turned, ends, refuses, carries}
-use Rattle.journal_calls.proofs.Reading.{moves-on}
+use Rattle.journal_calls.specs.Commands.{made}
+use Rattle.journal_turns.specs.Turns.{State, goesOn, Stopped, Carried, Turned, ends, refuses, carries}
+use Rattle.journal_turns.proofs.Reading.{moves-on}
 
 -- at the end, and where 1 to 3 refuse, there is no call
 pub turn-none : {s : State} {written line : List ℕ} {going : Bool} {s′ : State} → Stopped s written line going s′ → s′ .tables ≡ s .tables

@@ -1,33 +1,15 @@
 -- A turn of the program: what stands at the offset is read and, where it is a command, carried out on the tables.
-use Prim.Native.Nat.{ℕ, _≤_}
+use Prim.Native.Nat.{ℕ}
 use mathlib.Core.Path.{_≡_}
-use mathlib.Core.Bool.{Bool, true, false, cond, not}
+use mathlib.Core.Bool.{Bool, false, cond, not}
 use mathlib.Core.List.{List, []}
 use lib.Dec.{eqb}
-use lib.ListN.{length, take}
-use Rattle.meaning.specs.Journal.{Command, callOf, ifSearch, next, ended, refused, command-to, searchLine, refusalLine}
-use Rattle.meaning.specs.Ledger.{Call, ifOpening}
+use lib.ListN.{take}
+use Rattle.meaning.specs.Journal.{Command, ifSearch, next, ended, refused, command-to, searchLine, refusalLine}
+use Rattle.meaning.specs.Ledger.{ifOpening}
 use Rattle.promises.specs.Tables.{Tables}
 use Rattle.promises.specs.Relation.{Answer, Promised}
-
--- the program's capacities
-abbrev pub pageCapacity : ℕ
-pageCapacity = 512
-
-abbrev pub nodeCapacity : ℕ
-nodeCapacity = 1024
-
--- the call that a command makes: `found` is the output of searches
-abbrev pub made : List ℕ → Command → Call
-made found c = callOf pageCapacity nodeCapacity found c
-
--- a number, a count and the output afterwards
-abbrev pub answer : ℕ → ℕ → List ℕ → Answer
-answer number count list = record { number = number; count = count; list = list; yes = true }
-
--- the output of searches after a command
-unfoldable pub foundAfter : Command → List ℕ → List ℕ → List ℕ
-foundAfter c list found = ifSearch c (λ r. list) found
+use Rattle.journal_calls.specs.Commands.{made, foundAfter}
 
 -- m after a command: an opening gives it
 unfoldable pub symbolsAfter : Command → ℕ → ℕ
@@ -44,13 +26,6 @@ lineOf at c a = cond (eqb (a .number) 0) (listing c a) (refusalLine at (a .numbe
 -- after 4 the program stops; 1 to 3 are no call's
 unfoldable pub goesOn : ℕ → Bool
 goesOn number = not (eqb number 4)
-
--- a command, carried out on the tables T with this output
-pub record Executed (c : Command) (T : Tables) (found : List ℕ) (number count : ℕ) (T′ : Tables) (found′ : List ℕ) : Type 0 where
-  pub promised : Promised (made found c) T (answer number count found′) T′
-  pub output : found′ ≡ foundAfter c found′ found
-  -- an accepted search has its list inside the output
-  pub inside : number ≡ 0 → count ≤ length found′
 
 -- where the program stands: its tables, the output of searches, the offset reached, and m
 pub record State : Type 0 where

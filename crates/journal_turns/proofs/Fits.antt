@@ -8,7 +8,7 @@ use native.Mathlib.Omega.{arith}
 use lib.ListN.{length, replicate}
 use borrow.Author.Tests.{le-leb}
 use Rattle.meaning.specs.Refusal.{firstNo}
-use Rattle.meaning.specs.Ledger.{Settings, opening}
+use Rattle.meaning.specs.Ledger.{Settings, opening, settingsGiven}
 use Rattle.meaning.specs.Questions.{inLimits, asked}
 use Rattle.meaning.specs.Journal.{opens, callOf}
 use Rattle.layout.specs.Settings.{settingsLength}
@@ -18,10 +18,9 @@ use Rattle.layout.specs.Working.{mapWords, summaryWords}
 use Rattle.layout.proofs.Limits.{bounds}
 use Rattle.promises.specs.Tables.{Tables}
 use Rattle.promises.specs.Answers.{longNodes, longPages, longWorking, longFor, longSettings, entered, number}
-use Rattle.promises.specs.Calls.{settingsGiven}
 use Rattle.promises.specs.Relation.{Answer, Promised}
-use Rattle.journal_calls.specs.Turns.{pageCapacity, nodeCapacity, made}
-use Rattle.journal_calls.specs.Runs.{nodesLent, workingLent, Roomy}
+use Rattle.journal_calls.specs.Commands.{pageCapacity, nodeCapacity, made}
+use Rattle.journal_turns.specs.Runs.{nodesLent, workingLent, Roomy}
 
 module _ (T : Tables) (r : Roomy T) (b m q t : ℕ) where
   abbrev s : Settings

@@ -5,13 +5,13 @@ ghost use mathlib.Core.Bool.{cond};
 ghost use lib.ListN.{length, take};
 ghost use lib.Seq.{sets};
 ghost use Rattle.promises.specs.Tables.{tables};
-ghost use Rattle.journal_calls.specs.Turns.{goesOn, state, Turned};
-use crate::commands::execute;
+ghost use Rattle.journal_turns.specs.Turns.{goesOn, state, Turned};
 use crate::lines::command_line;
 use crate::lines::symbols_after;
 use journal::commands::Step;
 use journal_lines::refusal_line;
 use journal::reading::read;
+use journal_calls::commands::execute;
 
 // Settings, capacities or the count of thresholds are out of the limits.
 const LIMITS: u32 = 4;

@@ -1,0 +1,59 @@
+-- What the cells of a trie claim: the links of the pages in a chain, once for each time that a page stands there, and the heads of a node;
+-- and what a sound trie's numbers are below.
+use Prim.Native.Nat.{ℕ, zero, suc, _+_, _≤_, _<_}
+use native.Mathlib.Nat.{add-zero}
+use native.Mathlib.Numerals.{towards-suc}
+use native.Mathlib.Omega.{arith}
+use mathlib.Core.Path.{_≡_, refl}
+use mathlib.Core.Bool.{Bool, true, false, cond}
+use mathlib.Core.List.{List, [], _∷_}
+use lib.Dec.{ltb, eqb}
+use borrow.Author.Tests.{eqb-true, eqb-false, lt-ltb}
+use Rattle.meaning.specs.Lists.{all, count}
+use Rattle.meaning.proofs.Lists.{and-intro}
+use Rattle.layout.specs.Nodes.{headAt}
+use Rattle.children.specs.Heap.{hit, nodeClaims, pageClaims}
+use Rattle.children.specs.Phys.{Phys, leafP, innerP, root, pageCells, noHeads, Below, Sound}
+use Rattle.children.proofs.Frame.{hit-same, hit-other}
+
+-- ---- the links of pages
+
+-- the same page, or the same link
+hit-page : (base p x : ℕ) → hit (base + p) (base + x) ≡ cond (eqb x p) 1 0
+hit-page base p x = go (eqb x p) refl
+  where
+    go : (t : Bool) → eqb x p ≡ t → hit (base + p) (base + x) ≡ cond t 1 0
+    go true e = hit-same {a = base + x} {b = base + p} (omega (arith, eqb-true x p e))
+    go false e = hit-other {a = base + x} {b = base + p} (λ q. eqb-false x p e (omega arith))
+
+pub page-claims : (base x : ℕ) (ps : List ℕ) → pageClaims (pageCells base ps) (base + x) ≡ count (eqb x) ps
+unfolding count
+page-claims base x [] = refl
+page-claims base x (p ∷ ps) = omega (arith, hit-page base p x, page-claims base x ps)
+
+-- ---- the heads of a node
+
+-- how often a word is among n from k on
+unfoldable pub among : ℕ → ℕ → ℕ → ℕ
+among k zero a = 0
+among k (suc n) a = hit k a + among (suc k) n a
+
+pub among-out : (k n a : ℕ) → (k ≤ a → k + n ≤ a) → among k n a ≡ 0
+unfolding among
+among-out k zero a h = refl
+among-out k (suc n) a h =
+    omega (arith, hit-other {a = a} {b = k} (λ e. omega (arith, h (omega arith))), among-out (suc k) n a (λ l. omega (arith, h (omega arith))))
+
+pub heads : (cap n a : ℕ) → nodeClaims (noHeads cap n) a ≡ among (headAt cap n 0) 8 a
+unfolding noHeads among
+heads cap n a = simp (towards-suc, add-zero)
+
+-- ---- numbers in a sound trie
+pub root-below : (cap pcap : ℕ) (t : Phys) → Sound cap pcap t → root t < cap
+root-below cap pcap (leafP n ps) s = s .0
+root-below cap pcap (innerP n bs) s = s .0
+
+pub below-all : (pcap : ℕ) (ps : List ℕ) → Below pcap ps → all (λ p. ltb p pcap) ps ≡ true
+unfolding all
+below-all pcap [] h = refl
+below-all pcap (p ∷ ps) h = and-intro (ltb p pcap) (all (λ q. ltb q pcap) ps) (lt-ltb p pcap (h .0)) (below-all pcap ps (h .1))

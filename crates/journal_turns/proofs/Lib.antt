@@ -1,0 +1,6 @@
+pub mod Same
+pub mod Reading
+pub mod Fits
+pub mod Turns
+pub mod Runs
+pub mod Takes
