@@ -8,10 +8,10 @@ ghost use Rattle.distances.specs.Table.{distanceTable};
 ghost use Rattle.blocks.specs.RowBytes.{reduced};
 ghost use Rattle.signature.specs.Signature.{signature, signatureDistance};
 use blocks::packed::row_byte;
+use distances::byte_distance;
 use sketch::limits::packed_length;
 use sketch::limits::per_byte;
 use sketch::packing::symbols_at;
-use distances::byte_distance;
 
 // The signature of a row of symbols, each taken modulo 2^b, so that any row has one; symbols in range stay as they are.
 // From the last packed byte to the first: the word is rotated by a byte, and the byte goes into its lowest.
