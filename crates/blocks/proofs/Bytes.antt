@@ -12,8 +12,6 @@ use Rattle.blocks.specs.declared.Rows.{Rows}
 use Rattle.blocks.specs.Tables.{SketchTable, RowTable}
 use Rattle.blocks.specs.Packed.{rowByte, pageByte, levelAt}
 use Rattle.words.proofs.Machine.{one-bit}
-use Rattle.trie.specs.declared.Level.{Level}
-use Rattle.trie.specs.declared.Rows.{Rows}
 
 pub row-below : (b : ℕ) (S : List ℕ) (i n : ℕ) → rowByte b S i n < 2 ^ (b * n)
 unfolding rowByte

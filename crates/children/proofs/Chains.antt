@@ -38,7 +38,7 @@ module _ (cap base : ℕ) where
 module _ (cap pcap base : ℕ) (small : cap ≤ mostNodes) where
   pub link-below : (ch : Chain) (lo hi : ℕ) → SoundC cap pcap ch lo hi → linkC ch ≤ cap
   link-below stop lo hi g = omega arith
-  link-below (link b t ch) lo hi g = omega (arith, root-below cap pcap base small t (g .2))
+  link-below (link b t ch) lo hi g = omega (arith, root-below cap pcap t (g .2))
 
   pub past : (ch : Chain) (b hi : ℕ) → starts ch b ≡ false → SoundC cap pcap ch b hi → SoundC cap pcap ch (suc b) hi
   past stop b hi e g = tt

@@ -17,8 +17,6 @@ use Rattle.children.specs.Phys.{Phys, Buckets, Chain, root, tree, childr
 use Rattle.children.proofs.Frame.{Same, same-trans, same-right, same-left, same-assoc, same-swap}
 use Rattle.children.proofs.Abstract.{Skips, Above, Leaves, leaves-next}
 use Rattle.children.proofs.Steps.{place-none, place-go, place-found, place-past}
-use Rattle.trie.specs.declared.place.Place.{Place}
-use Rattle.trie.specs.declared.place.Place.the-variants.{Found, Missing}
 use Rattle.children.proofs.Claims.{root-below}
 
 -- whether a chain begins with a byte

@@ -1,7 +1,6 @@
 -- z symbols of b bits fit a byte.
 use mathlib.Core.Path.{_≡_, _∙_}
 use mathlib.Core.Bool.{not}
-use mathlib.Core.Path.{_≡_}
 use Prim.Native.Nat.{ℕ, suc, _+_, _-_, _*_, _%_, _^_, _<_, _≤_}
 use native.Mathlib.Nat.{lt-div-mul-add, le-trans, mul-le-mul-left, div-le-self, le-div-iff-mul-le, mul-div-le}
 use native.Mathlib.Omega.{arith}

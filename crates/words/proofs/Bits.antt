@@ -1,6 +1,6 @@
 -- Laws of the bits of a word. What holds at any width n is stated over n; a word of a table has the width 32.
 use mathlib.Core.Path.{_≡_, refl, sym, ap, ap₂, _∙_}
-use mathlib.Core.Bool.{Bool, true, false, cond, _||_}
+use mathlib.Core.Bool.{Bool, true, false, cond, _||_, _&&_}
 use mathlib.Core.Logic.{_≢_}
 use mathlib.Core.List.{List, [], _∷_}
 use Prim.Native.Nat.{ℕ, zero, suc, _+_, _-_, _*_, _/_, _%_, _^_, _≤_, _<_, max, suc-le-suc}
@@ -8,8 +8,7 @@ use native.Mathlib.Nat.{pow-suc, div-one, le-div-iff-mul-le, zero-div}
 use native.Mathlib.Omega.{arith}
 use lib.Dec.{ltb, eqb, eqb·zero-suc, eqb·suc-zero, eqb·suc-suc}
 use lib.Pow.{pow-pos, pow-mono, pow-lt, pow-add, shr-shr}
-use lib.Bits.{bitAnd, bitOr, and-high, or-step, or-shr, or-add-and, or-lt}
-use lib.Bits.{bitAnd, bitOr, and-high, and-step, or-step, and-shr, or-shr, or-add-and, or-lt, or-comm, and-le-r}
+use lib.Bits.{bitAnd, bitOr, and-high, or-step, or-shr, or-add-and, or-lt, and-step, and-shr, or-comm, and-le-r}
 use lib.ListN.{length, getD}
 use borrow.Author.Tests.{ltb-true, ltb-false, eqb-true, eqb-false, lt-ltb, le-ltb, eq-eqb, ne-eqb}
 use Rattle.words.specs.Bits.{bit, withBit, rising, bitsOf, lowest, ones}

@@ -12,8 +12,8 @@ use Rattle.meaning.proofs.Lists.{upto-at}
 use Rattle.sketch.specs.Settings.{Bits}
 use Rattle.distances.specs.Table.{distanceTable}
 use Rattle.sketch.proofs.Width.{byte-distance-most}
-use Rattle.sketch.proofs.table.byte_distance.Statement.{statement}
-use Rattle.sketch.proofs.table.byte_distance.Tie as tie
+use Rattle.distances.proofs.byte_distance.Statement.{statement}
+use Rattle.distances.proofs.byte_distance.Tie as tie
 
 entry : (b v : ℕ) → Bits b → v < 256 → getD distanceTable ((b - 1) * 256 + v) 0 ≡ byteDistance b v
 unfolding distanceTable
