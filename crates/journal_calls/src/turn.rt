@@ -10,8 +10,8 @@ use crate::commands::execute;
 use crate::lines::command_line;
 use crate::lines::symbols_after;
 use journal::commands::Step;
-use journal_lines::refusal_line;
 use journal::reading::read;
+use journal_lines::refusal_line;
 
 // Settings, capacities or the count of thresholds are out of the limits.
 const LIMITS: u32 = 4;
