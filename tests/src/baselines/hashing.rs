@@ -17,7 +17,7 @@ struct Table {
     width: usize,
     slots: Vec<Slot>,
     pages: Vec<u16>,
-    /// a bit for each hash of some more bits: most keys that no page has are told by it
+    /// eight bits a slot, set by hash: tells most of the keys that no page has
     filter: Vec<u64>,
 }
 

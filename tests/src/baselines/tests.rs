@@ -1,9 +1,9 @@
-//! Each way against the plain index: equal lists, and the trie's trees equal to the plain ones.
+//! Each way against the plain index: equal lists, the trie's trees equal to the plain ones, and no page tested that need not be.
 use super::{Hashing, Pages, Planes, Pointers, Way};
 use crate::random::Random;
 use crate::stores::{small_settings, Sketches};
 use crate::tables::Settings;
-use crate::trees::Index;
+use crate::trees::{Index, Node};
 
 /// An index without a bound on nodes, with some classes open to reader 0.
 fn index(random: &mut Random) -> (Settings, Index, u64) {
@@ -21,10 +21,37 @@ fn wanted(plain: &Index, radius: u32, query: &[u8]) -> Vec<u16> {
     plain.search(0, radius, query).unwrap().into_iter().map(|p| p as u16).collect()
 }
 
-fn listed(way: &mut dyn Way, open: u64, radius: u32, query: &[u8]) -> Vec<u16> {
+/// The list, and how many pages were tested for it.
+fn listed(way: &mut dyn Way, open: u64, radius: u32, query: &[u8]) -> (Vec<u16>, usize) {
     let mut out = Vec::new();
-    way.search(open, radius, query, &mut out);
-    out
+    let tested = way.search(open, radius, query, &mut out);
+    (out, tested)
+}
+
+fn differ(x: &[u8], y: &[u8]) -> u32 {
+    x.iter().zip(y).filter(|(a, b)| a != b).count() as u32
+}
+
+/// How many pages the leaves have that a walk comes to, from the block's packed bytes of a query.
+fn met(node: &Node, b: u32, bytes: &[u8], left: u32) -> usize {
+    let children = match node {
+        Node::Leaf(pages) => return pages.len(),
+        Node::Inner(children) => children,
+    };
+    let groups = |v: u8| (0..8 / b).filter(|i| u32::from(v) >> (i * b) & ((1 << b) - 1) != 0).count() as u32;
+    let near = children.iter().map(|(&byte, child)| (groups(byte ^ bytes[0]), child)).filter(|(d, _)| *d <= left);
+    near.map(|(d, child)| met(child, b, &bytes[1..], left - d)).sum()
+}
+
+/// How many pages have the block within r / q of a query's, counted in each block.
+fn near_blocks(plain: &Index, radius: u32, query: &[u8]) -> usize {
+    let q = plain.trees.len();
+    let near = |j: usize| {
+        let (start, n) = plain.block(j);
+        let rows = plain.rows.values().filter(|row| differ(&row.sketch[start..start + n], &query[start..start + n]) <= radius / q as u32);
+        rows.count()
+    };
+    (0..q).map(near).sum()
 }
 
 /// A radius with few enough keys for hashing.
@@ -54,9 +81,12 @@ fn scans_and_hashing_list_what_the_plain_index_lists() {
         for _ in 0..5 {
             let (radius, query) = (radius(random, &s), sketches.near(random, 4));
             let lists = wanted(&plain, radius, &query);
-            assert_eq!(listed(&mut &packed, open, radius, &query), lists, "packed rows, {s:?}");
-            assert_eq!(listed(&mut planes, open, radius, &query), lists, "planes, {s:?}");
-            assert_eq!(listed(&mut hashing, open, radius, &query), lists, "hashing, {s:?}");
+            assert_eq!(listed(&mut &packed, open, radius, &query).0, lists, "packed rows, {s:?}");
+            assert_eq!(listed(&mut planes, open, radius, &query).0, lists, "planes, {s:?}");
+            let (list, tested) = listed(&mut hashing, open, radius, &query);
+            assert_eq!(list, lists, "hashing, {s:?}");
+            let (near, folded) = (near_blocks(&plain, radius, &query), s.m.div_ceil(s.q) * s.b.next_power_of_two() > 64);
+            assert!(tested == near || folded && tested > near, "{tested} tested of {near}, {s:?}");
         }
     }
 }
@@ -82,7 +112,8 @@ fn the_pointer_trie_has_the_plain_trees_and_lists() {
         }
         for _ in 0..5 {
             let (radius, query) = (random.below(u64::from(s.m) + 1) as u32, sketches.near(random, 4));
-            assert_eq!(listed(&mut trie, open, radius, &query), wanted(&plain, radius, &query), "{s:?}");
+            let met = plain.trees.iter().enumerate().map(|(j, tree)| met(tree, s.b, &plain.packed(j, &query), radius / s.q)).sum();
+            assert_eq!(listed(&mut trie, open, radius, &query), (wanted(&plain, radius, &query), met), "{s:?}");
         }
     }
 }

@@ -121,17 +121,19 @@ fn line(c: &Case, ways: &mut [Option<Box<dyn Way + '_>>; WAYS], queries: &[Vec<u
     Line { times: times.map(mean), tested: tested.map(each), listed: each(listed) }
 }
 
-const HEAD: &str = "    n b  m r q sketches   row    met   hash listed  library    trie hashing    rows  planes   /trie  /hash  /scan";
+const HEAD: &str = "    n b  m r q sketches   row    met   hash listed  library     trie  hashing     rows   planes   /trie  /hash  /scan";
 
 fn print(c: &Case, row: usize, line: &Line) {
     let sketches = if c.clustered { "clustered" } else { "random" };
-    let shown = |x: f64, digits: usize| if x.is_nan() { format!(" {:>6}", "-") } else { format!(" {x:6.digits$}") };
+    let shown = |x: f64, width: usize, digits: usize| if x.is_nan() { format!(" {:>width$}", "-") } else { format!(" {x:width$.digits$}") };
     let [library, trie, hashing, rows, planes] = line.times;
     let hashed = if hashing.is_nan() { hashing } else { line.tested[2] };
     print!("{:5} {} {:2} {} {} {sketches:9} {row:4}", c.n, c.b, c.m, c.r, c.q);
-    print!("{}{}{} ", shown(line.tested[1], 1), shown(hashed, 1), shown(line.listed, 1));
-    line.times.iter().for_each(|&t| print!(" {}", shown(t, 2)));
-    println!(" {}{}{}", shown(library / trie, 2), shown(library / hashing, 2), shown(library / rows.min(planes), 2));
+    [line.tested[1], hashed, line.listed].iter().for_each(|&pages| print!("{}", shown(pages, 6, 1)));
+    line.times.iter().for_each(|&time| print!("{}", shown(time, 8, 2)));
+    print!(" ");
+    [trie, hashing, rows.min(planes)].iter().for_each(|other| print!("{}", shown(library / other, 6, 2)));
+    println!();
 }
 
 fn head() {
