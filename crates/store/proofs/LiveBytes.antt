@@ -7,7 +7,7 @@ use mathlib.Core.Logic.{_≢_}
 use mathlib.Core.List.{List, _∷_}
 use borrow.Author.Tests.{eqb-true, eqb-false, ltb-true}
 use lib.Dec.{ltb, eqb}
-use Rattle.meaning.specs.Ledger.{Settings, Row}
+use Rattle.meaning.specs.Ledger.{Settings, Row, row}
 use Rattle.meaning.specs.Forest.{bytesOfSketch, bytesIn}
 use Rattle.meaning.proofs.Lists.{and-first, and-second}
 use Rattle.layout.specs.Pages.{isLive}
