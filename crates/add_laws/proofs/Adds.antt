@@ -36,10 +36,11 @@ use Rattle.add_laws.specs.declared.Inserted.{Inserted}
 use Rattle.add_laws.specs.declared.Inserted.the-variants.{Free}
 use Rattle.add_laws.specs.declared.Inserted.the-variants as insertion
 use Rattle.entry.specs.Admission.{admission}
+use Rattle.entry.proofs.Admits.{admission-refused}
 use Rattle.add_laws.specs.Room.{roomOf}
 use Rattle.add_laws.specs.Insert.{Filled, filled, insertAll}
 use Rattle.add_laws.specs.Add.{rowAdded, pageAdded, onFilled, putPage, onRoom, placePage, onOpening, addPage}
-use Rattle.add_laws.proofs.Passed.{Passed, passed, told-shown, told-refused, asked-12, asked-ahead, row-fits, lent-row}
+use Rattle.add_laws.proofs.Passed.{Passed, passed, told-shown, asked-12, asked-ahead, row-fits, lent-row}
 use Rattle.add_laws.proofs.Kept.{KeptF, all-kept}
 use Rattle.add_laws.proofs.Question12.{room-right}
 use Rattle.add_laws.proofs.KeepsAsked.{room12}
@@ -214,7 +215,7 @@ module _ (T : Tables) (p c : ℕ) (x : List ℕ) where
     where
       go : (o : Opening) → admission T (add p c x) ≡ o → Keeps (onOpening T p c x o)
       go (Shown h) e = place-keeps (told-shown T p c x h e .0)
-      go (Refused n) e = let r = told-refused T p c x n e in promise-early n (r .0) (r .1)
+      go (Refused n) e = let r = admission-refused T (add p c x) n e in promise-early n (r .0) (r .1)
 
   -- the two parts of the contract
   pub add-promise : (n : ℕ) (T' : Tables) → outcome n T' ≡ addPage T p c x → AddPromise T p c x n T' × (outcome n T' ≡ addPage T p c x)

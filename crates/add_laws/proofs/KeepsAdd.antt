@@ -127,7 +127,7 @@ module _ (T : Tables) (F : List Tree) (sound : Sound T F) (p c : ℕ) (x : List 
     words = rw given-same (G .words);
     blocks = rw given-same count-after;
     roots = rw given-same (G .roots);
-    chain = getD-set-same (T .settings) freeAt (G .link) 0 (omega (arith, a .settings-long)) ∙ G .chain;
+    chain = getD-set-same (T .settings) freeAt (G .link) 0 (omega (arith, a .opened .long)) ∙ G .chain;
     below = rw given-same (G .below);
     all = rw given-same (G .all);
   }

@@ -1,35 +1,31 @@
 -- What an add that no question refuses tells: of the opening, the tables, the page and the sketch.
 use Prim.Native.Nat.{ℕ, _≤_, _<_}
 use native.Mathlib.Omega.{arith}
-use mathlib.Core.Path.{_≡_, refl, sym, _∙_}
-use mathlib.Core.Bool.{Bool, true, false, _&&_, not, and-false}
-use mathlib.Core.List.{List, [], _∷_}
-use borrow.Author.Tests.{ltb-true, leb-true, eqb-true, not-true}
+use mathlib.Core.Path.{_≡_, refl, sym, ap, _∙_}
+use mathlib.Core.Bool.{Bool, true, false, and-false}
+use mathlib.Core.List.{List, [], _∷_, _++_}
+use borrow.Author.Tests.{ltb-true, leb-true, le-leb, eqb-true, not-true}
 use lib.Dec.{ltb, leb, eqb}
-use lib.ListN.{length, getD}
+use lib.ListN.{length}
+use Rattle.meaning.specs.Lists.{sum}
 use Rattle.meaning.specs.Refusal.{Question, ask, firstNo}
 use Rattle.meaning.specs.Sketch.{inRange}
 use Rattle.meaning.specs.Trie.{Tree}
 use Rattle.meaning.specs.Ledger.{add}
-use Rattle.meaning.specs.Forest.{forestAfter, totalNodes}
-use Rattle.meaning.specs.Questions.{inLimits, asked}
-use Rattle.layout.specs.Settings.{mark, settingsLength, showsOpening}
+use Rattle.meaning.specs.Forest.{eachFrom, forestAfter, totalNodes}
+use Rattle.meaning.specs.Questions.{asked}
+use Rattle.layout.specs.declared.Header.{Header}
 use Rattle.layout.specs.Header.{headerOf}
-use Rattle.layout.specs.Limits.{Bounds}
-use Rattle.layout.specs.Lengths.{nodesLength, pagesLength, sketchesLength}
 use Rattle.layout.specs.Pages.{isLive}
-use Rattle.layout.proofs.Tests.{and-left, and-right}
-use Rattle.layout.proofs.Limits.{bounds}
 use Rattle.promises.specs.Tables.{Tables, given, rowsOf, byTables}
-use Rattle.promises.specs.Answers.{number, entered, shown56, longSettings, longFor, longNodes, longPages}
+use Rattle.promises.specs.Answers.{number, entered, shown56, longSettings, longFor}
 use Rattle.promises.specs.Sound.{livePage}
-use Rattle.entry.proofs.Questions.{all-yes}
-use Rattle.layout.specs.Tables.{Lent}
+use Rattle.entry.specs.Entry.{storeAsked, pageAsked}
+use Rattle.entry.proofs.Questions.{all-yes, none-first, pass-first}
+use Rattle.entry.proofs.Admits.{Opened, opened}
 
 pub record Accepted (T : Tables) (F : List Tree) (p c : ℕ) (x : List ℕ) : Type 0 where
-  pub settings-long : settingsLength ≤ length (T .settings)
-  pub lent : Lent (headerOf (given T)) (T .nodes) (T .pages) (T .sketches)
-  pub levels : length (given T .thresholds) ≡ 64
+  pub opened : Opened T
   pub class : c < 64
   pub page : p < given T .pages
   pub dead : livePage T p ≡ false
@@ -38,53 +34,32 @@ pub record Accepted (T : Tables) (F : List Tree) (p c : ℕ) (x : List ℕ) : Ty
   pub room : totalNodes (forestAfter (given T) (rowsOf T) (add p c x) F) ≤ given T .nodes
 
 module _ (T : Tables) (p c : ℕ) (x : List ℕ) where
-  abbrev long : Bool
-  long = leb (nodesLength (given T)) (length (T .nodes)) && (leb (pagesLength (given T)) (length (T .pages)) && leb (sketchesLength (given T)) (length (T .sketches)))
+  -- 10 and 11 of an opening, then others
+  abbrev pub sketchAsked : Header → List Question → List Question
+  sketchAsked h qs = ask 10 (eqb (length x) (h .m)) ∷ ask 11 (inRange (h .b) x) ∷ qs
 
-  shown-bounds : showsOpening (T .settings) ≡ true → Bounds (given T)
-  unfolding showsOpening
-  shown-bounds h = bounds (given T) (and-right (eqb (getD (T .settings) 0 0) mark) (inLimits (given T)) h)
-
-  lent-by : Bounds (given T) → long ≡ true → Lent (headerOf (given T)) (T .nodes) (T .pages) (T .sketches)
-  unfolding nodesLength pagesLength sketchesLength
-  lent-by b l = record {
-    limits = b .header;
-    nodes-long = leb-true (nodesLength (given T)) (length (T .nodes)) (search and-left);
-    pages-long = leb-true (pagesLength (given T)) (length (T .pages)) (search (and-left, and-right));
-    sketches-long = leb-true (sketchesLength (given T)) (length (T .sketches)) (search (and-left, and-right));
-  }
-
-  -- 5 to 11, then others
-  abbrev pub ahead : List Question → List Question
-  ahead qs =
-      ask 5 (leb settingsLength (length (T .settings)))
-      ∷ ask 6 (showsOpening (T .settings) && long)
-      ∷ ask 7 (ltb c 64)
-      ∷ ask 8 (ltb p (given T .pages))
-      ∷ ask 9 (not (isLive (T .pages) p))
-      ∷ ask 10 (eqb (length x) (given T .symbols))
-      ∷ ask 11 (inRange (given T .bits) x)
-      ∷ qs
+  -- 7 to 11
+  abbrev pub callAsked : Header → List Question → List Question
+  callAsked h qs = ask 7 (ltb c 64) ∷ (pageAsked (h .pages) (T .pages) p false ++ sketchAsked h qs)
 
   -- 12, with the tries F
   abbrev pub room12 : List Tree → Bool
   room12 F = leb (totalNodes (forestAfter (given T) (rowsOf T) (add p c x) F)) (given T .nodes)
 
   module _ (F : List Tree) where
-    pub number-by : number T F (add p c x) ≡ firstNo (ahead (ask 12 (room12 F) ∷ []))
-    unfolding number entered shown56 longSettings longFor longNodes longPages asked byTables
+    pub number-by : number T F (add p c x) ≡ firstNo (storeAsked T ++ callAsked (headerOf (given T)) (ask 12 (room12 F) ∷ []))
+    unfolding number entered shown56 longSettings longFor asked byTables storeAsked pageAsked
     number-by = refl
 
     pub accepted : number T F (add p c x) ≡ 0 → Accepted T F p c x
-    unfolding livePage
+    unfolding livePage storeAsked pageAsked
     accepted e =
-        let a = all-yes (ahead (ask 12 (room12 F) ∷ [])) (omega arith) (sym number-by ∙ e) in
-        let opened : showsOpening (T .settings) && long ≡ true = search in
-        let b = shown-bounds (and-left (showsOpening (T .settings)) long opened) in
+        let z = sym number-by ∙ e in
+        let qs : List Question = callAsked (headerOf (given T)) (ask 12 (room12 F) ∷ []) in
+        let none = none-first (storeAsked T) qs z in
+        let a = all-yes qs (omega arith) (sym (pass-first (storeAsked T) qs (omega arith) none) ∙ z) in
         record {
-          settings-long = leb-true settingsLength (length (T .settings)) search;
-          lent = lent-by b (and-right (showsOpening (T .settings)) long opened);
-          levels = b .count;
+          opened = opened T none;
           class = ltb-true c 64 search;
           page = ltb-true p (given T .pages) search;
           dead = rw (not-true (isLive (T .pages) p) search) (and-false (ltb p (given T .pages)));
@@ -92,3 +67,11 @@ module _ (T : Tables) (p c : ℕ) (x : List ℕ) where
           range = search;
           room = leb-true (totalNodes (forestAfter (given T) (rowsOf T) (add p c x) F)) (given T .nodes) search;
         }
+
+  -- with no tries 12 is passed
+  room-none : room12 [] ≡ true
+  unfolding forestAfter eachFrom totalNodes sum
+  room-none = le-leb 0 (given T .nodes) (omega arith)
+
+  pub number-none : number T [] (add p c x) ≡ firstNo (storeAsked T ++ callAsked (headerOf (given T)) (ask 12 true ∷ []))
+  number-none = number-by [] ∙ ap (λ (t : Bool). firstNo (storeAsked T ++ callAsked (headerOf (given T)) (ask 12 t ∷ []))) room-none

@@ -1,7 +1,7 @@
 -- On a sound store an add that no question refuses puts its page into the trie of every block; the live words and classes stay.
 use Prim.Native.Nat.{ℕ, _+_, _*_, _≤_, _<_}
 use native.Mathlib.Omega.{arith}
-use mathlib.Core.Path.{_≡_, refl, sym, ap, _∙_}
+use mathlib.Core.Path.{_≡_, sym, ap, _∙_}
 use mathlib.Core.List.{List, map}
 use lib.ListN.{length, getD}
 use Rattle.meaning.specs.Trie.{Tree}
@@ -64,7 +64,7 @@ module _ (T : Tables) (F : List Tree) (sound : Sound T F) (p c : ℕ) (x : List 
 
   pub sketches-long : s .pages * s .symbols ≤ length (T .sketches)
   unfolding sketchesLength
-  sketches-long = a .lent .sketches-long
+  sketches-long = a .opened .lent .sketches-long
 
   reads : Reads T p x bytes
   reads = row-reads T p x F sound (a .dead) (a .count) (a .range) sketches-long (a .page)
@@ -72,7 +72,7 @@ module _ (T : Tables) (F : List Tree) (sound : Sound T F) (p c : ℕ) (x : List 
   rows : (j : ℕ) → j < s .blocks → RowTable (s .pages) (rowsIn s j) S′
   rows j l =
       let inside : p * s .symbols + s .symbols ≤ length (T .sketches) = row-inside (s .symbols) (s .pages) (length (T .sketches)) (a .page) sketches-long in
-      rows-table s j l (s .pages) S′ (omega (arith, a .lent .limits)) (a .lent .limits .symbols-most)
+      rows-table s j l (s .pages) S′ (omega (arith, a .opened .lent .limits)) (a .opened .lent .limits .symbols-most)
       (omega (arith, sketches-long, length-with-row (s .symbols) (T .sketches) p inside x (a .count)))
 
   -- the free nodes suffice
@@ -94,7 +94,7 @@ module _ (T : Tables) (F : List Tree) (sound : Sound T F) (p c : ℕ) (x : List 
   grown =
       let H = sound .holding in
       insert-from s S′ x (a .count) (a .range) p (a .page) (livePage T) (λ j l. reads .mine j) rows (heldBy (s .pages) (T .pages) p)
-      (sound .tries) 0 (roomy s (T .nodes) (T .pages) (T .sketches) (a .lent)) (sound .free) (H .chain) (H .below) (wordCells (T .pages) (linksAt (s .pages))) (omega (arith, H .blocks))
+      (sound .tries) 0 (roomy s (T .nodes) (T .pages) (T .sketches) (a .opened .lent)) (sound .free) (H .chain) (H .below) (wordCells (T .pages) (linksAt (s .pages))) (omega (arith, H .blocks))
       (words-heap (s .nodes) (s .pages) p (heldBy (s .pages) (T .pages) p) (sound .tries) (sound .free) (H .roots)
       (spare-heap (s .nodes) (s .pages) p (livePage T) (a .page) (a .dead) (sound .tries) (sound .free) (H .roots) stands (H .words)))
       (H .roots) (rw (sound .forest) (read-blocks T p x F sound bytes reads)) enough
@@ -103,7 +103,7 @@ module _ (T : Tables) (F : List Tree) (sound : Sound T F) (p c : ℕ) (x : List 
   unfolding insertAll
   placed =
       let E = grown in
-      let long : s .pages + p < length (E .pagesTo) = omega (arith, E .tables .pages 0 (a .lent .limits .blocks-least) .long, a .page) in
+      let long : s .pages + p < length (E .pagesTo) = omega (arith, E .tables .pages 0 (a .opened .lent .limits .blocks-least) .long, a .page) in
       record {
         nodesTo = E .nodesTo;
         pagesTo = E .pagesTo;

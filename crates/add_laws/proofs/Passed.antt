@@ -2,22 +2,18 @@
 use Prim.Native.Nat.{ℕ, _+_, _*_, _≤_, _<_}
 use native.Mathlib.Omega.{arith}
 use mathlib.Core.Path.{_≡_, refl, sym, ap, _∙_}
-use mathlib.Core.Bool.{Bool, true, false, cond}
+use mathlib.Core.Bool.{false, cond}
 use mathlib.Core.Logic.{_≢_}
-use mathlib.Core.List.{List, [], _∷_}
-use borrow.Author.Tests.{le-leb, eqb-true, eqb-false, ne-eqb}
+use mathlib.Core.List.{List, [], _++_}
+use borrow.Author.Tests.{ne-eqb}
 use lib.Dec.{eqb}
 use lib.ListN.{length}
-use Rattle.meaning.specs.Lists.{sum}
-use Rattle.meaning.specs.Refusal.{ask, firstNo}
 use Rattle.meaning.specs.Trie.{Tree}
 use Rattle.meaning.specs.Ledger.{add}
-use Rattle.meaning.specs.Forest.{eachFrom, forestAfter, totalNodes}
-use Rattle.meaning.specs.Questions.{asked}
 use Rattle.layout.specs.declared.Header.{Header}
-use Rattle.layout.specs.declared.Opening.the-variants.{Shown, Refused}
+use Rattle.layout.specs.declared.Opening.the-variants.{Shown}
 use Rattle.layout.specs.Settings.{settingsLength}
-use Rattle.layout.specs.Header.{headerOf, withThresholds, bare, pick}
+use Rattle.layout.specs.Header.{headerOf, withThresholds, bare}
 use Rattle.layout.specs.Lengths.{sketchesLength}
 use Rattle.layout.specs.Pages.{withRow}
 use Rattle.layout.proofs.Rows.{row-inside, length-with-row}
@@ -25,10 +21,12 @@ use Rattle.layout.proofs.Words.{class-inside}
 use Rattle.promises.specs.Tables.{Tables, given}
 use Rattle.promises.specs.Answers.{number}
 use Rattle.promises.specs.Sound.{livePage}
+use Rattle.entry.specs.Entry.{storeAsked, pageAsked}
 use Rattle.entry.proofs.Questions.{last-asked}
+use Rattle.entry.proofs.Admits.{admission-shown}
 use Rattle.entry.specs.Admission.{admission}
 use Rattle.layout.specs.Tables.{Lent, Fits}
-use Rattle.add_laws.proofs.KeepsAsked.{accepted, ahead, room12, number-by}
+use Rattle.add_laws.proofs.KeepsAsked.{accepted, callAsked, room12, number-by, number-none}
 
 -- no question of 5 to 11 says no
 pub record Passed (T : Tables) (h : Header) (p : ℕ) (x : List ℕ) : Type 0 where
@@ -41,11 +39,6 @@ pub record Passed (T : Tables) (h : Header) (p : ℕ) (x : List ℕ) : Type 0 wh
   pub dead : livePage T p ≡ false
 
 module _ (T : Tables) (p c : ℕ) (x : List ℕ) where
-  -- with no tries, 12 is passed
-  room-none : room12 T p c x [] ≡ true
-  unfolding forestAfter eachFrom totalNodes sum
-  room-none = le-leb 0 (given T .nodes) (omega arith)
-
   abbrev passes : Header → Type 0
   passes h = Passed T h p x
 
@@ -54,9 +47,9 @@ module _ (T : Tables) (p c : ℕ) (x : List ℕ) where
       let a = accepted T p c x F z in
       record {
         header = refl;
-        long = a .settings-long;
-        lent = a .lent;
-        levels = a .levels;
+        long = a .opened .long;
+        lent = a .opened .lent;
+        levels = a .opened .levels;
         fits = record { count = a .count; range = a .range };
         page = a .page;
         dead = a .dead;
@@ -64,36 +57,16 @@ module _ (T : Tables) (p c : ℕ) (x : List ℕ) where
 
   -- what `admit` tells
   pub told-shown : (h : Header) → admission T (add p c x) ≡ Shown h → (number T [] (add p c x) ≡ 0) × passes h
-  unfolding admission
-  told-shown h e = go (eqb (number T [] (add p c x)) 0) refl e
-    where
-      go : (t : Bool) → eqb (number T [] (add p c x)) 0 ≡ t → pick t (Shown (headerOf (given T))) (Refused (number T [] (add p c x))) ≡ Shown h →
-          (number T [] (add p c x) ≡ 0) × passes h
-      go true q e =
-          let z = eqb-true (number T [] (add p c x)) 0 q in
-          let same : headerOf (given T) ≡ h = cc in
-          (z, rw same at (passed [] z))
-      go false q e = let z : _≡_ {A = ℕ} 0 1 = cc in absurd (omega arith)
-
-  pub told-refused : (n : ℕ) → admission T (add p c x) ≡ Refused n → (number T [] (add p c x) ≡ n) × (n ≢ 0)
-  unfolding admission
-  told-refused n e = go (eqb (number T [] (add p c x)) 0) refl e
-    where
-      go : (t : Bool) → eqb (number T [] (add p c x)) 0 ≡ t → pick t (Shown (headerOf (given T))) (Refused (number T [] (add p c x))) ≡ Refused n →
-          (number T [] (add p c x) ≡ n) × (n ≢ 0)
-      go true q e = let z : _≡_ {A = ℕ} 0 1 = cc in absurd (omega arith)
-      go false q e =
-          let same : number T [] (add p c x) ≡ n = cc in
-          (same, λ z. eqb-false (number T [] (add p c x)) 0 q (same ∙ z))
+  told-shown h e = let t = admission-shown T (add p c x) h e in (t .0, rw (t .1) at (passed [] (t .0)))
 
   -- 12 is asked last
   module _ (F : List Tree) where
     pub asked-last : number T F (add p c x) ≡ cond (eqb (number T [] (add p c x)) 0) (cond (room12 T p c x F) 0 12) (number T [] (add p c x))
+    unfolding storeAsked pageAsked
     asked-last =
-        let none : number T [] (add p c x) ≡ firstNo (ahead T p c x (ask 12 true ∷ [])) = number-by T p c x [] ∙ ap (λ (t : Bool). firstNo (ahead T p c x (ask 12 t ∷ []))) room-none in
         number-by T p c x F
-        ∙ last-asked (ahead T p c x []) (omega arith) 12 (room12 T p c x F)
-        ∙ ap (λ (n : ℕ). cond (eqb n 0) (cond (room12 T p c x F) 0 12) n) (sym none)
+        ∙ last-asked (storeAsked T ++ callAsked T p c x (headerOf (given T)) []) (omega arith) 12 (room12 T p c x F)
+        ∙ ap (λ (n : ℕ). cond (eqb n 0) (cond (room12 T p c x F) 0 12) n) (sym (number-none T p c x))
 
     pub asked-12 : number T [] (add p c x) ≡ 0 → number T F (add p c x) ≡ cond (room12 T p c x F) 0 12
     asked-12 z = asked-last ∙ rw z refl

@@ -27,7 +27,7 @@ module _ (T : Tables) (p c : ℕ) (x : List ℕ) where
   abbrev pub pageAdded : List ℕ → List ℕ → ℕ → Tables
   pageAdded N P link = tables (set (T .settings) freeAt link) N (withPage (given T .pages) P p c) rowAdded (T .working)
 
-  -- 14 where a link led outside
+  -- 14 where an insertion stops on unsound tables: the promise of an add names the causes
   abbrev pub onFilled : Filled → Outcome
   onFilled (filled N P (Free link)) = outcome 0 (pageAdded N P link)
   onFilled (filled N P insertion.Broken) = outcome 14 (tables (T .settings) N P rowAdded (T .working))

@@ -1,126 +1,75 @@
--- The number of questions 5 to 11 of an add, by the tests on the way.
+-- Questions 5 to 11 of an add, by the answers on the way.
 use Prim.Native.Nat.{ℕ, _≤_, _<_}
 use native.Mathlib.Omega.{arith}
-use mathlib.Core.Path.{_≡_, refl, ap, _∙_}
-use mathlib.Core.Bool.{Bool, true, false, cond, _&&_, not}
+use mathlib.Core.Path.{_≡_, sym, ap, _∙_}
+use mathlib.Core.Bool.{true, false}
 use mathlib.Core.Logic.{_≢_}
-use mathlib.Core.List.{List, []}
-use borrow.Author.Tests.{lt-ltb, le-ltb, le-leb, eq-eqb, ne-eqb, leb-true}
-use lib.Dec.{ltb, leb, eqb}
+use mathlib.Core.List.{List, [], _∷_, _++_}
+use borrow.Author.Tests.{lt-ltb, le-ltb, eq-eqb, ne-eqb}
 use lib.ListN.{length}
-use Rattle.meaning.specs.Lists.{sum}
-use Rattle.meaning.specs.Refusal.{firstNo}
+use Rattle.meaning.specs.Refusal.{Question, ask, firstNo}
 use Rattle.meaning.specs.Sketch.{inRange}
 use Rattle.meaning.specs.Ledger.{add}
-use Rattle.meaning.specs.Forest.{eachFrom, forestAfter, totalNodes}
-use Rattle.meaning.specs.Questions.{asked}
 use Rattle.layout.specs.declared.Header.{Header}
 use Rattle.layout.specs.declared.Opening.the-variants.{Shown, Refused}
-use Rattle.layout.specs.Header.{openingOf, tablesFirst, headerOf, bare}
-use Rattle.layout.specs.Lengths.{nodesLength, pagesLength, sketchesLength}
-use Rattle.layout.specs.Pages.{isLive}
-use Rattle.layout.proofs.Openings.{shown, shown-number, refused-number, refused-range}
-use Rattle.layout.proofs.Tests.{and-left, and-right}
-use Rattle.layout.proofs.Words.{word-inside}
-use Rattle.promises.specs.Tables.{Tables, tables, given, byTables}
-use Rattle.promises.specs.Answers.{number, entered, shown56, longSettings, longFor, longNodes, longPages}
+use Rattle.layout.specs.Header.{headerOf}
+use Rattle.promises.specs.Tables.{Tables, tables, given}
+use Rattle.entry.specs.Entry.{storeEntry, pageAsked}
 use Rattle.entry.specs.Admission.{admission}
-
--- 6, of the tables behind the settings table
-abbrev pub longAll : List ℕ → List ℕ → List ℕ → Header → Bool
-longAll nodes pages sketches g =
-    leb (nodesLength (bare g)) (length nodes)
-    && (leb (pagesLength (bare g)) (length pages) && leb (sketchesLength (bare g)) (length sketches))
-
-module _ (nodes pages sketches : List ℕ) (h : Header) (long : longAll nodes pages sketches h ≡ true) where
-  abbrev behind : leb (pagesLength (bare h)) (length pages) && leb (sketchesLength (bare h)) (length sketches) ≡ true
-  behind = and-right (leb (nodesLength (bare h)) (length nodes)) _ long
-
-  pub nodes-long : nodesLength (bare h) ≤ length nodes
-  nodes-long = leb-true (nodesLength (bare h)) (length nodes) (and-left _ (leb (pagesLength (bare h)) (length pages) && leb (sketchesLength (bare h)) (length sketches)) long)
-
-  pub pages-long : pagesLength (bare h) ≤ length pages
-  pages-long = leb-true (pagesLength (bare h)) (length pages) (and-left _ (leb (sketchesLength (bare h)) (length sketches)) behind)
-
-  pub sketches-long : sketchesLength (bare h) ≤ length sketches
-  sketches-long = leb-true (sketchesLength (bare h)) (length sketches) (and-right (leb (pagesLength (bare h)) (length pages)) _ behind)
-
-  pub live-inside : {p : ℕ} → p < h .pages → p < length pages
-  live-inside {p} page = omega (arith, word-inside (bare h) {k = 0} {p = p} (omega arith) page, pages-long)
+use Rattle.entry.proofs.Questions.{pass-first, stop-first}
+use Rattle.entry.proofs.Admits.{first-refused, same-header, then-refused, then-shown}
+use Rattle.add_laws.proofs.KeepsAsked.{sketchAsked, callAsked, number-none}
 
 module _ (ws nodes pages sketches : List ℕ) (p c : ℕ) (x : List ℕ) where
   abbrev T : Tables
   T = tables ws nodes pages sketches []
 
-  refused-by : (n : ℕ) → number T [] (add p c x) ≡ n → n ≢ 0 → Refused n ≡ admission T (add p c x)
-  unfolding admission
-  refused-by n e h = rw (e, ne-eqb n 0 h)
+  -- behind 6, and behind 9
+  abbrev past6 : Header → List Question
+  past6 h = callAsked T p c x h (ask 12 true ∷ [])
 
-  admitted-by : (h : Header) → headerOf (given T) ≡ h → number T [] (add p c x) ≡ 0 → Shown h ≡ admission T (add p c x)
-  unfolding admission
-  admitted-by h same e = rw (e, same)
+  abbrev past9 : Header → List Question
+  past9 h = sketchAsked T p c x h (ask 12 true ∷ [])
 
-  -- 5 and 6, then the others
-  asked-first : number T [] (add p c x)
-      ≡ firstNo (tablesFirst ws (longFor (given T) T (add p c x)) (asked (byTables T []) (add p c x)))
-  unfolding number entered shown56 longSettings
-  asked-first = refl
+  pub admit-refused : (n : ℕ) → storeEntry T ≡ Refused n → Refused n ≡ admission T (add p c x)
+  admit-refused n e = first-refused T (add p c x) (past6 (headerOf (given T))) (number-none T p c x) n e
 
-  pub admit-refused : (n : ℕ) → openingOf ws ≡ Refused n → Refused n ≡ admission T (add p c x)
-  admit-refused n e =
-      refused-by n (asked-first ∙ refused-number ws _ _ n e) (λ z. omega (arith, refused-range ws n e))
+  module _ (h : Header) (e : storeEntry T ≡ Shown h) where
+    by-header : firstNo (past6 (headerOf (given T))) ≡ firstNo (past6 h)
+    by-header = ap (λ (g : Header). firstNo (past6 g)) (same-header T h e)
 
-  -- the number from 6 on
-  from6 : Header → ℕ
-  from6 g =
-      cond (longAll nodes pages sketches g)
-      (cond (ltb c 64)
-      (cond (ltb p (g .pages))
-      (cond (not (isLive pages p))
-      (cond (eqb (length x) (g .m))
-      (cond (inRange (g .b) x) 0 11) 10) 9) 8) 7) 6
+    refused-by : (n : ℕ) → firstNo (past6 h) ≡ n → n ≢ 0 → Refused n ≡ admission T (add p c x)
+    refused-by n f d = then-refused T (add p c x) (past6 (headerOf (given T))) (number-none T p c x) h e n (by-header ∙ f) d
 
-  module _ (h : Header) (e : openingOf ws ≡ Shown h) where
-    by-header : number T [] (add p c x) ≡ from6 h
-    unfolding from6 longFor longNodes longPages nodesLength pagesLength sketchesLength asked byTables firstNo forestAfter eachFrom totalNodes sum
-    by-header =
-        asked-first
-        ∙ shown-number ws (longFor (given T) T (add p c x)) (asked (byTables T []) (add p c x)) h e
-        ∙ rw (le-leb 0 (given T .nodes) (omega arith)) (ap from6 (shown ws h e .header))
+    pub admit-7 : 64 ≤ c → Refused 7 ≡ admission T (add p c x)
+    unfolding firstNo
+    admit-7 l = refused-by 7 (rw (le-ltb c 64 l)) (omega arith)
 
-    pub admit-6 : longAll nodes pages sketches h ≡ false → Refused 6 ≡ admission T (add p c x)
-    unfolding from6
-    admit-6 long = refused-by 6 (by-header ∙ rw long) (omega arith)
+    module _ (l : c < 64) (n : ℕ) (asked : n ≡ firstNo (pageAsked (h .pages) pages p false)) where
+      at-page : firstNo (past6 h) ≡ firstNo (pageAsked (h .pages) pages p false ++ past9 h)
+      unfolding firstNo
+      at-page = rw (lt-ltb c 64 l)
 
-    module _ (long : longAll nodes pages sketches h ≡ true) where
-      pub admit-7 : 64 ≤ c → Refused 7 ≡ admission T (add p c x)
-      unfolding from6
-      admit-7 hc = refused-by 7 (by-header ∙ rw (long, le-ltb c 64 hc)) (omega arith)
+      pub admit-page : n ≢ 0 → Refused n ≡ admission T (add p c x)
+      admit-page d =
+          refused-by n (at-page ∙ stop-first (pageAsked (h .pages) pages p false) (past9 h) (λ z. d (asked ∙ z)) ∙ sym asked) d
 
-      module _ (hc : c < 64) where
-        pub admit-8 : h .pages ≤ p → Refused 8 ≡ admission T (add p c x)
-        unfolding from6
-        admit-8 hp = refused-by 8 (by-header ∙ rw (long, lt-ltb c 64 hc, le-ltb p (h .pages) hp)) (omega arith)
+      module _ (z : n ≡ 0) where
+        at-sketch : firstNo (past6 h) ≡ firstNo (past9 h)
+        unfolding pageAsked
+        at-sketch = at-page ∙ pass-first (pageAsked (h .pages) pages p false) (past9 h) (omega arith) (sym asked ∙ z)
 
-        module _ (hp : p < h .pages) where
-          pub admit-9 : isLive pages p ≡ true → Refused 9 ≡ admission T (add p c x)
-          unfolding from6
-          admit-9 live =
-              refused-by 9 (by-header ∙ rw (long, lt-ltb c 64 hc, lt-ltb p (h .pages) hp, live)) (omega arith)
+        pub admit-10 : length x ≢ h .m → Refused 10 ≡ admission T (add p c x)
+        unfolding firstNo
+        admit-10 d = refused-by 10 (at-sketch ∙ rw (ne-eqb (length x) (h .m) d)) (omega arith)
 
-          module _ (dead : isLive pages p ≡ false) where
-            pub admit-10 : length x ≢ h .m → Refused 10 ≡ admission T (add p c x)
-            unfolding from6
-            admit-10 short =
-                refused-by 10 (by-header ∙ rw (long, lt-ltb c 64 hc, lt-ltb p (h .pages) hp, dead, ne-eqb (length x) (h .m) short)) (omega arith)
+        module _ (count : length x ≡ h .m) where
+          pub admit-11 : inRange (h .b) x ≡ false → Refused 11 ≡ admission T (add p c x)
+          unfolding firstNo
+          admit-11 r = refused-by 11 (at-sketch ∙ rw (eq-eqb (length x) (h .m) count, r)) (omega arith)
 
-            module _ (count : length x ≡ h .m) where
-              to11 : number T [] (add p c x) ≡ cond (inRange (h .b) x) 0 11
-              unfolding from6
-              to11 = by-header ∙ rw (long, lt-ltb c 64 hc, lt-ltb p (h .pages) hp, dead, eq-eqb (length x) (h .m) count)
-
-              pub admit-11 : inRange (h .b) x ≡ false → Refused 11 ≡ admission T (add p c x)
-              admit-11 range = refused-by 11 (to11 ∙ rw range) (omega arith)
-
-              pub admit-all : inRange (h .b) x ≡ true → Shown h ≡ admission T (add p c x)
-              admit-all range = admitted-by h (shown ws h e .header) (to11 ∙ rw range)
+          pub admit-all : inRange (h .b) x ≡ true → Shown h ≡ admission T (add p c x)
+          unfolding firstNo
+          admit-all r =
+              then-shown T (add p c x) (past6 (headerOf (given T))) (number-none T p c x) h e
+              (by-header ∙ at-sketch ∙ rw (eq-eqb (length x) (h .m) count, r))

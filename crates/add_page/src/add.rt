@@ -1,4 +1,4 @@
-// Add: a page with its class and sketch. What it promises is in crates/store/specs.
+// Add: a page with its class and sketch. What it promises is in crates/promises/specs/Store.antt.
 ghost use mathlib.Core.Path.{_≡_};
 ghost use mathlib.Core.List.{[]};
 ghost use Rattle.meaning.specs.Ledger.{add};
@@ -15,7 +15,7 @@ use layout::Header;
 use layout::Opening;
 use trie::span::Span;
 
-// The page's row, its leaf in each trie, its live word and its class. 14 where a link led outside.
+// The page's row, its leaf in each trie, its live word and its class. 14 where an insertion stops on unsound tables.
 fn put_page(
     settings: &mut [u32],
     nodes: &mut [u32],

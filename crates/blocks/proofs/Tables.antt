@@ -11,7 +11,7 @@ use Rattle.layout.specs.Header.{headerOf, bare}
 use Rattle.layout.specs.Limits.{HeaderLimits}
 use Rattle.layout.specs.Lengths.{nodesLength, pagesLength, sketchesLength}
 use Rattle.layout.specs.Pages.{nextAt}
-use Rattle.layout.specs.Tables.{NodeTable, PageTable, Lent}
+use Rattle.layout.specs.Tables.{Lent}
 use Rattle.layout.proofs.Rows.{rows-apart}
 use Rattle.blocks.specs.declared.Rows.{Rows}
 use Rattle.blocks.specs.Tables.{RowTable, InTables, Roomy}

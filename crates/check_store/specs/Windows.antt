@@ -6,8 +6,6 @@ use mathlib.Core.List.{List}
 use lib.Dec.{ltb, eqb}
 use Rattle.meaning.specs.Ledger.{Settings}
 use Rattle.words.specs.Bits.{zeroed}
-use Rattle.layout.specs.Pages.{nextAt}
-use Rattle.layout.specs.declared.Block.{Block}
 use Rattle.blocks.specs.RowBytes.{rowsOf, blockOf}
 use Rattle.node_check.specs.declared.leaf.Left.{Left}
 use Rattle.node_check.specs.declared.leaf.Left.the-variants.{Some, Failed}

@@ -21,11 +21,12 @@ use Rattle.promises.specs.Answers.{number}
 use Rattle.promises.specs.Sound.{Sound}
 use Rattle.promises.specs.Store.{Outcome, outcome, DropPromise}
 use Rattle.entry.specs.Admission.{admission}
+use Rattle.entry.proofs.Admits.{admission-refused, admission-shown}
 use Rattle.store.proofs.Same.{same-tables, same-stopped}
 use Rattle.drop_laws.specs.Removal.{removeAll}
 use Rattle.drop_laws.specs.After.{withTries, dropped, onGone, onOpening, dropPage}
 use Rattle.drop_laws.proofs.Inside.{GoneIn, all-within}
-use Rattle.drop_laws.proofs.Admitted.{Admitted, admitted, number-same, told-refused, told-shown}
+use Rattle.drop_laws.proofs.Admitted.{Admitted, admitted, number-same}
 use Rattle.drop_laws.proofs.Rest.{tries-rest, dropped-rest, dropped-page}
 use Rattle.drop_laws.proofs.Sounds.{DropSound, drop-sound}
 
@@ -60,7 +61,7 @@ module _ (T : Tables) (p : ℕ) (z : number T [] (drop p) ≡ 0) (N P : List ℕ
   within : GoneIn (given T .nodes) (linksAt (given T .pages)) (pagesLength (given T)) (T .nodes) (T .pages) (gone N P r)
   within =
       subst (GoneIn (given T .nodes) (linksAt (given T .pages)) (pagesLength (given T)) (T .nodes) (T .pages)) is
-      (all-within (given T) (T .sketches) p (known .lent .limits .nodes-least) (T .nodes) (T .pages) (getD (T .settings) freeAt 0))
+      (all-within (given T) (T .sketches) p (known .opened .lent .limits .nodes-least) (T .nodes) (T .pages) (getD (T .settings) freeAt 0))
 
   -- the page left every trie
   drop-done : (free : ℕ) → r ≡ Done free → DropPromise T p 0 (dropped T p N P free)
@@ -84,7 +85,7 @@ module _ (T : Tables) (p : ℕ) (z : number T [] (drop p) ≡ 0) (N P : List ℕ
           let D = drop-sound T F S p known in
           told T p (forestAfter (given T) (rowsOf T) (drop p) F) D N P free (ap (gone N P) (sym e) ∙ sym is ∙ D .is)
 
-  -- a link led outside: the store was not sound
+  -- a removal stopped: the store was not sound
   drop-broken : r ≡ Broken → DropPromise T p 14 (withTries T N P)
   drop-broken e =
       record {
@@ -120,8 +121,8 @@ module _ (T : Tables) (p : ℕ) where
       taken z (gone N P Broken) e = drop-broken T p z N P Broken e refl
 
       go : (o : Opening) → admission T (drop p) ≡ o → Keeps (onOpening T p o)
-      go (Shown h) e = taken (told-shown T p h (sym e) .0) (removeAll (given T) (T .sketches) p (T .nodes) (T .pages) (getD (T .settings) freeAt 0)) refl
-      go (Refused n) e = let t = told-refused T p n (sym e) in drop-refused T p n (t .0) (t .1)
+      go (Shown h) e = taken (admission-shown T (drop p) h e .0) (removeAll (given T) (T .sketches) p (T .nodes) (T .pages) (getD (T .settings) freeAt 0)) refl
+      go (Refused n) e = let t = admission-refused T (drop p) n e in drop-refused T p n (t .0) (t .1)
 
   -- the two parts of the contract
   pub drop-promise : (n : ℕ) (T' : Tables) → outcome n T' ≡ dropPage T p → DropPromise T p n T' × (outcome n T' ≡ dropPage T p)

@@ -5,7 +5,7 @@ use native.Mathlib.Omega.{arith}
 use mathlib.Core.Path.{_≡_, refl, sym, ap, _∙_, subst}
 use mathlib.Core.Bool.{Bool, true, false, cond, _&&_, false≢true}
 use mathlib.Core.Logic.{by-cases}
-use mathlib.Core.List.{List, [], _∷_, map}
+use mathlib.Core.List.{List, map}
 use borrow.Author.Tests.{eqb-true, eqb-false, ltb-true, lt-ltb}
 use lib.Dec.{ltb, eqb}
 use lib.ListN.{length, getD, set, length-map}
@@ -20,7 +20,7 @@ use Rattle.layout.proofs.Tests.{and-left}
 use Rattle.layout.proofs.Words.{live-struck, live-struck-other, class-struck, live-kept, class-kept}
 use Rattle.layout.proofs.Written.{settings-set}
 use Rattle.trie.specs.Heap.{Cells, Heap, hit, pageClaims, nil, page, _⊕_}
-use Rattle.trie.specs.Phys.{Phys, tree, freeCells}
+use Rattle.trie.specs.Phys.{tree, freeCells}
 use Rattle.trie.proofs.Frame.{less, hit-other, hit-same, page-write}
 use Rattle.trie_laws.specs.Block.{SoundBlock, EachFrom}
 use Rattle.trie_laws.specs.Sound.{withoutPage as without}
@@ -133,7 +133,7 @@ module _ (T : Tables) (F : List Tree) (S : Sound T F) (p : ℕ) (a : Admitted T 
       (removeFrom (given T) (T .sketches) p (length (S .tries)) 0 (T .nodes) (T .pages) (getD (T .settings) freeAt 0))
   left =
       let H = S .holding in
-      remove-from (given T) (T .sketches) p (row-in T p a) (livePage T) here (pageBytes T) mine (S .tries) 0 (roomy (given T) (T .nodes) (T .pages) (T .sketches) (a .lent)) (S .free) (H .chain) (H .below) nil
+      remove-from (given T) (T .sketches) p (row-in T p a) (livePage T) here (pageBytes T) mine (S .tries) 0 (roomy (given T) (T .nodes) (T .pages) (T .sketches) (a .opened .lent)) (S .free) (H .chain) (H .below) nil
       (omega (arith, H .blocks)) (less (beside-none _ _) (H .words)) (H .roots) (rw (S .forest) (S .blocks))
 
   left-is : removeAll (given T) (T .sketches) p (T .nodes) (T .pages) (getD (T .settings) freeAt 0) ≡ gone (left .nodesTo) (left .pagesTo) (Done (left .freeTo))
@@ -144,7 +144,7 @@ module _ (T : Tables) (F : List Tree) (S : Sound T F) (p : ℕ) (a : Admitted T 
   kept : Within (linksAt (given T .pages)) (pagesLength (given T)) (T .pages) (left .pagesTo)
   kept =
       subst (GoneIn (given T .nodes) (linksAt (given T .pages)) (pagesLength (given T)) (T .nodes) (T .pages)) left-is
-      (all-within (given T) (T .sketches) p (a .lent .limits .nodes-least) (T .nodes) (T .pages) (getD (T .settings) freeAt 0)) .1
+      (all-within (given T) (T .sketches) p (a .opened .lent .limits .nodes-least) (T .nodes) (T .pages) (getD (T .settings) freeAt 0)) .1
 
   forest-is : eachFrom (Removes (pageBytes T) p) 0 F ≡ forestAfter (given T) (rowsOf T) (drop p) F
   unfolding forestAfter
@@ -187,7 +187,7 @@ module _ (T : Tables) (F : List Tree) (S : Sound T F) (p : ℕ) (a : Admitted T 
             words = rw same words-left;
             blocks = rw same blocks-left;
             roots = rw same (left .roots);
-            chain = getD-set-same (T .settings) freeAt free 0 (omega (arith, a .long)) ∙ left .chain;
+            chain = getD-set-same (T .settings) freeAt free 0 (omega (arith, a .opened .long)) ∙ left .chain;
             below = rw same (left .below);
             all = rw same (left .count ∙ S .holding .all);
           };

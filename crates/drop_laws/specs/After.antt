@@ -29,7 +29,7 @@ dropped T p N P free = record {
 }
 
 module _ (T : Tables) (p : ℕ) where
-  -- 14 where a link led outside, or the page was not found
+  -- 14 where a removal stops on unsound tables: the promise of a drop names the causes
   abbrev pub onGone : Gone → Outcome
   onGone (gone N P (Done free)) = outcome 0 (dropped T p N P free)
   onGone (gone N P Broken) = outcome 14 (withTries T N P)

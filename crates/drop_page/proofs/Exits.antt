@@ -20,10 +20,11 @@ use Rattle.trie_remove.specs.declared.Removed.{Removed}
 use Rattle.trie_remove.specs.declared.Removed.the-variants.{Done, Broken}
 use Rattle.trie_remove.specs.Remove.{gone}
 use Rattle.entry.specs.Admission.{admission}
+use Rattle.entry.proofs.Admits.{admission-shown}
 use Rattle.drop_laws.specs.Removal.{removeAll}
 use Rattle.drop_laws.specs.After.{onGone, onOpening, dropPage}
 use Rattle.drop_laws.proofs.Removes.{remove-bare}
-use Rattle.drop_laws.proofs.Admitted.{Admitted, admitted, told-shown}
+use Rattle.drop_laws.proofs.Admitted.{Admitted, admitted}
 use Rattle.drop_laws.proofs.Promise.{drop-promise}
 
 module _ (ws N P S : List ℕ) (p : ℕ) where
@@ -40,29 +41,29 @@ module _ (ws N P S : List ℕ) (p : ℕ) where
 
   module _ (h : Header) (e : Shown h ≡ admission T (drop p)) where
     passed : number T [] (drop p) ≡ 0
-    passed = told-shown T p h e .0
+    passed = admission-shown T (drop p) h (sym e) .0
 
     known : Admitted T p
     known = admitted T p passed
 
     pub settings-long : settingsLength ≤ length ws
-    settings-long = known .long
+    settings-long = known .opened .long
 
     pub lent : Lent h N P S
-    lent = rw (told-shown T p h e .1) (known .lent)
+    lent = rw (← admission-shown T (drop p) h (sym e) .1) (known .opened .lent)
 
     pub page-in : p < h .pages
-    page-in = rw (told-shown T p h e .1) (known .page)
+    page-in = rw (← admission-shown T (drop p) h (sym e) .1) (known .page)
 
     pub live-in : p < length P
     unfolding pagesLength
-    live-in = omega (arith, live-inside (given T) (known .page), known .lent .pages-long)
+    live-in = omega (arith, live-inside (given T) (known .page), known .opened .lent .pages-long)
 
     module _ (N' P' : List ℕ) (r : Removed) (free : ℕ) (f : free ≡ getD ws freeAt 0) (g : gone N' P' r ≡ removeAll (bare h) S p N P free) where
       comes-to : removeAll (given T) S p N P (getD ws freeAt 0) ≡ gone N' P' r
       unfolding removeAll
       comes-to =
-          sym (g ∙ rw (told-shown T p h e .1, f) (remove-bare (given T) S p (given T .blocks) 0 N P (getD ws freeAt 0)))
+          sym (g ∙ rw (← admission-shown T (drop p) h (sym e) .1, f) (remove-bare (given T) S p (given T .blocks) 0 N P (getD ws freeAt 0)))
 
       leaves : onGone T p (gone N' P' r) ≡ dropPage T p
       unfolding dropPage

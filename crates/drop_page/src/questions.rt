@@ -10,21 +10,13 @@ use layout::Opening;
 pub fn admit(settings: &[u32], nodes: &[u32], pages: &[u32], sketches: &[u8], page: u32) -> Opening
     ensures { λ r. ⌜ r ≡ admission (tables (now (settings .entry)) (now (nodes .entry)) (now (pages .entry)) (now (sketches .entry)) []) (drop page) ⌝ }
 {
-    let h = match layout::settings::opening(settings) {
+    let h = match entry::admit(settings, nodes, pages, sketches) {
         Opening::Refused(number) => return Opening::Refused(number),
         Opening::Shown(h) => h,
     };
-    if !entry::long_nodes(h, nodes) {
-        return Opening::Refused(6);
-    }
-    if !entry::long_pages(h, pages, sketches) {
-        return Opening::Refused(6);
-    }
-    if h.pages <= page as usize {
-        return Opening::Refused(8);
-    }
-    if !layout::pages::is_live(pages, page as usize) {
-        return Opening::Refused(9);
+    let number = entry::ask_page(h, pages, page, true);
+    if number != 0 {
+        return Opening::Refused(number);
     }
     Opening::Shown(h)
 }

@@ -1,81 +1,80 @@
 -- 5 and 6 of a call that takes all the tables: by the tests on the way, and what an opening that they show tells.
 use Prim.Native.Nat.{ℕ, _≤_}
 use native.Mathlib.Omega.{arith}
-use mathlib.Core.Path.{_≡_, refl, ap, _∙_}
+use mathlib.Core.Path.{_≡_, refl, sym, ap, _∙_}
 use mathlib.Core.Bool.{Bool, true, false, cond, _&&_}
 use mathlib.Core.Logic.{_≢_}
-use mathlib.Core.List.{List, []}
-use borrow.Author.Tests.{eqb-true, eqb-false, ne-eqb, leb-true}
+use mathlib.Core.List.{List, [], _∷_}
+use borrow.Author.Tests.{ne-eqb, leb-true}
 use lib.Dec.{leb, eqb}
 use lib.ListN.{length}
-use Rattle.meaning.specs.Refusal.{firstNo}
+use Rattle.meaning.specs.Refusal.{ask, firstNo}
 use Rattle.meaning.specs.Ledger.{Settings}
 use Rattle.layout.specs.declared.Header.{Header}
 use Rattle.layout.specs.declared.Opening.the-variants.{Shown, Refused}
-use Rattle.layout.specs.Header.{openingOf, headerOf, pick, bare}
+use Rattle.layout.specs.Header.{headerOf, bare}
 use Rattle.layout.specs.Limits.{HeaderLimits}
-use Rattle.layout.specs.Settings.{settingsLength}
+use Rattle.layout.specs.Settings.{settingsLength, showsOpening}
 use Rattle.layout.specs.Lengths.{nodesLength, pagesLength, sketchesLength, workingLength}
 use Rattle.layout.specs.Working.{mapWords, summaryWords}
-use Rattle.layout.proofs.Openings.{shown, shows, shown-number, refused-number, refused-range}
+use Rattle.layout.proofs.Openings.{shown, shows}
 use Rattle.layout.proofs.Tests.{and-left, and-right}
 use Rattle.promises.specs.Tables.{Tables, tables, given}
 use Rattle.promises.specs.Answers.{longNodes, longPages, longWorking}
-use Rattle.entry.specs.Entry.{tablesAsked, entry}
+use Rattle.entry.specs.Entry.{storeAsked, storeEntry, tablesAsked, entry}
 use Rattle.entry.proofs.Questions.{all-yes}
+use Rattle.entry.proofs.Admits.{shown-none, same-header}
+use Rattle.entry.proofs.Told.{tell-refused, tell-shown, told-refused, told-shown}
 
 module _ (ws nodes pages sketches working : List ℕ) where
   abbrev T : Tables
   T = tables ws nodes pages sketches working
 
-  abbrev Nodes : Header → Bool
-  Nodes g = leb (nodesLength (bare g)) (length nodes)
+  abbrev store : Tables
+  store = tables ws nodes pages sketches []
 
-  abbrev Pages : Header → Bool
-  Pages g = leb (pagesLength (bare g)) (length pages) && leb (sketchesLength (bare g)) (length sketches)
+  -- of the store first, then of the working table
+  asked-last : firstNo (tablesAsked T) ≡ cond (eqb (firstNo (storeAsked store)) 0) (cond (longWorking (given T) T) 0 6) (firstNo (storeAsked store))
+  unfolding tablesAsked storeAsked longNodes longPages firstNo
+  asked-last =
+      go (leb settingsLength (length ws)) (showsOpening ws) (longNodes (given T) T) (longPages (given T) T) (longWorking (given T) T)
+    where
+      go : (five six a b w : Bool) → firstNo (ask 5 five ∷ ask 6 (six && (a && b && w)) ∷ [])
+          ≡ cond (eqb (firstNo (ask 5 five ∷ ask 6 (six && (a && b)) ∷ [])) 0) (cond w 0 6) (firstNo (ask 5 five ∷ ask 6 (six && (a && b)) ∷ []))
+      go false six a b w = refl
+      go true false a b w = refl
+      go true true false b w = refl
+      go true true true false w = refl
+      go true true true true w = refl
 
-  abbrev Working : Header → Bool
-  Working g = leb (workingLength (bare g)) (length working)
+  pub enter-refused : (n : ℕ) → storeEntry store ≡ Refused n → Refused n ≡ entry T
+  unfolding storeEntry entry
+  enter-refused n e =
+      let r = told-refused store (firstNo (storeAsked store)) n e in
+      tell-refused T (firstNo (tablesAsked T)) n (asked-last ∙ rw (ne-eqb (firstNo (storeAsked store)) 0 (λ z. r .1 (sym (r .0) ∙ z))) (r .0)) (r .1)
 
-  refused-by : (n : ℕ) → firstNo (tablesAsked T) ≡ n → n ≢ 0 → Refused n ≡ entry T
-  unfolding entry
-  refused-by n e h = rw (e, ne-eqb n 0 h)
+  module _ (h : Header) (e : storeEntry store ≡ Shown h) where
+    abbrev Working : Bool
+    Working = leb (workingLength (bare h)) (length working)
 
-  pub enter-refused : (n : ℕ) → openingOf ws ≡ Refused n → Refused n ≡ entry T
-  unfolding tablesAsked
-  enter-refused n e = refused-by n (refused-number ws _ _ n e) (λ z. omega (arith, refused-range ws n e))
-
-  module _ (h : Header) (e : openingOf ws ≡ Shown h) where
-    by-header : firstNo (tablesAsked T) ≡ cond (Nodes h && Pages h && Working h) 0 6
-    unfolding tablesAsked longNodes longPages longWorking nodesLength pagesLength sketchesLength workingLength mapWords summaryWords firstNo
+    by-header : firstNo (tablesAsked T) ≡ cond Working 0 6
+    unfolding longWorking workingLength mapWords summaryWords
     by-header =
-        shown-number ws (longNodes (given T) T && longPages (given T) T && longWorking (given T) T) [] h e
-        ∙ ap (λ g. cond (Nodes g && Pages g && Working g) 0 6) (shown ws h e .header)
+        asked-last
+        ∙ rw (shown-none store h e) (ap (λ (g : Header). cond (leb (workingLength (bare g)) (length working)) 0 6) (same-header store h e))
 
-    pub enter-nodes : Nodes h ≡ false → Refused 6 ≡ entry T
-    enter-nodes a = refused-by 6 (by-header ∙ rw a) (omega arith)
-
-    pub enter-pages : Nodes h ≡ true → Pages h ≡ false → Refused 6 ≡ entry T
-    enter-pages a b = refused-by 6 (by-header ∙ rw (a, b)) (omega arith)
-
-    pub enter-working : Nodes h ≡ true → Pages h ≡ true → Working h ≡ false → Refused 6 ≡ entry T
-    enter-working a b c = refused-by 6 (by-header ∙ rw (a, b, c)) (omega arith)
-
-    pub enter-all : Nodes h ≡ true → Pages h ≡ true → Working h ≡ true → Shown h ≡ entry T
+    pub enter-short : Working ≡ false → Refused 6 ≡ entry T
     unfolding entry
-    enter-all a b c = rw (by-header, a, b, c, shown ws h e .header)
+    enter-short a = tell-refused T (firstNo (tablesAsked T)) 6 (by-header ∙ rw a) (omega arith)
+
+    pub enter-all : Working ≡ true → Shown h ≡ entry T
+    unfolding entry
+    enter-all a = tell-shown T (firstNo (tablesAsked T)) h (same-header store h e) (by-header ∙ rw a)
 
 -- ---- what the answer tells
 pub entry-refused : (T : Tables) (n : ℕ) → entry T ≡ Refused n → (firstNo (tablesAsked T) ≡ n) × (n ≢ 0)
 unfolding entry
-entry-refused T n e = go (eqb (firstNo (tablesAsked T)) 0) refl e
-  where
-    go : (t : Bool) → eqb (firstNo (tablesAsked T)) 0 ≡ t → pick t (Shown (headerOf (given T))) (Refused (firstNo (tablesAsked T))) ≡ Refused n
-        → (firstNo (tablesAsked T) ≡ n) × (n ≢ 0)
-    go true f g = let z : _≡_ {A = ℕ} 0 1 = cc in absurd (omega arith)
-    go false f g =
-        let same : firstNo (tablesAsked T) ≡ n = cc in
-        (same, λ z. eqb-false (firstNo (tablesAsked T)) 0 f (same ∙ z))
+entry-refused T n e = told-refused T (firstNo (tablesAsked T)) n e
 
 -- the opening and the tables that pass
 pub record Entered (T : Tables) (h : Header) : Type 0 where
@@ -109,10 +108,6 @@ module _ (T : Tables) where
 
   pub entry-shown : (h : Header) → entry T ≡ Shown h → Entered T h
   unfolding entry
-  entry-shown h e = go (eqb (firstNo (tablesAsked T)) 0) refl e
-    where
-      go : (t : Bool) → eqb (firstNo (tablesAsked T)) 0 ≡ t → pick t (Shown (headerOf (given T))) (Refused (firstNo (tablesAsked T))) ≡ Shown h → Entered T h
-      go true f g =
-          let same : headerOf (given T) ≡ h = cc in
-          rw same at (entered-first (eqb-true (firstNo (tablesAsked T)) 0 f))
-      go false f g = let z : _≡_ {A = ℕ} 0 1 = cc in absurd (omega arith)
+  entry-shown h e =
+      let t = told-shown T (firstNo (tablesAsked T)) h e in
+      rw (t .1) at (entered-first (t .0))

@@ -1,2 +1,4 @@
 pub mod Questions
+pub mod Told
+pub mod Admits
 pub mod Enters

@@ -1,9 +1,8 @@
 -- `block_needs` is `blockNeeds`.
 use native.Mathlib.Omega.{arith}
-use mathlib.Core.Path.{_≡_, sym, ap, _∙_}
+use mathlib.Core.Path.{sym, _∙_}
 use borrow.Author.Needs.{needs}
 use lib.Seq.{length-take-le}
-use Rattle.layout.specs.Header.{bare}
 use Rattle.blocks.specs.Tables.{InTables}
 use Rattle.blocks.proofs.Tables.{in-tables}
 use Rattle.add_page.proofs.Blocks.{needs-block}
