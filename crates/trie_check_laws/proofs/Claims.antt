@@ -20,7 +20,8 @@ use Rattle.children.proofs.Frame.{hit-same, hit-other}
 use Rattle.trie.proofs.Spans.{sumTo, sum-add, sum-none, sum-hit}
 use Rattle.trie_laws.proofs.Lists.{eqb-comm}
 use Rattle.trie_check_laws.specs.Uses.{uses, usesB, usesC}
-use Rattle.trie_check_laws.proofs.WholeFit.{size, sizeB, sizeC, size-nodes, chains-left}
+use Rattle.trie_check_laws.proofs.WholeFit.{size, sizeB, sizeC, size-nodes}
+use Rattle.children.proofs.Chains.{chains-left}
 
 -- ---- the words of a node
 
