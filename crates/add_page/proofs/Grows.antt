@@ -17,7 +17,7 @@ use Rattle.children.specs.Heap.{Cells, Heap, nil, page, _⊕_}
 use Rattle.blocks.specs.Tables.{RowTable}
 use Rattle.children.specs.Phys.{Phys, root, tree, first, cells, freeCells, Below, State}
 use Rattle.children.proofs.Frame.{Less, less, nodes-kept, pages-kept}
-use Rattle.children.proofs.Spot.{root-below}
+use Rattle.children.proofs.Chains.{root-below}
 use Rattle.trie_laws.specs.Block.{SoundBlock, EachFrom}
 use Rattle.trie_laws.specs.Needed.{sumFrom}
 use Rattle.trie_laws.proofs.Nodes.{insert-nodes}
@@ -123,7 +123,7 @@ module _ (s : Settings) (S x : List ℕ) (count : length x ≡ s .symbols) (rang
       } in
       let A = one j t (T ⊕ W ⊕ G) (omega arith) (roomy .nodes .small) st (r .0) (k .0) (omega arith) in
       let X : Cells = cells (s .nodes) (nextAt (s .pages) j) (A .to) in
-      let root = root-below (s .nodes) (s .pages) (nextAt (s .pages) j) (roomy .nodes .small) t (r .1) in
+      let root = root-below (s .nodes) (s .pages) t (r .1) in
       let same = subst (Kept (s .nodes) (linksAt (s .pages)) (pagesLength s) N P) (A .is)
       (block-kept s S x p lp (octets s x count range) rows j (omega arith) (omega (arith, r .0)) N P free) in
       let E = insert-from ts (suc j) (record { nodes = nodes-kept (same .0 .same) (roomy .nodes); pages = λ i li. pages-kept (same .1 .same) (roomy .pages i li) })

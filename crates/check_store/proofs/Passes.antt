@@ -17,7 +17,7 @@ use Rattle.words.specs.Bits.{flag, zeroed}
 use Rattle.words.proofs.Flags.{length-zeroed, flag-zeroed}
 use Rattle.children.specs.Phys.{Phys, tree}
 use Rattle.trie_check_laws.specs.Found.{one}
-use Rattle.trie_check_laws.proofs.RightTests.{passed as taken}
+use Rattle.children.proofs.Tests.{passed as taken}
 use Rattle.check_store.specs.Lent.{Lent}
 use Rattle.check_store.specs.Windows.{Passed, passed, onYes, windowAt, blocksFrom, blockGiven, testWindow, windowsFrom, testWindows}
 use Rattle.check_store.proofs.Tries.{Each, usesAll, InPlace, passed-no, blocks-right, blocks-whole, same-tries}

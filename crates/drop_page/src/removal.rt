@@ -59,17 +59,12 @@ fn remove_block(
     let rows = rows_of(h, j);
     let n = rows.bytes;
     let base = layout::pages::next_at(h.pages, j);
-    trie_remove::remove_page(
-        nodes,
-        pages,
-        h.nodes,
-        h.pages,
+    let block = Block {
+        nodes: h.nodes,
+        pages: h.pages,
         base,
-        j,
-        &bytes[..n],
-        p,
-        free,
-    )
+    };
+    trie_remove::remove_page(nodes, pages, block, j, &bytes[..n], p, free)
 }
 
 // The free link then, or that a link led outside.
