@@ -13,6 +13,9 @@ use Rattle.layout.specs.Lengths.{pagesLength}
 use Rattle.layout.specs.Pages.{nextAt, linksAt}
 use Rattle.layout.specs.Nodes.{stateAt, nodeWords}
 use Rattle.layout.proofs.Words.{link-behind}
+use Rattle.layout.specs.States.{kindOf}
+use Rattle.layout.specs.declared.nodes.Kind.{Kind}
+use Rattle.layout.specs.declared.nodes.Kind.the-variants as kind
 use Rattle.blocks.specs.declared.Level.{Level}
 use Rattle.blocks.specs.declared.Rows.{Rows}
 use Rattle.trie.specs.declared.leaf.Got.the-variants.{Node, Full}
@@ -36,7 +39,7 @@ use Rattle.trie.specs.Descend.{descendTo, Inside as ReachInside}
 use Rattle.trie.proofs.Inside.{descend-inside}
 use Rattle.trie_insert.specs.declared.insert.Target.the-variants.{Ready, NoRoom}
 use Rattle.trie_insert.specs.declared.insert.Target.the-variants as target
-use Rattle.trie_insert.specs.Pages.{Pushed, pushed, pushNodes, pushPages, pushPage, After, after, putDone, putInto, putLeafM}
+use Rattle.trie_insert.specs.Pages.{Pushed, pushed, pushAt, pushPage, After, after, putDone, putInto, putLeafM}
 use Rattle.trie_insert.specs.Split.{onPut, splitFrom, openLeaf, tooLong, splitLeaf, growSpan, growInto, growLeaf}
 use Rattle.trie_insert.specs.Insert.{Aimed, aimed, targetIn, aimMade, aimAt, leafFor, insertAt, insertPage}
 use Rattle.blocks.specs.RowBytes.{rowsOf}
@@ -56,7 +59,7 @@ module _ (cap : ℕ) where
   link-kept : (N : List ℕ) (s f b : ℕ) → s < nodeWords cap → f < cap → Within 0 (nodeWords cap) N (linkLeaf N cap s f b)
   unfolding linkLeaf
   link-kept N s f b ls lf =
-      within-both (within-both (node-set cap N f _ (omega arith)) (node-set cap _ (stateAt cap f) _ (omega arith))) (node-set cap _ s _ ls)
+      within-both (within-both (node-set cap N (stateAt cap f) _ (omega arith)) (node-set cap _ f _ (omega arith))) (node-set cap _ s _ ls)
 
   fresh-kept : (N : List ℕ) (s b free : ℕ) → s < nodeWords cap → KeptM N (freshLeaf N cap s b free)
   unfolding freshLeaf
@@ -89,7 +92,7 @@ module _ (cap : ℕ) where
         fresh k (made N' Full) e = e
         fresh k (made N' got.Broken) e = e
 
-        go : (q : Reach) → ReachInside N cap (length Y) q → KeptA N (aimAt N cap Y free q)
+        go : (q : Reach) → ReachInside cap (length Y) q → KeptA N (aimAt N cap Y free q)
         go (Leaf n s k) i = (within-none, omega arith)
         go (Gap n s k) i = fresh (k + 1) (freshLeaf N cap s (getD Y k 0) free) (fresh-kept N s (getD Y k 0) free (i .1))
         go reach.Broken i = (within-none, omega arith)
@@ -109,11 +112,12 @@ module _ (cap lo hi : ℕ) where
 module _ (cap pcap base lo hi : ℕ) (low : lo ≤ base) (high : base + pcap ≤ hi) where
   push-kept : (N P : List ℕ) (n p : ℕ) → n < cap → p < pcap → KeptP cap lo hi N P (pushPage N P cap base n p)
   unfolding pushPage
-  push-kept N P n p ln lp = go (ltb (getD N (stateAt cap n) 0) 2)
+  push-kept N P n p ln lp = go (kindOf N cap n)
     where
-      go : (t : Bool) → KeptP cap lo hi N P (cond t (pushed N P false) (pushed (pushNodes N cap n p) (pushPages N P cap base n p) true))
-      go true = (within-none, within-none)
-      go false = (node-set cap N (stateAt cap n) _ (omega arith), within-set P (base + p) _ (omega arith) (omega arith))
+      go : (q : Kind) → KeptP cap lo hi N P (pushAt N P cap base n p q)
+      go (kind.Leaf first) = (node-set cap N (stateAt cap n) _ (omega arith), within-set P (base + p) _ (omega arith) (omega arith))
+      go kind.Inner = (within-none, within-none)
+      go kind.Free = (within-none, within-none)
 
   put-kept : (N P : List ℕ) (n b p free : ℕ) → n < cap → b < 256 → p < pcap → Kept cap lo hi N P (putLeafM N P cap base n b p free)
   unfolding putLeafM

@@ -13,10 +13,9 @@ use Rattle.children.specs.Heap.{Holds}
 use Rattle.children.specs.Phys.{first, freeCells, Below}
 use Rattle.meaning.proofs.Lists.{and-first, and-second}
 use Rattle.node_check.specs.declared.leaf.Left.the-variants.{Some, Failed}
-use Rattle.node_check.specs.Leaf.{bare}
-use Rattle.trie_check_laws.proofs.RightTests.{refused, passed}
-use Rattle.trie_check_laws.proofs.RightLeaf.{bare-holds}
-use Rattle.trie_check_laws.proofs.WholeLeaf.{held-bare}
+use Rattle.children.specs.Order.{bare}
+use Rattle.children.proofs.Tests.{refused, passed}
+use Rattle.children.proofs.Bare.{bare-holds, held-bare}
 use Rattle.check_store.specs.Free.{isFree, freeFrom}
 
 module _ (N P : List ℕ) (cap : ℕ) where
@@ -78,7 +77,7 @@ module _ (N P : List ℕ) (cap : ℕ) where
         le-ltb cap (x + 1) (omega arith),
         back,
         eq-eqb (getD N (stateAt cap x) 0) freeState (h .1 .0),
-        held-bare N P cap 0 x (h .1 .1 .0),
+        held-bare N P cap x (h .1 .1 .0),
         h .0,
       )
       (free-whole fs f (b .1) (h .1 .1 .1) (omega arith) ∙ ap Some (omega arith))

@@ -11,7 +11,7 @@ use lib.ListN.{getD}
 use Rattle.layout.specs.Nodes.{stateAt}
 use Rattle.node_check.specs.declared.leaf.Left.{Left}
 use Rattle.node_check.specs.declared.leaf.Left.the-variants.{Some, Failed}
-use Rattle.node_check.specs.Leaf.{bare}
+use Rattle.children.specs.Order.{bare}
 use Rattle.check_store.specs.Free.{isFree, freeFrom}
 
 -- ---- a node

@@ -14,7 +14,7 @@ use Rattle.meaning.specs.Ledger.{Settings}
 use Rattle.layout.specs.Pages.{isLive, classOf, rowOf}
 use Rattle.meaning.proofs.Lists.{and-first, and-second}
 use Rattle.node_check.specs.declared.leaf.Left.the-variants.{Some, Failed}
-use Rattle.trie_check_laws.proofs.RightTests.{passed}
+use Rattle.children.proofs.Tests.{passed}
 use Rattle.check_store.specs.Pages.{pageFits, countFrom, testPages}
 
 module _ (fits live : ℕ → Bool) where

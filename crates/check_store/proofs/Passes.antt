@@ -6,8 +6,7 @@ use native.Mathlib.Decide.{decLt}
 use mathlib.Core.Path.{_≡_, refl, sym, ap, ap₂, _∙_}
 use mathlib.Core.Logic.{by-cases}
 use mathlib.Core.Bool.{Bool, true, false, cond}
-use mathlib.Core.List.{List}
-use mathlib.Core.List.{map as each}
+use mathlib.Core.List.{List, map as each}
 use borrow.Author.Tests.{ltb-false}
 use lib.Dec.{ltb}
 use lib.ListN.{length}
@@ -19,7 +18,7 @@ use Rattle.words.specs.Bits.{flag, zeroed}
 use Rattle.words.proofs.Flags.{length-zeroed, flag-zeroed}
 use Rattle.children.specs.Phys.{Phys, tree}
 use Rattle.trie_check_laws.specs.Found.{one}
-use Rattle.trie_check_laws.proofs.RightTests.{passed as taken}
+use Rattle.children.proofs.Tests.{passed as taken}
 use Rattle.check_store.specs.Windows.{Passed, passed, onYes, windowAt, blocksFrom, blockGiven, testWindow, windowsFrom, testWindows}
 use Rattle.check_store.proofs.Tries.{Each, usesAll, InPlace, passed-no, blocks-right, blocks-whole, same-tries}
 

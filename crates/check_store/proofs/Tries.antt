@@ -3,8 +3,7 @@ use Prim.Native.Nat.{ℕ, zero, suc, _+_, _-_, _*_, _≤_, _<_}
 use native.Mathlib.Omega.{arith}
 use mathlib.Core.Path.{_≡_, refl, sym, ap, ap₂, _∙_}
 use mathlib.Core.Bool.{true, false}
-use mathlib.Core.List.{List, [], _∷_}
-use mathlib.Core.List.{map as each}
+use mathlib.Core.List.{List, [], _∷_, map as each}
 use borrow.Author.Tests.{eqb-true}
 use lib.ListN.{length}
 use Rattle.meaning.specs.Lists.{all, sum}

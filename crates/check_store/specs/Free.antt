@@ -7,7 +7,7 @@ use lib.ListN.{getD}
 use Rattle.layout.specs.Nodes.{stateAt, freeState}
 use Rattle.node_check.specs.declared.leaf.Left.{Left}
 use Rattle.node_check.specs.declared.leaf.Left.the-variants.{Some, Failed}
-use Rattle.node_check.specs.Leaf.{bare}
+use Rattle.children.specs.Order.{bare}
 
 -- node x is free, and its heads are 0
 unfoldable pub isFree : List ℕ → ℕ → ℕ → Bool

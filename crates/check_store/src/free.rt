@@ -13,7 +13,7 @@ fn is_free(nodes: &[u32], cap: usize, x: usize) -> bool
     if nodes[layout::nodes::state_at(cap, x)] != 0 {
         return false;
     }
-    node_check::leaf::is_bare(nodes, cap, x)
+    children::order::is_bare(nodes, cap, x)
 }
 
 // How many nodes are not free, where all on the chain are.

@@ -1,24 +1,22 @@
--- A chain of siblings from a slot on: the first word, and what comes after it.
+-- A chain of siblings that lies in the tables from a slot on: the first word, and what comes after it.
 use Prim.Native.Nat.{ℕ, suc, _+_, _<_, _≤_}
-use mathlib.Core.Path.{_≡_}
-use mathlib.Core.Bool.{false}
 use native.Mathlib.Omega.{arith}
-use borrow.Author.Tests.{eqb-false}
-use Rattle.meaning.specs.Trie.{Children}
-use Rattle.layout.specs.Nodes.{chainWord, mostNodes}
-use Rattle.children.specs.Heap.{Cells, nil, node, _⊕_}
-use Rattle.children.specs.Phys.{Chain, root, childrenC, cells, cellsC, SoundC, stop, link}
+use mathlib.Core.Path.{_≡_}
+use mathlib.Core.List.{List}
+use lib.ListN.{getD}
+use Rattle.layout.specs.Nodes.{byteOf, chainWord, mostNodes}
+use Rattle.children.specs.Heap.{Cells, Holds, nil, node, _⊕_}
+use Rattle.children.specs.Places.{linkAt}
+use Rattle.children.specs.Phys.{Phys, Buckets, Chain, root, cells, cellsC, Sound, SoundB, SoundC, leafP, innerP, end, bucket, stop, link}
 use Rattle.children.proofs.Frame.{Same}
-use Rattle.children.proofs.Abstract.{Above}
-use Rattle.children.proofs.Spot.{starts}
-use Rattle.children.proofs.Claims.{root-below}
 
--- a chain's first word, and what it links to
+-- the link to the first node of a chain
 abbrev pub linkC : Chain → ℕ
 linkC stop = 0
 linkC (link b t ch) = root t + 1
 
 module _ (cap base : ℕ) where
+  -- the chain without its first word
   abbrev pub afterC : Chain → Cells
   afterC stop = nil
   afterC (link b t ch) = cells cap base t ⊕ cellsC cap base ch (root t) b
@@ -35,18 +33,29 @@ module _ (cap base : ℕ) where
         back = record { holds = λ N P h. h; nodes = λ a. omega arith; pages = λ a. omega arith };
       }
 
-module _ (cap pcap base : ℕ) (small : cap ≤ mostNodes) where
+  -- the word of a slot
+  pub slot-word : (N P : List ℕ) (ch : Chain) (s y : ℕ) → Holds (cellsC cap base ch s y) N P → getD N s 0 ≡ chainWord y (linkC ch)
+  slot-word N P stop s y h = h
+  slot-word N P (link b t ch) s y h = h .0
+
+-- links in a sound trie lead to nodes of the table, and a node has eight chains
+module _ (cap pcap : ℕ) where
+  pub root-below : (t : Phys) → Sound cap pcap t → root t < cap
+  root-below (leafP n ps) h = h .0
+  root-below (innerP n bs) h = h .0
+
   pub link-below : (ch : Chain) (lo hi : ℕ) → SoundC cap pcap ch lo hi → linkC ch ≤ cap
   link-below stop lo hi g = omega arith
-  link-below (link b t ch) lo hi g = omega (arith, root-below cap pcap t (g .2))
+  link-below (link b t ch) lo hi g = omega (arith, root-below t (g .2))
 
-  pub past : (ch : Chain) (b hi : ℕ) → starts ch b ≡ false → SoundC cap pcap ch b hi → SoundC cap pcap ch (suc b) hi
-  past stop b hi e g = tt
-  past (link c t ch) b hi e g = (more (eqb-false c b e) (g .0), g .1, g .2, g .3)
-    where
-      more : (c ≡ b → ⊥) → b ≤ c → suc b ≤ c
-      more z l = omega arith
+  pub chains-left : (bs : Buckets) (g : ℕ) → SoundB cap pcap bs g → g ≤ 8
+  chains-left end g s = omega arith
+  chains-left (bucket ch bs) g s = omega (arith, chains-left bs (suc g) (s .1))
 
-  pub tail-above : (ch : Chain) (b hi : ℕ) (later : Children) → starts ch b ≡ false → SoundC cap pcap ch b hi → Above b later → Above b (childrenC ch later)
-  tail-above stop b hi later e g l = l
-  tail-above (link c t ch) b hi later e g l = past (link c t ch) b hi e g .0
+-- the link and the byte in a slot
+module _ (cap pcap base : ℕ) (small : cap ≤ mostNodes) (N P : List ℕ) (ch : Chain) (s y lo hi : ℕ) (g : SoundC cap pcap ch lo hi) (h : Holds (cellsC cap base ch s y) N P) where
+  pub slot-link : linkAt N s ≡ linkC ch
+  slot-link = omega (arith, slot-word cap base N P ch s y h, link-below cap pcap ch lo hi g)
+
+  pub slot-byte : byteOf (getD N s 0) ≡ y
+  slot-byte = omega (arith, slot-word cap base N P ch s y h, link-below cap pcap ch lo hi g)

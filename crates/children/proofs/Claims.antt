@@ -1,5 +1,5 @@
 -- What the cells of a trie claim: the links of the pages in a chain, once for each time that a page stands there, and the heads of a node;
--- and what a sound trie's numbers are below.
+-- and what its pages are below.
 use Prim.Native.Nat.{ℕ, zero, suc, _+_, _≤_, _<_}
 use native.Mathlib.Nat.{add-zero}
 use native.Mathlib.Numerals.{towards-suc}
@@ -13,7 +13,7 @@ use Rattle.meaning.specs.Lists.{all, count}
 use Rattle.meaning.proofs.Lists.{and-intro}
 use Rattle.layout.specs.Nodes.{headAt}
 use Rattle.children.specs.Heap.{hit, nodeClaims, pageClaims}
-use Rattle.children.specs.Phys.{Phys, leafP, innerP, root, pageCells, noHeads, Below, Sound}
+use Rattle.children.specs.Phys.{pageCells, noHeads, Below}
 use Rattle.children.proofs.Frame.{hit-same, hit-other}
 
 -- ---- the links of pages
@@ -48,11 +48,7 @@ pub heads : (cap n a : ℕ) → nodeClaims (noHeads cap n) a ≡ among (headAt c
 unfolding noHeads among
 heads cap n a = simp (towards-suc, add-zero)
 
--- ---- numbers in a sound trie
-pub root-below : (cap pcap : ℕ) (t : Phys) → Sound cap pcap t → root t < cap
-root-below cap pcap (leafP n ps) s = s .0
-root-below cap pcap (innerP n bs) s = s .0
-
+-- ---- the pages of a sound trie
 pub below-all : (pcap : ℕ) (ps : List ℕ) → Below pcap ps → all (λ p. ltb p pcap) ps ≡ true
 unfolding all
 below-all pcap [] h = refl

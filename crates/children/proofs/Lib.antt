@@ -1,8 +1,14 @@
+pub mod Tests
 pub mod Frame
 pub mod Claims
 pub mod Abstract
 pub mod Steps
 pub mod Places
-pub mod Spot
 pub mod Chains
+pub mod Spot
 pub mod Spots
+pub mod Joins
+pub mod Ordered
+pub mod StepWords
+pub mod Bare
+pub mod Cursors

@@ -13,11 +13,11 @@ use Rattle.children.specs.declared.place.Place.{Place}
 use Rattle.children.specs.declared.place.Place.the-variants.{Found, Missing}
 use Rattle.children.specs.Heap.{Cells, Holds, nil, node, _⊕_}
 use Rattle.children.specs.Places.{linkAt, placeFrom, findPlace}
-use Rattle.children.specs.Phys.{Phys, Buckets, Chain, root, tree, childrenB, childrenC, cells, cellsB, cellsC, Sound, SoundB, SoundC, leafP, innerP, end, bucket, stop, link}
+use Rattle.children.specs.Phys.{Phys, Buckets, Chain, root, tree, childrenB, childrenC, cells, cellsB, cellsC, Sound, SoundB, SoundC, leafP, innerP, end, bucket, stop, link, chainEnd}
 use Rattle.children.proofs.Frame.{Same, same-trans, same-right, same-left, same-assoc, same-swap}
 use Rattle.children.proofs.Abstract.{Skips, Above, Leaves, leaves-next}
+use Rattle.children.proofs.Chains.{root-below, slot-link, slot-byte}
 use Rattle.children.proofs.Steps.{place-none, place-go, place-found, place-past}
-use Rattle.children.proofs.Claims.{root-below}
 
 -- whether a chain begins with a byte
 abbrev pub starts : Chain → ℕ → Bool
@@ -55,6 +55,17 @@ module _ (cap pcap base : ℕ) (small : cap ≤ mostNodes) where
   pub weaken : (ch : Chain) (lo lo' hi : ℕ) → lo ≤ lo' → SoundC cap pcap ch lo' hi → SoundC cap pcap ch lo hi
   weaken stop lo lo' hi l g = tt
   weaken (link b t ch) lo lo' hi l g = (omega (arith, g .0), g .1, g .2, g .3)
+
+  pub past : (ch : Chain) (b hi : ℕ) → starts ch b ≡ false → SoundC cap pcap ch b hi → SoundC cap pcap ch (suc b) hi
+  past stop b hi e g = tt
+  past (link c t ch) b hi e g = (more (eqb-false c b e) (g .0), g .1, g .2, g .3)
+    where
+      more : (c ≡ b → ⊥) → b ≤ c → suc b ≤ c
+      more z l = omega arith
+
+  pub tail-above : (ch : Chain) (b hi : ℕ) (later : Children) → starts ch b ≡ false → SoundC cap pcap ch b hi → Above b later → Above b (childrenC ch later)
+  tail-above stop b hi later e g l = l
+  tail-above (link c t ch) b hi later e g l = past (link c t ch) b hi e g .0
 
   -- in a chain from slot s on, whose bytes are from lo up to hi
   pub record SpotC (ch : Chain) (b s y lo hi : ℕ) : Type 0 where
@@ -100,14 +111,6 @@ module _ (cap pcap base : ℕ) (small : cap ≤ mostNodes) where
         find = f;
       }
 
-  -- the words along a chain
-  link-word : (N : List ℕ) (s y : ℕ) (t : Phys) → Sound cap pcap t → getD N s 0 ≡ chainWord y (root t + 1) → linkAt N s ≡ root t + 1
-  link-word N s y t g e = omega (arith, root-below cap pcap t g)
-
-  byte-word : (ch : Chain) (N P : List ℕ) (s y lo hi : ℕ) → SoundC cap pcap ch lo hi → Holds (cellsC cap base ch s y) N P → byteOf (getD N s 0) ≡ y
-  byte-word stop N P s y lo hi g h = omega arith
-  byte-word (link b t ch) N P s y lo hi g h = omega (arith, root-below cap pcap t (g .2), h .0)
-
   link-spot : (c : ℕ) (t : Phys) (ch : Chain) (b s y lo hi : ℕ) → lo ≤ b → SoundC cap pcap (link c t ch) lo hi → (suc c ≤ b → SpotC ch b (root t) c (suc c) hi) →
       (q : Bool) → ltb c b ≡ q → SpotC (link c t ch) b s y lo hi
   link-spot c t ch b s y lo hi l g m true q =
@@ -141,9 +144,9 @@ module _ (cap pcap base : ℕ) (small : cap ≤ mostNodes) where
         leaves = λ cs z. r .leaves cs (leaves-next c (tree t) (r .before cs) z);
         skip = λ F z cs. z c (tree t) (r .before cs) k ∙ ap (child c (tree t)) (r .skip F z cs);
         find = λ N P f i j h.
-            let w : linkAt N s ≡ root t + 1 = link-word N s y t (g .2) (h .0) in
+            let w : linkAt N s ≡ root t + 1 = slot-link cap pcap base small N P (link c t ch) s y lo hi g h in
             let e : linkAt N s - 1 ≡ root t = omega arith in
-            let v : byteOf (getD N (root t) 0) ≡ c = byte-word ch N P (root t) c (suc c) hi (g .3) (h .1 .1) in
+            let v : byteOf (getD N (root t) 0) ≡ c = slot-byte cap pcap base small N P ch (root t) c (suc c) hi (g .3) (h .1 .1) in
             let u = root-below cap pcap t (g .2) in
             let z = place-go N cap b s f _ refl (omega (arith, g .0, g .1)) (omega arith) (omega arith) (rw (e, v) k) in
             sym z ∙ rw e (r .find N P (f - 1) (g .1) (omega (arith, g .0, g .1)) (h .1 .1));
@@ -154,16 +157,16 @@ module _ (cap pcap base : ℕ) (small : cap ≤ mostNodes) where
     where
       last : (N P : List ℕ) (f : ℕ) → lo ≤ hi → hi < lo + f → Holds (cellsC cap base (link c t ch) s y) N P → (o : Bool) → eqb c b ≡ o → placeFrom N cap b s f ≡ answer o s (root t)
       last N P f i j h true o =
-          let w : linkAt N s ≡ root t + 1 = link-word N s y t (g .2) (h .0) in
+          let w : linkAt N s ≡ root t + 1 = slot-link cap pcap base small N P (link c t ch) s y lo hi g h in
           let e : linkAt N s - 1 ≡ root t = omega arith in
-          let v : byteOf (getD N (root t) 0) ≡ c = byte-word ch N P (root t) c (suc c) hi (g .3) (h .1 .1) in
+          let v : byteOf (getD N (root t) 0) ≡ c = slot-byte cap pcap base small N P ch (root t) c (suc c) hi (g .3) (h .1 .1) in
           let u = root-below cap pcap t (g .2) in
           let k : b ≤ c = ltb-false c b q in
           sym (place-found N cap b s f _ refl (omega arith) (omega arith) (omega arith) (rw (e, v) k) (rw (e, v) (eqb-true c b o))) ∙ rw e refl
       last N P f i j h false o =
-          let w : linkAt N s ≡ root t + 1 = link-word N s y t (g .2) (h .0) in
+          let w : linkAt N s ≡ root t + 1 = slot-link cap pcap base small N P (link c t ch) s y lo hi g h in
           let e : linkAt N s - 1 ≡ root t = omega arith in
-          let v : byteOf (getD N (root t) 0) ≡ c = byte-word ch N P (root t) c (suc c) hi (g .3) (h .1 .1) in
+          let v : byteOf (getD N (root t) 0) ≡ c = slot-byte cap pcap base small N P ch (root t) c (suc c) hi (g .3) (h .1 .1) in
           let u = root-below cap pcap t (g .2) in
           let k : b ≤ c = ltb-false c b q in
           sym (place-past N cap b s f _ refl (omega arith) (omega arith) (omega arith) (rw (e, v) k) (rw (e, v) (eqb-false c b o)))
@@ -184,8 +187,8 @@ module _ (cap pcap base : ℕ) (small : cap ≤ mostNodes) where
     pub within : n < cap → slot < nodeWords cap
     pub whole : put tail ≡ bs
     pub same : (x : Chain) → Same (cellsB cap base (put x) n g) (cellsC cap base x slot byte ⊕ rest)
-    pub from : SoundC cap pcap tail b (32 * (b / 32) + 32)
-    pub sound : (x : Chain) → SoundC cap pcap x b (32 * (b / 32) + 32) → SoundB cap pcap (put x) g
+    pub from : SoundC cap pcap tail b (chainEnd b)
+    pub sound : (x : Chain) → SoundC cap pcap x b (chainEnd b) → SoundB cap pcap (put x) g
     pub childrenB : (x : Chain) → childrenB (put x) ≡ before (childrenC x later)
     pub above : Above b later
     pub count : (cs ds : Children) → nodesIn (before cs) + nodesIn ds ≡ nodesIn (before ds) + nodesIn cs

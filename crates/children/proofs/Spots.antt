@@ -1,15 +1,14 @@
 -- The children of an inner node, by the place of a byte among them: with a child there, and without.
-use Prim.Native.Nat.{ℕ, suc, _*_, _/_, _+_, _≤_}
+use Prim.Native.Nat.{ℕ, suc, _*_, _/_, _+_, _<_, _≤_}
 use native.Mathlib.Omega.{arith}
 use mathlib.Core.Path.{_≡_, refl, ap, _∙_, sym}
 use mathlib.Core.Bool.{Bool, true, false, cond}
 use borrow.Author.Tests.{lt-ltb, le-ltb, ne-eqb}
 use Rattle.meaning.specs.Trie.{Tree, Children, none, child}
 use Rattle.layout.specs.Nodes.{mostNodes}
-use Rattle.children.specs.Phys.{Phys, Buckets, Chain, tree, childrenB, childrenC, SoundC, stop, link}
+use Rattle.children.specs.Phys.{Phys, Buckets, Chain, tree, childrenB, childrenC, SoundC, stop, link, chainEnd}
 use Rattle.children.proofs.Abstract.{Skips, Above}
-use Rattle.children.proofs.Spot.{starts, SpotB}
-use Rattle.children.proofs.Chains.{tail-above}
+use Rattle.children.proofs.Spot.{starts, tail-above, SpotB}
 use Rattle.trie_laws.specs.Path.{has, childBy, setChild, dropChild, putChild}
 use Rattle.trie_laws.proofs.Lists.{holds, fails, truth}
 use Rattle.trie_laws.proofs.Nodes.{nodes-some}
@@ -58,13 +57,13 @@ module _ (cap pcap base : ℕ) (small : cap ≤ mostNodes) {bs : Buckets} {n g b
 
   -- a child is there
   module _ (u : Phys) (after : Chain) (e : s .tail ≡ link b u after) where
-    pub from-here : SoundC cap pcap (link b u after) b (32 * (b / 32) + 32)
+    pub from-here : SoundC cap pcap (link b u after) b (chainEnd b)
     from-here = rw e at (s .from)
 
     above : Above b (childrenC after (s .later))
     above = go after (from-here .3)
       where
-        go : (ch : Chain) → SoundC cap pcap ch (suc b) (32 * (b / 32) + 32) → Above b (childrenC ch (s .later))
+        go : (ch : Chain) → SoundC cap pcap ch (suc b) (chainEnd b) → Above b (childrenC ch (s .later))
         go stop h = s .above
         go (link c t ch) h = omega (arith, h .0)
 
@@ -93,7 +92,7 @@ module _ (cap pcap base : ℕ) (small : cap ≤ mostNodes) {bs : Buckets} {n g b
     here = ap childrenB (sym (s .whole)) ∙ s .childrenB (s .tail)
 
     higher : Above b (childrenC (s .tail) (s .later))
-    higher = tail-above cap pcap base small (s .tail) b (32 * (b / 32) + 32) (s .later) gap (s .from) (s .above)
+    higher = tail-above cap pcap base small (s .tail) b (chainEnd b) (s .later) gap (s .from) (s .above)
 
     pub spot-none : has b (childrenB bs) ≡ false
     unfolding out

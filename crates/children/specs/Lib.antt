@@ -1,3 +1,6 @@
 pub mod Heap
 pub mod Phys
 pub mod Places
+pub mod Links
+pub mod Order
+pub mod Cursors

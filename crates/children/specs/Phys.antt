@@ -1,5 +1,5 @@
 -- The trie as it lies in the tables: each node with its number, the children of an inner node in eight chains.
-use Prim.Native.Nat.{ℕ, suc, _+_, _*_, _<_, _≤_}
+use Prim.Native.Nat.{ℕ, suc, _+_, _*_, _/_, _<_, _≤_}
 use mathlib.Core.Path.{_≡_}
 use mathlib.Core.List.{List, [], _∷_}
 use Rattle.meaning.specs.Trie.{Tree, leaf, inner, Children, none, child}
@@ -89,6 +89,10 @@ module _ (cap base : ℕ) where
 abbrev pub Below : ℕ → List ℕ → Type 0
 Below cap [] = Unit {0}
 Below cap (f ∷ fs) = (f < cap) × Below cap fs
+
+-- one above the last byte of the chain that a byte belongs to
+abbrev pub chainEnd : ℕ → ℕ
+chainEnd b = 32 * (b / 32) + 32
 
 -- numbers below the capacities, eight chains, rising bytes that belong to their chain
 module _ (cap pcap : ℕ) where

@@ -20,6 +20,7 @@ use Rattle.layout.specs.Settings.{settingsOf, header, showsOpening}
 use Rattle.layout.specs.Lengths.{nodesLength, pagesLength, sketchesLength}
 use Rattle.layout.specs.Pages.{isLive, classOf, rowOf}
 use Rattle.children.specs.Heap.{Cells, nil, _⊕_}
+use Rattle.layout.specs.States.{kindOf}
 use Rattle.children.specs.Places.{placeFrom, findPlace}
 use Rattle.children.specs.Phys.{Phys, Buckets, noHeads, leafP, innerP, end, bucket, stop, link}
 use Rattle.trie_laws.specs.Sound.{filled, soundTrie, Stands}
@@ -27,7 +28,8 @@ use Rattle.trie.specs.Descend.{descend, descendTo}
 use Rattle.blocks.specs.RowBytes.{reduced, rowBytes}
 use Rattle.trie_remove.specs.declared.Removed.the-variants.{Done}
 use Rattle.trie_remove.specs.Take.{takePage}
-use Rattle.trie_remove.specs.Remove.{freeChild, setFirst, removeAt, removePage, gone}
+use Rattle.trie.specs.Model.{freeChild}
+use Rattle.trie_remove.specs.Remove.{setFirst, removeAt, removePage, gone}
 use Rattle.trie_remove.proofs.Example.{nodesOf, pagesOf, node-claims, page-claims, once-count}
 use Rattle.promises.specs.Tables.{Tables, tables, given, byTables, pageClass, pageRow, rowsOf}
 use Rattle.promises.specs.Answers.{number, entered, shown56, longSettings, longFor, longNodes, longPages}
@@ -107,5 +109,5 @@ done : DropSound T 0 (forestAfter (given T) (rowsOf T) (drop 0) F)
 done = drop-sound T F sound 0 (admitted T 0 passes)
 
 computed : removeAll (given T) (T .sketches) 0 N (T .pages) 0 ≡ gone (0 ∷ 0 ∷ 0 ∷ 1 ∷ 2 ∷ 0 ∷ 0 ∷ replicate 23 0) (T .pages) (Done 3)
-unfolding removeAll removeFrom removeBlock removePage removeAt setFirst freeChild takePage descendTo descend findPlace placeFrom settings settingsOf header given₁ rowBytes reduced rowOf bytesOfSketch pack packBytes packByte packedLength perByte block blockLength blockStart
+unfolding removeAll removeFrom removeBlock removePage removeAt setFirst freeChild kindOf takePage descendTo descend findPlace placeFrom settings settingsOf header given₁ rowBytes reduced rowOf bytesOfSketch pack packBytes packByte packedLength perByte block blockLength blockStart
 computed = refl

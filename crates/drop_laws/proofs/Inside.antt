@@ -9,6 +9,7 @@ use lib.Dec.{ltb, eqb}
 use lib.ListN.{length, getD, set}
 use Rattle.meaning.specs.Ledger.{Settings}
 use Rattle.layout.specs.Nodes.{stateAt, withLink, freeState, leafState, nodeWords}
+use Rattle.layout.specs.States.{kindOf, firstOf}
 use Rattle.layout.specs.Pages.{nextAt, linksAt}
 use Rattle.layout.specs.Lengths.{pagesLength}
 use Rattle.layout.proofs.Words.{link-behind}
@@ -25,7 +26,8 @@ use Rattle.trie_remove.specs.declared.Taken.the-variants.{First}
 use Rattle.trie_remove.specs.declared.Taken.the-variants as taken
 use Rattle.trie_remove.specs.declared.Removed.the-variants.{Done, Broken}
 use Rattle.trie_remove.specs.Take.{Took, took, takeFrom, takePage}
-use Rattle.trie_remove.specs.Remove.{Freed, freed, Gone, gone, goneTo, freeChild, setFirst, removeTaken, removeAt, removeReached, removePage}
+use Rattle.trie.specs.Model.{freeChild}
+use Rattle.trie_remove.specs.Remove.{Freed, freed, Gone, gone, goneTo, setFirst, removeTaken, removeAt, removeReached, removePage}
 use Rattle.store.specs.Within.{Within, Both}
 use Rattle.store.proofs.Within.{within-none, within-both, within-set, node-set}
 use Rattle.drop_laws.specs.Removal.{onRemoved, removeBlock, removeFrom, removeAll}
@@ -96,7 +98,7 @@ module _ (cap lo hi pcap base p : ℕ) (low : lo ≤ base) (high : base + pcap �
   at-within : (N P : List ℕ) (n s k free : ℕ) → n < cap → s < nodeWords cap → GoneIn cap lo hi N P (removeAt N P cap pcap base n s k p free)
   unfolding removeAt
   at-within N P n s k free ln ls =
-      go (takePage P pcap base (getD N (stateAt cap n) 0 - 2) p) (take-within lo hi pcap base p low high P (getD N (stateAt cap n) 0 - 2))
+      go (takePage P pcap base (firstOf (kindOf N cap n)) p) (take-within lo hi pcap base p low high P (firstOf (kindOf N cap n)))
     where
       left : (P' : List ℕ) (x : Freed) → FreedIn cap N x → Within lo hi P P' → GoneIn cap lo hi N P (goneTo P' x)
       left P' (freed N' free') h g = (h, g)
@@ -111,7 +113,7 @@ module _ (cap lo hi pcap base p : ℕ) (low : lo ≤ base) (high : base + pcap �
   unfolding removePage
   page-within N P Y root free lr o = go (descendTo N cap root Y) (descend-inside N cap Y o root lr)
     where
-      go : (r : Reach) → ReachInside N cap (length Y) r → GoneIn cap lo hi N P (removeReached N P cap pcap base p free r)
+      go : (r : Reach) → ReachInside cap (length Y) r → GoneIn cap lo hi N P (removeReached N P cap pcap base p free r)
       go (Leaf n s k) h = at-within N P n s k free (h .0) (h .1)
       go (Gap n s k) h = (within-none, within-none)
       go reach.Broken h = (within-none, within-none)

@@ -29,17 +29,7 @@ fn remove_block(
     let block = block_of(h, j);
     let rows = rows_of(h, j);
     let n = rows.bytes;
-    trie_remove::remove_page(
-        nodes,
-        pages,
-        block.nodes,
-        block.pages,
-        block.base,
-        j,
-        &bytes[..n],
-        p,
-        free,
-    )
+    trie_remove::remove_page(nodes, pages, block, j, &bytes[..n], p, free)
 }
 
 // The free link then, or that it stopped on unsound tables.

@@ -6,8 +6,7 @@ use Prim.Native.Nat.{ℕ, _+_, _*_, _≤_, _<_}
 use native.Mathlib.Nat.{mul-le-mul-right}
 use native.Mathlib.Omega.{arith}
 use lib.Dec.{ltb, leb, eqb}
-use lib.ListN.{length, take, take-append-drop, length-map}
-use lib.ListN.{drop as skip}
+use lib.ListN.{length, take, take-append-drop, length-map, drop as skip}
 use borrow.Author.Tests.{ltb-true, leb-true}
 use Rattle.meaning.specs.Lists.{any, upto}
 use Rattle.meaning.specs.Refusal.{firstNo}

@@ -3,8 +3,7 @@ use Prim.Native.Nat.{ℕ, zero, suc, _+_, _*_, _/_, _%_}
 use mathlib.Core.Bool.{Bool, cond, not}
 use mathlib.Core.List.{List, [], _∷_, _++_}
 use lib.Dec.{ltb, leb, eqb}
-use lib.ListN.{length, getD, take, replicate}
-use lib.ListN.{drop as skip}
+use lib.ListN.{length, getD, take, replicate, drop as skip}
 use Rattle.meaning.specs.Lists.{any}
 use Rattle.meaning.specs.Refusal.{ask, firstNo}
 use Rattle.meaning.specs.Rights.{Change, join, leave, grant, revoke}

@@ -1,4 +1,4 @@
--- The steps of the tests of a leaf, by what a turn's tests say.
+-- What a node is, and the steps of the tests of a leaf, by what a turn's tests say.
 use Prim.Native.Nat.{ℕ, zero, suc, _+_, _-_, _<_, _≤_}
 use native.Mathlib.Omega.{arith}
 use mathlib.Core.Path.{_≡_, refl, ap, _∙_}
@@ -8,17 +8,35 @@ use lib.Dec.{eqb}
 use lib.ListN.{getD}
 use borrow.Author.Tests.{le-ltb, lt-ltb, eq-eqb, ne-eqb}
 use Rattle.meaning.proofs.Stacks.{suc-pred}
-use Rattle.layout.specs.Nodes.{headAt}
 use Rattle.layout.specs.Pages.{isLive}
+use Rattle.layout.specs.States.{kindOf as stated}
+use Rattle.layout.specs.declared.nodes.Kind.{Kind as Stated}
+use Rattle.layout.specs.declared.nodes.Kind.the-variants as kind
+use Rattle.children.specs.Order.{bare}
 use Rattle.blocks.specs.declared.Level.{Level}
 use Rattle.blocks.specs.declared.Rows.{Rows}
 use Rattle.blocks.specs.Packed.{pageByte, levelAt}
+use Rattle.node_check.specs.declared.leaf.Kind.the-variants.{Inner, Leaf, Damaged}
 use Rattle.node_check.specs.declared.leaf.Left.the-variants.{Some, Failed}
-use Rattle.node_check.specs.Leaf.{onPath, testLeaf}
+use Rattle.node_check.specs.Leaf.{kindOf, onPath, testLeaf}
 
--- head g of node x is 0
-abbrev pub bareAt : List ℕ → ℕ → ℕ → ℕ → Bool
-bareAt N cap x g = eqb (getD N (headAt cap x g) 0) 0
+-- what a node is, by each way
+module _ (N : List ℕ) (cap x : ℕ) (s : Stated) (e : s ≡ stated N cap x) where
+  pub kind-free : s ≡ kind.Free → Damaged ≡ kindOf N cap x
+  unfolding kindOf
+  kind-free q = rw (← e, q) refl
+
+  pub kind-inner : s ≡ kind.Inner → Inner ≡ kindOf N cap x
+  unfolding kindOf
+  kind-inner q = rw (← e, q) refl
+
+  pub kind-damaged : (first : ℕ) → s ≡ kind.Leaf first → bare N cap x ≡ false → Damaged ≡ kindOf N cap x
+  unfolding kindOf
+  kind-damaged first q b = rw (← e, q, b) refl
+
+  pub kind-leaf : (first : ℕ) → s ≡ kind.Leaf first → bare N cap x ≡ true → Leaf first ≡ kindOf N cap x
+  unfolding kindOf
+  kind-leaf first q b = rw (← e, q, b) refl
 
 -- byte k of page p is that of the path
 abbrev pub matchAt : List ℕ → Rows → List ℕ → ℕ → ℕ → Bool

@@ -1,82 +1,86 @@
--- Steps in a node, by what the tests of the link and the byte say; and that they stay in the table.
-use Prim.Native.Nat.{ℕ, _+_, _*_, _-_, _<_, _≤_}
-use native.Mathlib.Omega.{arith}
-use mathlib.Core.Path.{_≡_, refl, subst}
+-- Steps in a node: where they lead, and that they stay in the table.
+use Prim.Native.Nat.{ℕ, _<_}
+use mathlib.Core.Path.{_≡_, refl}
 use mathlib.Core.Bool.{Bool, true, false, cond}
 use mathlib.Core.List.{List}
-use lib.Dec.{ltb, eqb}
-use lib.ListN.{getD}
-use borrow.Author.Tests.{lt-ltb, le-ltb, ltb-true, ltb-false, eqb-false}
+use native.Mathlib.Omega.{arith}
 use Rattle.meaning.specs.Sketch.{packable}
-use Rattle.layout.specs.Nodes.{linkOf, byteOf, headAt}
-use Rattle.node_check.specs.declared.frame.Frame.{Frame}
-use Rattle.node_check.specs.declared.frame.Step.{Step}
-use Rattle.node_check.specs.declared.frame.Step.the-variants.{Chain, Child, Up, Broken}
-use Rattle.node_check.specs.Frame.{stepAlong, stepIn}
+use Rattle.children.specs.declared.order.Frame.{Frame}
+use Rattle.children.specs.declared.order.Step.{Step}
+use Rattle.children.specs.declared.order.Step.the-variants.{Chain, Child, Up, Broken}
+use Rattle.children.specs.Order.{nextChild}
+use Rattle.children.proofs.Ordered as order
+use Rattle.node_check.specs.Frame.{packing, stepIn}
 
 module _ (N : List ℕ) (cap b n k : ℕ) (f : Frame) where
-  pub along-outside : cap < f .link → stepAlong N cap b n k f ≡ Broken
-  unfolding stepAlong
-  along-outside o = rw (lt-ltb cap (f .link) o)
+  -- what a match on the child tells
+  module _ (r : Step) (e : r ≡ nextChild N cap f) where
+    pub step-child : (x byte link : ℕ) → r ≡ Child x byte link → packable b n k byte ≡ true → Child x byte link ≡ stepIn N cap b n k f
+    unfolding stepIn
+    step-child x byte link q p = rw (← e, q, p) refl
 
-  module _ (word byte : ℕ) (i : f .link ≤ cap) (e : word ≡ getD N (f .link - 1) 0) (g : byte ≡ byteOf word) where
-    pub along-low : byte < f .least → stepAlong N cap b n k f ≡ Broken
-    unfolding stepAlong
-    along-low l = rw (le-ltb cap (f .link) i, ← e, ← g, lt-ltb byte (f .least) l)
+    pub step-odd : (x byte link : ℕ) → r ≡ Child x byte link → packable b n k byte ≡ false → Broken ≡ stepIn N cap b n k f
+    unfolding stepIn
+    step-odd x byte link q p = rw (← e, q, p) refl
 
-    pub along-high : f .least ≤ byte → 32 * f .group + 31 < byte → stepAlong N cap b n k f ≡ Broken
-    unfolding stepAlong
-    along-high l h = rw (le-ltb cap (f .link) i, ← e, ← g, le-ltb byte (f .least) l, lt-ltb (32 * f .group + 31) byte h)
+    pub step-chain : (link : ℕ) → r ≡ Chain link → Chain link ≡ stepIn N cap b n k f
+    unfolding stepIn
+    step-chain link q = rw (← e, q) refl
 
-    pub along-odd : f .least ≤ byte → byte ≤ 32 * f .group + 31 → packable b n k byte ≡ false → stepAlong N cap b n k f ≡ Broken
-    unfolding stepAlong
-    along-odd l h p = rw (le-ltb cap (f .link) i, ← e, ← g, le-ltb byte (f .least) l, le-ltb (32 * f .group + 31) byte h, p)
+    pub step-up : r ≡ Up → Up ≡ stepIn N cap b n k f
+    unfolding stepIn
+    step-up q = rw (← e, q) refl
 
-    pub along-child : (link : ℕ) → f .least ≤ byte → byte ≤ 32 * f .group + 31 → packable b n k byte ≡ true → link ≡ linkOf word
-        → stepAlong N cap b n k f ≡ Child (f .link - 1) byte link
-    unfolding stepAlong
-    along-child link l h p j = rw (le-ltb cap (f .link) i, ← e, ← g, le-ltb byte (f .least) l, le-ltb (32 * f .group + 31) byte h, p, j)
+    pub step-broken : r ≡ Broken → Broken ≡ stepIn N cap b n k f
+    unfolding stepIn
+    step-broken q = rw (← e, q) refl
 
--- a step leads to a chain of the eight, or to a node of the table, with a byte
-abbrev Within : ℕ → Frame → Step → Type 0
-Within cap f (Chain link) = f .group < 7
-Within cap f (Child x byte link) = (x < cap) × (byte < 256)
-Within cap f Up = Unit {0}
-Within cap f Broken = Unit {0}
-
-module _ (N : List ℕ) (cap b n k : ℕ) (f : Frame) (m : f .group < 8) where
-  within-along : 0 < f .link → Within cap f (stepAlong N cap b n k f)
-  unfolding stepAlong
-  within-along s =
-      let byte : ℕ = byteOf (getD N (f .link - 1) 0) in
-      go (ltb cap (f .link)) (ltb byte (f .least)) (ltb (32 * f .group + 31) byte) (packable b n k byte) refl refl
-    where
-      go : (outside low high fit : Bool) → ltb cap (f .link) ≡ outside → ltb (32 * f .group + 31) (byteOf (getD N (f .link - 1) 0)) ≡ high
-          → Within cap f
-          (cond outside Broken
-          (cond low Broken
-          (cond high Broken (cond fit (Child (f .link - 1) (byteOf (getD N (f .link - 1) 0)) (linkOf (getD N (f .link - 1) 0))) Broken))))
-      go true low high fit e g = tt
-      go false true high fit e g = tt
-      go false false true fit e g = tt
-      go false false false true e g = (
-        omega (arith, ltb-false cap (f .link) e),
-        omega (arith, ltb-false (32 * f .group + 31) (byteOf (getD N (f .link - 1) 0)) g),
-      )
-      go false false false false e g = tt
-
-  step-within : Within cap f (stepIn N cap b n k f)
+  -- back: the child, and that its byte is one that packing can give
+  pub packed-child : (x byte link : ℕ) → stepIn N cap b n k f ≡ Child x byte link → (nextChild N cap f ≡ Child x byte link) × (packable b n k byte ≡ true)
   unfolding stepIn
-  step-within = go (eqb (f .link) 0) (ltb (f .group) 7) refl refl
+  packed-child x byte link h = go (nextChild N cap f) refl h
     where
-      go : (q r : Bool) → eqb (f .link) 0 ≡ q → ltb (f .group) 7 ≡ r
-          → Within cap f (cond q (cond r (Chain (getD N (headAt cap (f .node) (f .group + 1)) 0)) Up) (stepAlong N cap b n k f))
-      go true true e g = ltb-true (f .group) 7 g
-      go true false e g = tt
-      go false r e g = within-along (omega (arith, eqb-false (f .link) 0 e))
+      here : (y c l : ℕ) (q : Bool) → packable b n k c ≡ q → cond q (Child y c l) Broken ≡ Child x byte link → (Child y c l ≡ Child x byte link) × (packable b n k byte ≡ true)
+      here y c l true e h = let z : c ≡ byte = cc in (h, rw (← z) e)
+      here y c l false e h = let z : _≡_ {A = ℕ} 0 1 = cc in absurd (omega arith)
 
-  pub chain-within : (link : ℕ) → stepIn N cap b n k f ≡ Chain link → f .group < 7
-  chain-within link e = subst (Within cap f) e step-within
+      go : (s : Step) → nextChild N cap f ≡ s → packing b n k s ≡ Child x byte link → (nextChild N cap f ≡ Child x byte link) × (packable b n k byte ≡ true)
+      go (Child y c l) e h = let i = here y c l (packable b n k c) refl h in (rw e (i .0), i .1)
+      go (Chain l) e h = let z : _≡_ {A = ℕ} 0 1 = cc in absurd (omega arith)
+      go Up e h = let z : _≡_ {A = ℕ} 0 1 = cc in absurd (omega arith)
+      go Broken e h = let z : _≡_ {A = ℕ} 0 1 = cc in absurd (omega arith)
 
-  pub child-within : (x byte link : ℕ) → stepIn N cap b n k f ≡ Child x byte link → (x < cap) × (byte < 256)
-  child-within x byte link e = subst (Within cap f) e step-within
+  pub packed-chain : (link : ℕ) → stepIn N cap b n k f ≡ Chain link → nextChild N cap f ≡ Chain link
+  unfolding stepIn
+  packed-chain link h = go (nextChild N cap f) refl h
+    where
+      here : (y c l : ℕ) (q : Bool) → cond q (Child y c l) Broken ≡ Chain link → ⊥
+      here y c l true h = let z : _≡_ {A = ℕ} 0 1 = cc in omega arith
+      here y c l false h = let z : _≡_ {A = ℕ} 0 1 = cc in omega arith
+
+      go : (s : Step) → nextChild N cap f ≡ s → packing b n k s ≡ Chain link → nextChild N cap f ≡ Chain link
+      go (Child y c l) e h = absurd (here y c l (packable b n k c) h)
+      go (Chain l) e h = rw e h
+      go Up e h = rw e h
+      go Broken e h = rw e h
+
+  pub packed-up : stepIn N cap b n k f ≡ Up → nextChild N cap f ≡ Up
+  unfolding stepIn
+  packed-up h = go (nextChild N cap f) refl h
+    where
+      here : (y c l : ℕ) (q : Bool) → cond q (Child y c l) Broken ≡ Up → ⊥
+      here y c l true h = let z : _≡_ {A = ℕ} 0 1 = cc in omega arith
+      here y c l false h = let z : _≡_ {A = ℕ} 0 1 = cc in omega arith
+
+      go : (s : Step) → nextChild N cap f ≡ s → packing b n k s ≡ Up → nextChild N cap f ≡ Up
+      go (Child y c l) e h = absurd (here y c l (packable b n k c) h)
+      go (Chain l) e h = rw e h
+      go Up e h = rw e h
+      go Broken e h = rw e h
+
+  module _ (m : f .group < 8) where
+    pub chain-within : (link : ℕ) → stepIn N cap b n k f ≡ Chain link → f .group < 7
+    chain-within link e = order.chain-within N cap f m link (packed-chain link e)
+
+    pub child-within : (x byte link : ℕ) → stepIn N cap b n k f ≡ Child x byte link → (x < cap) × (byte < 256)
+    child-within x byte link e = order.child-within N cap f m x byte link (packed-child x byte link e .0)

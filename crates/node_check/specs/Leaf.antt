@@ -5,24 +5,26 @@ use mathlib.Core.List.{List}
 use lib.Dec.{ltb, eqb}
 use lib.ListN.{getD}
 use Rattle.meaning.specs.Lists.{all, upto}
-use Rattle.layout.specs.Nodes.{stateAt, headAt, freeState, innerState}
+use Rattle.layout.specs.States.{kindOf as stated}
+use Rattle.layout.specs.declared.nodes.Kind.{Kind as Stated}
+use Rattle.layout.specs.declared.nodes.Kind.the-variants as kind
 use Rattle.layout.specs.Pages.{isLive}
 use Rattle.blocks.specs.declared.Rows.{Rows}
+use Rattle.children.specs.Order.{bare}
 use Rattle.blocks.specs.Packed.{pageByte, levelAt}
 use Rattle.node_check.specs.declared.leaf.Kind.{Kind}
 use Rattle.node_check.specs.declared.leaf.Kind.the-variants.{Inner, Leaf, Damaged}
 use Rattle.node_check.specs.declared.leaf.Left.{Left}
 use Rattle.node_check.specs.declared.leaf.Left.the-variants.{Some, Failed}
 
--- all heads of node x are 0
-unfoldable pub bare : List ℕ → ℕ → ℕ → Bool
-bare N cap x = all (λ g. eqb (getD N (headAt cap x g) 0) 0) (upto 8)
+-- a leaf has no children
+abbrev pub childless : Bool → Stated → Kind
+childless q kind.Free = Damaged
+childless q kind.Inner = Inner
+childless q (kind.Leaf first) = cond q (Leaf first) Damaged
 
 unfoldable pub kindOf : List ℕ → ℕ → ℕ → Kind
-kindOf N cap x =
-    cond (eqb (getD N (stateAt cap x) 0) freeState) Damaged
-    (cond (eqb (getD N (stateAt cap x) 0) innerState) Inner
-    (cond (bare N cap x) (Leaf (getD N (stateAt cap x) 0 - 2)) Damaged))
+kindOf N cap x = childless (bare N cap x) (stated N cap x)
 
 -- the first d bytes of page p are those of the path
 unfoldable pub onPath : List ℕ → Rows → List ℕ → ℕ → ℕ → Bool

@@ -1,99 +1,15 @@
-// The children of an inner node that are still to be tested, and the step to the next of them.
+// The step to the next child of an inner node that is to be tested.
 ghost use mathlib.Core.Path.{_≡_};
 ghost use Prim.Native.Nat.{_≤_, _<_};
-ghost use lib.ListN.{length};
 ghost use Rattle.meaning.specs.Sketch.{packedLength};
 ghost use Rattle.sketch.specs.Settings.{Bits};
 ghost use Rattle.layout.specs.Tables.{NodeTable};
-ghost use Rattle.node_check.specs.Frame.{entered, pastChild, nextChain, stepAlong, stepIn};
+ghost use Rattle.node_check.specs.Frame.{stepIn};
+use children::order::Frame;
+use children::order::Step;
+use children::order::next_child;
 
-// The children of a node from `link` on in chain `group`, whose bytes are to be `least` or more, and those in the later chains.
-pub struct Frame {
-    pub node: u32,
-    pub group: u32,
-    pub link: u32,
-    pub least: u32,
-}
-
-pub enum Step {
-    // to the next chain, by its first link
-    Chain(u32),
-    // to a child: its number, its byte, and the link after it
-    Child(u32, u32, u32),
-    // no child is left
-    Up,
-    // a link or a byte is not in order
-    Broken,
-}
-
-// All children of node x.
-pub fn enter(nodes: &[u32], cap: usize, x: usize) -> Frame
-    requires { ⌜ NodeTable cap (now nodes) ⌝ }
-    requires { ⌜ x < cap ⌝ }
-    ensures { λ r. ⌜ r ≡ entered (now (nodes .entry)) cap x ⌝ }
-{
-    Frame {
-        node: x as u32,
-        group: 0,
-        link: nodes[layout::nodes::head_at(cap, x, 0)],
-        least: 0,
-    }
-}
-
-// The children after one with a byte, from a link on.
-pub fn past_child(frame: Frame, byte: u32, link: u32) -> Frame
-    requires { ⌜ byte < 256 ⌝ }
-    ensures { λ r. ⌜ r ≡ pastChild frame byte link ⌝ }
-{
-    Frame {
-        node: frame.node,
-        group: frame.group,
-        link,
-        least: byte + 1,
-    }
-}
-
-// The children in the next chain, from its first link on, and in those after it.
-pub fn next_chain(frame: Frame, link: u32) -> Frame
-    requires { ⌜ frame .group < 7 ⌝ }
-    ensures { λ r. ⌜ r ≡ nextChain frame link ⌝ }
-{
-    let group = frame.group + 1;
-    Frame {
-        node: frame.node,
-        group,
-        link,
-        least: 32 * group,
-    }
-}
-
-// The step to the next child of a chain, in a node at level k of a block of n symbols.
-fn step_along(nodes: &[u32], cap: usize, b: u32, n: usize, k: usize, frame: Frame) -> Step
-    requires { ⌜ NodeTable cap (now nodes) ⌝ }
-    requires { ⌜ Bits b ⌝ }
-    requires { ⌜ (n ≤ 64) × (k < packedLength b n) ⌝ }
-    requires { ⌜ (0 < frame .link) × (frame .group < 8) ⌝ }
-    ensures { λ r. ⌜ r ≡ stepAlong (now (nodes .entry)) cap b n k frame ⌝ }
-{
-    let x = frame.link - 1;
-    if x as usize >= cap {
-        return Step::Broken;
-    }
-    let w = nodes[x as usize];
-    let byte = layout::nodes::byte_of(w);
-    if byte < frame.least {
-        return Step::Broken;
-    }
-    if 32 * frame.group + 31 < byte {
-        return Step::Broken;
-    }
-    if !sketch::packing::packable(b, n, k, byte as u8) {
-        return Step::Broken;
-    }
-    Step::Child(x, byte, layout::nodes::link_of(w))
-}
-
-// The next step in a node at level k.
+// In a node at level k of a block of n symbols: the byte of a child is to be such as packing can give there.
 pub fn next_step(nodes: &[u32], cap: usize, b: u32, n: usize, k: usize, frame: Frame) -> Step
     requires { ⌜ NodeTable cap (now nodes) ⌝ }
     requires { ⌜ Bits b ⌝ }
@@ -101,12 +17,16 @@ pub fn next_step(nodes: &[u32], cap: usize, b: u32, n: usize, k: usize, frame: F
     requires { ⌜ (frame .node < cap) × (frame .group < 8) ⌝ }
     ensures { λ r. ⌜ r ≡ stepIn (now (nodes .entry)) cap b n k frame ⌝ }
 {
-    if frame.link != 0 {
-        return step_along(nodes, cap, b, n, k, frame);
+    let step = next_child(nodes, cap, frame);
+    match step {
+        Step::Child(x, byte, link) => {
+            if !sketch::packing::packable(b, n, k, byte as u8) {
+                return Step::Broken;
+            }
+            Step::Child(x, byte, link)
+        }
+        Step::Chain(link) => Step::Chain(link),
+        Step::Up => Step::Up,
+        Step::Broken => Step::Broken,
     }
-    if frame.group >= 7 {
-        return Step::Up;
-    }
-    let g = frame.group as usize + 1;
-    Step::Chain(nodes[layout::nodes::head_at(cap, frame.node as usize, g)])
 }

@@ -4,50 +4,36 @@ ghost use Prim.Native.Nat.{_≤_, _<_};
 ghost use lib.ListN.{length};
 ghost use Rattle.layout.specs.Tables.{NodeTable, PageTable};
 ghost use Rattle.blocks.specs.Tables.{RowTable};
-ghost use Rattle.node_check.specs.Leaf.{bare, kindOf, onPath, testLeaf};
+ghost use Rattle.node_check.specs.Leaf.{kindOf, onPath, testLeaf};
 use blocks::Rows;
+use children::order::is_bare;
 use layout::Block;
 
 pub enum Kind {
     Inner,
     // by the link to its first page
     Leaf(u32),
-    // free, or a leaf with a head that is not 0
+    // free, or a leaf with children
     Damaged,
 }
 
-// Are all heads of node x 0?
-pub fn is_bare(nodes: &[u32], cap: usize, x: usize) -> bool
-    requires { ⌜ NodeTable cap (now nodes) ⌝ }
-    requires { ⌜ x < cap ⌝ }
-    ensures { λ r. ⌜ r ≡ bare (now (nodes .entry)) cap x ⌝ }
-{
-    let mut g = 0;
-    while g < 8 {
-        if nodes[layout::nodes::head_at(cap, x, g)] != 0 {
-            return false;
-        }
-        g += 1;
-    }
-    true
-}
-
+// What node x is: a leaf has no children.
 pub fn kind_of(nodes: &[u32], cap: usize, x: usize) -> Kind
     requires { ⌜ NodeTable cap (now nodes) ⌝ }
     requires { ⌜ x < cap ⌝ }
     ensures { λ r. ⌜ r ≡ kindOf (now (nodes .entry)) cap x ⌝ }
 {
-    let state = nodes[layout::nodes::state_at(cap, x)];
-    if state == 0 {
-        return Kind::Damaged;
+    let kind = layout::nodes::kind_of(nodes, cap, x);
+    match kind {
+        layout::nodes::Kind::Free => Kind::Damaged,
+        layout::nodes::Kind::Inner => Kind::Inner,
+        layout::nodes::Kind::Leaf(first) => {
+            if !is_bare(nodes, cap, x) {
+                return Kind::Damaged;
+            }
+            Kind::Leaf(first)
+        }
     }
-    if state == 1 {
-        return Kind::Inner;
-    }
-    if !is_bare(nodes, cap, x) {
-        return Kind::Damaged;
-    }
-    Kind::Leaf(state - 2)
 }
 
 // Are the first `depth` bytes of page p those of the path?

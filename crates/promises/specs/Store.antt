@@ -9,8 +9,7 @@ use Prim.Native.Nat.{ℕ, _+_}
 use mathlib.Core.Path.{_≡_}
 use mathlib.Core.Logic.{_≢_, _⊎_}
 use mathlib.Core.List.{List, []}
-use lib.ListN.{length, take}
-use lib.ListN.{drop as skip}
+use lib.ListN.{length, take, drop as skip}
 use Rattle.meaning.specs.Trie.{Tree}
 use Rattle.meaning.specs.Ledger.{add, drop}
 use Rattle.meaning.specs.Forest.{forestAfter}

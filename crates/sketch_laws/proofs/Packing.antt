@@ -2,8 +2,7 @@
 -- Each law is over the bits a symbol, b.
 use Prim.Native.Nat.{ℕ, zero, suc, _+_, _*_, _-_, _/_, _%_, _^_, _≤_, _<_}
 use native.Mathlib.Omega.{arith}
-use native.Mathlib.Nat.{div-zero, le-mul-of-pos-right, not-suc-le-zero, not-le-of-lt, lt-of-lt-of-le, eq-zero-or-pos, le-div-iff-mul-le, div-mul-le-self, div-add-mod', mod-lt, mod-eq-of-lt}
-use native.Mathlib.Nat.{mul-le-mul-left, mul-le-mul-right, min-le-left, mul-zero, mul-suc, mul-comm, zero-mul, div-div-eq-div-mul, zero-add, zero-div, zero-mod, div-one, mod-one, add-mul-mod-self-left, add-mul-div-left, div-eq-of-lt, add-comm}
+use native.Mathlib.Nat.{div-zero, le-mul-of-pos-right, not-suc-le-zero, not-le-of-lt, lt-of-lt-of-le, eq-zero-or-pos, le-div-iff-mul-le, div-mul-le-self, div-add-mod', mod-lt, mod-eq-of-lt, mul-le-mul-left, mul-le-mul-right, min-le-left, mul-zero, mul-suc, mul-comm, zero-mul, div-div-eq-div-mul, zero-add, zero-div, zero-mod, div-one, mod-one, add-mul-mod-self-left, add-mul-div-left, div-eq-of-lt, add-comm}
 use native.Mathlib.Decide.{decLe, decLt}
 use mathlib.Core.Path.{_≡_, refl, sym, ap, _∙_}
 use mathlib.Core.Logic.{_↔_, ⊎-elim, by-cases}

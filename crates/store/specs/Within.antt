@@ -2,8 +2,7 @@
 use Prim.Native.Nat.{ℕ}
 use mathlib.Core.Path.{_≡_}
 use mathlib.Core.List.{List}
-use lib.ListN.{length, take}
-use lib.ListN.{drop as skip}
+use lib.ListN.{length, take, drop as skip}
 use Rattle.layout.specs.Nodes.{nodeWords}
 
 pub record Within (lo hi : ℕ) (A B : List ℕ) : Type 0 where

@@ -9,10 +9,13 @@ use mathlib.Core.List.{List}
 use lib.ListN.{length, getD}
 use Rattle.meaning.specs.Trie.{Tree, inner, Children, byteAt}
 use Rattle.layout.specs.Nodes.{mostNodes}
+use Rattle.layout.specs.States.{kindOf}
+use Rattle.layout.specs.declared.nodes.Kind.the-variants as kind
+use Rattle.layout.proofs.States.{kind-state}
 use Rattle.children.specs.declared.place.Place.the-variants.{Found, Missing}
 use Rattle.children.specs.Heap.{Cells, Holds, node}
 use Rattle.children.specs.Places.{findPlace}
-use Rattle.children.specs.Phys.{Phys, Buckets, Chain, root, tree, childrenB, cells, State, leafP, innerP, link}
+use Rattle.children.specs.Phys.{Phys, Buckets, Chain, root, tree, childrenB, first, cells, State, leafP, innerP, link}
 use Rattle.children.proofs.Spot.{starts, begins, headC, answer, SpotB, spot}
 use Rattle.trie_laws.specs.Path.{hasBelow, hasPath, subtree, pathOf, depth}
 use Rattle.trie_laws.specs.Sound.{soundTrie}
@@ -93,7 +96,8 @@ module _ (cap pcap base : ℕ) (small : cap ≤ mostNodes) (bytesOf : ℕ → Li
     at-leaf : (k s n : ℕ) (ps : List ℕ) → Way cap pcap base small bytesOf p t k (leafP n ps) → Linked t k (leafP n ps) s → Arrives t (descend N cap Y n s k (length Y - k))
     unfolding hasBelow
     at-leaf k s n ps w l =
-        subst (Arrives t) (desc-leaf N cap Y n s k (descend N cap Y n s k (length Y - k)) refl (omega (arith, there k (leafP n ps) w .0)))
+        let z : kindOf N cap n ≡ kind.Leaf (first ps) = kind-state N cap n (kind.Leaf (first ps)) (there k (leafP n ps) w .0) in
+        subst (Arrives t) (desc-leaf N cap Y n s k (descend N cap Y n s k (length Y - k)) refl (kindOf N cap n) refl (first ps) z)
         (record { pages = ps; way = w; linked = l; deep = deep-end t k (leafP n ps) w refl })
 
     module _ (k s n : ℕ) (bs : Buckets) (w : Way cap pcap base small bytesOf p t k (innerP n bs)) (l : k < length Y) (m : byteAt bytesOf k p < 256) (o : SpotB cap pcap base small bs n 0 (byteAt bytesOf k p)) where
@@ -103,9 +107,9 @@ module _ (cap pcap base : ℕ) (small : cap ≤ mostNodes) (bytesOf : ℕ → Li
       at-gap : starts (o .tail) (byteAt bytesOf k p) ≡ false → Arrives t (descend N cap Y n s k (length Y - k))
       unfolding hasBelow
       at-gap e =
-          let z = there k (innerP n bs) w .0 in
+          let z : kindOf N cap n ≡ kind.Inner = kind-state N cap n kind.Inner (there k (innerP n bs) w .0) in
           subst (Arrives t)
-          (desc-gap N cap Y n s k (descend N cap Y n s k (length Y - k)) refl (omega arith) (omega arith) l (Missing (o .slot)) (place false e) (o .slot) refl)
+          (desc-gap N cap Y n s k (descend N cap Y n s k (length Y - k)) refl (kindOf N cap n) refl z l (Missing (o .slot)) (place false e) (o .slot) refl)
           (record {
             buckets = bs;
             way = w;
@@ -119,9 +123,9 @@ module _ (cap pcap base : ℕ) (small : cap ≤ mostNodes) (bytesOf : ℕ → Li
       at-child : (u : Phys) (after : Chain) → o .tail ≡ link (byteAt bytesOf k p) u after → starts (o .tail) (byteAt bytesOf k p) ≡ true →
           Arrives t (descend N cap Y (root u) (o .slot) (suc k) (length Y - suc k)) → Arrives t (descend N cap Y n s k (length Y - k))
       at-child u after c e r =
-          let z = there k (innerP n bs) w .0 in
+          let z : kindOf N cap n ≡ kind.Inner = kind-state N cap n kind.Inner (there k (innerP n bs) w .0) in
           subst (Arrives t)
-          (desc-found N cap Y n s k (descend N cap Y n s k (length Y - k)) refl (omega arith) (omega arith) l (Found (o .slot) (root u)) (rw c at (place true e)) (root u) (o .slot) refl)
+          (desc-found N cap Y n s k (descend N cap Y n s k (length Y - k)) refl (kindOf N cap n) refl z l (Found (o .slot) (root u)) (rw c at (place true e)) (root u) (o .slot) refl)
           (rw (add-one k) r)
 
     at-node : (k s : ℕ) (u : Phys) → Way cap pcap base small bytesOf p t k u → Linked t k u s →

@@ -1,12 +1,12 @@
 -- A trie with a hole where the bytes of a page lead: what is done to the subtree there is done to the whole.
-use Prim.Native.Nat.{ℕ, suc, _+_, _*_, _/_, _<_, _≤_}
+use Prim.Native.Nat.{ℕ, suc, _+_, _<_, _≤_}
 use mathlib.Core.Path.{_≡_, refl, ap, _∙_, sym}
 use mathlib.Core.List.{List}
 use native.Mathlib.Omega.{arith}
 use Rattle.meaning.specs.Trie.{Tree, inner, Children, child, nodes}
 use Rattle.layout.specs.Nodes.{chainWord, stateAt, innerState, mostNodes}
 use Rattle.children.specs.Heap.{Cells, nil, node, _⊕_}
-use Rattle.children.specs.Phys.{Phys, Buckets, Chain, root, tree, childrenB, childrenC, freeCells, cells, cellsC, Sound, SoundC, State, innerP, link}
+use Rattle.children.specs.Phys.{Phys, Buckets, Chain, root, tree, childrenB, childrenC, freeCells, cells, cellsC, Sound, SoundC, State, innerP, link, chainEnd}
 use Rattle.children.proofs.Frame.{Less, less, less-right, Same}
 use Rattle.trie.proofs.Abstract.{Kept, Walks}
 use Rattle.children.proofs.Spot.{SpotB}
@@ -87,7 +87,7 @@ module _ (cap pcap base : ℕ) (small : cap ≤ mostNodes) (byte : ℕ → ℕ) 
     pub kept-below : (F : ℕ → Tree → Tree) (w : Walks byte F) (x : Tree) → Kept (F j (belowT x))
     kept-below F w x = rw (w .inside j (s .before (child (byte j) x (childrenC after (s .later))))) tt
 
-    unfoldable pub inside : n < cap → byte j < 256 → SoundC cap pcap after (suc (byte j)) (32 * (byte j / 32) + 32) → Context k top (suc j) m
+    unfoldable pub inside : n < cap → byte j < 256 → SoundC cap pcap after (suc (byte j)) (chainEnd (byte j)) → Context k top (suc j) m
     inside l b g =
         record {
           put = λ u. C .put (below u);

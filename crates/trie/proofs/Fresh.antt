@@ -1,21 +1,20 @@
 -- The first free node as an empty leaf for a byte that is missing: `linkLeaf` keeps the state.
-use Prim.Native.Nat.{ℕ, suc, _+_, _*_, _-_, _/_, _<_, _≤_}
-use mathlib.Core.Path.{_≡_, refl, sym, subst}
+use Prim.Native.Nat.{ℕ, _+_, _-_, _<_, _≤_}
+use mathlib.Core.Path.{_≡_, refl, sym}
 use mathlib.Core.List.{List, [], _∷_}
 use mathlib.Core.Bool.{false}
 use native.Mathlib.Omega.{arith}
 use lib.ListN.{getD, length-set}
 use Rattle.meaning.specs.Trie.{nodes}
-use Rattle.layout.specs.Nodes.{chainWord, withLink, stateAt, freeState, innerState, leafState, mostNodes}
+use Rattle.layout.specs.Nodes.{stateAt, freeState, innerState, leafState, mostNodes}
 use Rattle.trie.specs.declared.leaf.Got.the-variants.{Node}
-use Rattle.children.specs.Heap.{Cells, Holds, Heap, node, _⊕_}
-use Rattle.children.specs.Places.{linkAt}
+use Rattle.children.specs.Heap.{Cells, node, _⊕_}
 use Rattle.trie.specs.Model.{linkLeaf, freshLeaf, made}
-use Rattle.children.specs.Phys.{Phys, Buckets, Chain, first, noHeads, freeCells, cells, cellsC, State, leafP, innerP, link}
-use Rattle.children.proofs.Frame.{Less, less, node-write3, nodes-kept}
+use Rattle.children.specs.Phys.{Phys, Buckets, first, noHeads, freeCells, cells, cellsB, State, leafP, innerP, link, chainEnd}
+use Rattle.children.proofs.Frame.{Less, less, node-write, nodes-kept}
 use Rattle.trie.proofs.Steps.{fresh-made}
-use Rattle.children.proofs.Chains.{linkC, afterC, chain-head, link-below, past}
-use Rattle.children.proofs.Spot.{starts, SpotB}
+use Rattle.children.proofs.Joins.{put-in}
+use Rattle.children.proofs.Spot.{starts, past, SpotB}
 
 module _ (cap pcap base : ℕ) (small : cap ≤ mostNodes) where
   module _ {N P : List ℕ} {free n f b : ℕ} {bs : Buckets} {fs : List ℕ} {G : Cells}
@@ -23,56 +22,34 @@ module _ (cap pcap base : ℕ) (small : cap ≤ mostNodes) where
     abbrev pub withLeaf : Phys
     withLeaf = innerP n (s .put (link b (leafP f []) (s .tail)))
 
-    abbrev x : Chain
-    x = link b (leafP f []) (s .tail)
-
     R : Cells
-    R = afterC cap base (s .tail) ⊕ node (stateAt cap n) innerState ⊕ s .rest ⊕ noHeads cap f ⊕ freeCells cap fs ⊕ G
+    R = node (stateAt cap n) innerState ⊕ freeCells cap fs ⊕ G
 
-    apart : Less (cells cap base (innerP n (s .put (s .tail))) ⊕ freeCells cap (f ∷ fs) ⊕ G)
-        (node f (first fs) ⊕ node (stateAt cap f) freeState ⊕ node (s .slot) (chainWord (s .byte) (linkC (s .tail))) ⊕ R)
+    apart : Less (cells cap base (innerP n bs) ⊕ freeCells cap (f ∷ fs) ⊕ G) (node (stateAt cap f) freeState ⊕ noHeads cap f ⊕ node f (first fs) ⊕ cellsB cap base bs n 0 ⊕ R)
     unfolding R
-    apart =
-        let p = s .same (s .tail) .to in
-        let q = chain-head cap base (s .tail) (s .slot) (s .byte) .to in
-        record {
-          holds = λ N P h. let i = p .holds N P (h .0 .1) in let o = q .holds N P (i .0) in search;
-          nodes = λ a. omega (arith, p .nodes a, q .nodes a);
-          pages = λ a. omega (arith, p .pages a, q .pages a);
-        }
+    apart = record { holds = λ N P h. search; nodes = λ a. omega arith; pages = λ a. omega arith }
 
-    together : Less (node f (chainWord b (linkC (s .tail))) ⊕ node (stateAt cap f) (leafState 0) ⊕ node (s .slot) (chainWord (s .byte) (f + 1)) ⊕ R)
-        (cells cap base withLeaf ⊕ freeCells cap fs ⊕ G)
+    loose : Less (node (stateAt cap f) (leafState 0) ⊕ noHeads cap f ⊕ node f (first fs) ⊕ cellsB cap base bs n 0 ⊕ R)
+        (node f (first fs) ⊕ cells cap base (leafP f []) ⊕ cellsB cap base bs n 0 ⊕ R)
+    loose = record { holds = λ N P h. search; nodes = λ a. omega arith; pages = λ a. omega arith }
+
+    together : Less (cellsB cap base (s .put (link b (leafP f []) (s .tail))) n 0 ⊕ R) (cells cap base withLeaf ⊕ freeCells cap fs ⊕ G)
     unfolding R
-    together =
-        let p = s .same x .back in
-        let q = chain-head cap base (s .tail) f b .back in
-        record {
-          holds = λ N P h.
-              let o = q .holds N P (h .0, h .1 .1 .1 .0) in
-              let k : Holds (cellsC cap base x (s .slot) (s .byte) ⊕ s .rest) N P = search in
-              let m = p .holds N P k in
-              search;
-          nodes = λ a. omega (arith, p .nodes a, q .nodes a);
-          pages = λ a. omega (arith, p .pages a, q .pages a);
-        }
+    together = record { holds = λ N P h. search; nodes = λ a. omega arith; pages = λ a. omega arith }
 
     pub fresh-state : State cap pcap base (linkLeaf N cap (s .slot) f b) P (getD N f 0) withLeaf fs G
-    unfolding linkLeaf R
+    unfolding linkLeaf
     fresh-state =
-        let h : Heap N P (node f (first fs) ⊕ node (stateAt cap f) freeState ⊕ node (s .slot) (chainWord (s .byte) (linkC (s .tail))) ⊕ R) =
-        less apart (subst (λ (y : Buckets). Heap N P (cells cap base (innerP n y) ⊕ freeCells cap (f ∷ fs) ⊕ G)) (sym (s .whole)) (st .heap)) in
-        let l : linkC (s .tail) ≤ cap = link-below cap pcap base small (s .tail) b (32 * (b / 32) + 32) (s .from) in
-        let w : getD N (s .slot) 0 ≡ chainWord (s .byte) (linkC (s .tail)) = h .holds .1 .1 .0 in
-        let y : chainWord b (linkAt N (s .slot)) ≡ chainWord b (linkC (s .tail)) = omega arith in
-        let z : withLink (getD N (s .slot) 0) (f + 1) ≡ chainWord (s .byte) (f + 1) = omega arith in
+        let h = less apart (st .heap) in
+        let t = st .nodeTable in
         let lf : f < cap = st .below .0 in
+        let h1 = less loose (node-write (leafState 0) h (omega (arith, t .long))) in
         record {
-          heap = less together (rw (y, z) (node-write3 (chainWord b (linkC (s .tail))) (leafState 0) (chainWord (s .byte) (f + 1)) h (omega arith) (omega arith) (omega (arith, s .within (st .sound .0)))));
-          sound = (st .sound .0, s .sound x (omega arith, omega arith, (lf, tt), past cap pcap base small (s .tail) b (32 * (b / 32) + 32) gap (s .from)));
-          nodeTable = nodes-kept (simp length-set) (st .nodeTable);
+          heap = less together (put-in cap pcap base small s R (leafP f []) (first fs) (nodes-kept (simp length-set) t) (st .sound .0) lf h1);
+          sound = (st .sound .0, s .sound (link b (leafP f []) (s .tail)) (omega arith, omega arith, (lf, tt), past cap pcap base small (s .tail) b (chainEnd b) gap (s .from)));
+          nodeTable = nodes-kept (simp length-set) t;
           pageTable = st .pageTable;
-          chain = h .holds .0;
+          chain = h .holds .1 .1 .0;
           below = st .below .1;
         }
 

@@ -8,3 +8,4 @@ pub mod Inside
 pub mod Paths
 pub mod Way
 pub mod Arrival
+pub mod Free

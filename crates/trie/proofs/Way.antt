@@ -1,5 +1,5 @@
 -- The way from the root of a trie to what stands where some bytes of a page lead: what is put there instead is put there in the abstract trie.
-use Prim.Native.Nat.{ℕ, suc, _+_, _*_, _/_, _<_, _≤_}
+use Prim.Native.Nat.{ℕ, suc, _+_, _<_, _≤_}
 use native.Mathlib.Nat.{zero-add}
 use mathlib.Core.Path.{_≡_, refl, ap, _∙_, sym, subst}
 use mathlib.Core.Bool.{true}
@@ -7,7 +7,7 @@ use mathlib.Core.List.{List}
 use Rattle.meaning.specs.Trie.{byteAt}
 use Rattle.layout.specs.Nodes.{mostNodes}
 use Rattle.children.specs.Heap.{Cells, _⊕_}
-use Rattle.children.specs.Phys.{Phys, Buckets, Chain, root, tree, Sound, SoundC, State, innerP, link}
+use Rattle.children.specs.Phys.{Phys, Buckets, Chain, root, tree, Sound, SoundC, State, innerP, link, chainEnd}
 use Rattle.children.proofs.Spot.{SpotB}
 use Rattle.trie.proofs.Context.{Context, whole, inside, enter, leave}
 use Rattle.trie_laws.specs.Path.{hasBelow, below, setBelow, hasPath, subtree, replace, pathOf}
@@ -34,7 +34,7 @@ module _ (cap pcap base : ℕ) (small : cap ≤ mostNodes) (bytesOf : ℕ → Li
     abbrev y : ℕ
     y = byteAt bytesOf k p
 
-    from : SoundC cap pcap (link y u after) y (32 * (y / 32) + 32)
+    from : SoundC cap pcap (link y u after) y (chainEnd y)
     from = from-here cap pcap base small s u after e
 
     pub onward : Way t (suc k) u

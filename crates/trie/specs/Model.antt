@@ -4,8 +4,9 @@ use mathlib.Core.List.{List}
 use mathlib.Core.Bool.{cond}
 use lib.Dec.{ltb, eqb}
 use lib.ListN.{getD, set}
-use Rattle.layout.specs.Nodes.{chainWord, withLink, stateAt, leafState}
-use Rattle.children.specs.Places.{linkAt, findPlace}
+use Rattle.layout.specs.Nodes.{chainAt, stateAt, freeState, leafState}
+use Rattle.children.specs.Places.{findPlace}
+use Rattle.children.specs.Links.{putIn, takeOut}
 use Rattle.trie.specs.declared.leaf.Got.{Got}
 use Rattle.trie.specs.declared.leaf.Got.the-variants.{Node, Full}
 use Rattle.trie.specs.declared.leaf.Got.the-variants as got
@@ -17,8 +18,7 @@ use Rattle.trie.specs.declared.span.Span.the-variants as spans
 
 -- node f as an empty leaf with byte b, linked into slot s before what the slot linked to
 unfoldable pub linkLeaf : List ℕ → ℕ → ℕ → ℕ → ℕ → List ℕ
-linkLeaf N cap s f b =
-    set (set (set N f (chainWord b (linkAt N s))) (stateAt cap f) (leafState 0)) s (withLink (getD N s 0) (f + 1))
+linkLeaf N cap s f b = putIn (set N (stateAt cap f) (leafState 0)) s f b
 
 -- the node table and the answer
 pub data Made : Type 0 where
@@ -44,6 +44,10 @@ madeAt N cap b free Broken = made N got.Broken
 -- the child of byte b of node n, which is made where it is missing
 unfoldable pub childLeaf : List ℕ → ℕ → ℕ → ℕ → ℕ → Made
 childLeaf N cap n b free = madeAt N cap b free (findPlace N cap n b)
+
+-- child c out of the chain at slot s, and first among the free nodes
+unfoldable pub freeChild : List ℕ → ℕ → ℕ → ℕ → ℕ → List ℕ
+freeChild N cap s c free = set (set (takeOut N s c) (stateAt cap c) freeState) (chainAt c) free
 
 -- whether a chain from link l on has f members, whose links stand from base on
 unfoldable pub spanFrom : List ℕ → ℕ → ℕ → ℕ → ℕ → Span

@@ -1,13 +1,15 @@
-// Empty leaves made of free nodes.
+// Empty leaves made of free nodes, and made free again. The free nodes are linked through their chain words.
 ghost use mathlib.Core.Path.{_≡_};
-ghost use Prim.Native.Nat.{_*_, _<_, _≤_};
+ghost use Prim.Native.Nat.{_+_, _<_, _≤_};
 ghost use Rattle.layout.specs.Nodes.{nodeWords};
 ghost use Rattle.layout.specs.Tables.{NodeTable};
-ghost use Rattle.trie.specs.Model.{linkLeaf, made, freshLeaf, childLeaf, nodeIn};
+ghost use Rattle.trie.specs.Model.{linkLeaf, made, freshLeaf, childLeaf, nodeIn, freeChild};
+use children::links::put_in;
+use children::links::take_out;
 use children::place::Place;
 use children::place::find_place;
-use layout::nodes::LINKS;
-use layout::nodes::with_link;
+use layout::nodes::set_free;
+use layout::nodes::set_leaf;
 
 // Node f as an empty leaf with a byte, linked into a slot before what the slot linked to.
 fn link_leaf(nodes: &mut [u32], cap: usize, slot: usize, f: usize, byte: u32)
@@ -17,10 +19,8 @@ fn link_leaf(nodes: &mut [u32], cap: usize, slot: usize, f: usize, byte: u32)
     requires { ⌜ byte < 256 ⌝ }
     ensures { λ r. ⌜ now (nodes .exit) ≡ linkLeaf (now (nodes .entry)) cap slot f byte ⌝ }
 {
-    let old = nodes[slot];
-    nodes[f] = old % LINKS + byte * LINKS;
-    nodes[cap + f] = 2;
-    nodes[slot] = with_link(old, (f + 1) as u32);
+    set_leaf(nodes, cap, f, 0);
+    put_in(nodes, cap, slot, f, byte);
 }
 
 // A node that was found or made, or that a page was put into, with the first free link then; or why not.
@@ -64,4 +64,18 @@ pub fn child_leaf(nodes: &mut [u32], cap: usize, n: usize, byte: u32, free: u32)
         Place::Missing(slot) => fresh_leaf(nodes, cap, slot, byte, free),
         Place::Broken => Got::Broken,
     }
+}
+
+// A child leaf without pages, out of the chain at a slot and first among the free nodes; the new free link.
+pub fn free_child(nodes: &mut [u32], cap: usize, slot: usize, child: usize, free: u32) -> u32
+    requires { ⌜ NodeTable cap (now nodes) ⌝ }
+    requires { ⌜ slot < nodeWords cap ⌝ }
+    requires { ⌜ child < cap ⌝ }
+    ensures { λ r. ⌜ r ≡ child + 1 ⌝ }
+    ensures { λ r. ⌜ now (nodes .exit) ≡ freeChild (now (nodes .entry)) cap slot child free ⌝ }
+{
+    take_out(nodes, cap, slot, child);
+    set_free(nodes, cap, child);
+    nodes[child] = free;
+    (child + 1) as u32
 }

@@ -6,6 +6,8 @@ ghost use Rattle.layout.specs.Tables.{NodeTable};
 ghost use Rattle.trie.specs.Descend.{descendTo, Inside};
 use children::place::Place;
 use children::place::find_place;
+use layout::nodes::Kind;
+use layout::nodes::kind_of;
 
 // A node, a slot and the node's level: a leaf and the slot that links to it, 0 at the root; or an inner node without a child for the
 // next byte, and the slot where that child belongs.
@@ -20,18 +22,21 @@ pub fn descend_to(nodes: &[u32], cap: usize, root: usize, bytes: &[u8]) -> Reach
     requires { ⌜ NodeTable cap (now nodes) ⌝ }
     requires { ⌜ root < cap ⌝ }
     ensures { λ r. ⌜ r ≡ descendTo (now (nodes .entry)) cap root (now (bytes .entry)) ⌝ }
-    ensures inside { λ r. ⌜ Inside (now (nodes .entry)) cap (length (now (bytes .entry))) r ⌝ }
+    ensures inside { λ r. ⌜ Inside cap (length (now (bytes .entry))) r ⌝ }
 {
     let mut n = root;
     let mut slot = 0;
     let mut level = 0;
     loop {
-        let state = nodes[cap + n];
-        if state > 1 {
-            return Reach::Leaf(n, slot, level);
-        }
-        if state == 0 {
-            return Reach::Broken;
+        let kind = kind_of(nodes, cap, n);
+        match kind {
+            Kind::Leaf(_) => {
+                return Reach::Leaf(n, slot, level);
+            }
+            Kind::Free => {
+                return Reach::Broken;
+            }
+            Kind::Inner => {}
         }
         if level >= bytes.len() {
             return Reach::Broken;

@@ -9,6 +9,7 @@ use Rattle.meaning.specs.Sketch.{perByte, packedLength, symbolsAt, packable}
 use Rattle.words.specs.Bits.{bit, withBit, flag, withFlag}
 use Rattle.layout.specs.Nodes.{chainWord, freeState, innerState, leafState, stateAt, headAt}
 use Rattle.layout.specs.Pages.{isLive}
+use Rattle.layout.specs.States.{kindOf as stated}
 use Rattle.layout.specs.declared.Block.{Block}
 use Rattle.blocks.specs.declared.Rows.{Rows}
 use Rattle.blocks.specs.Packed.{rowByte, pageByte, levelAt}
@@ -16,8 +17,9 @@ use Rattle.node_check.specs.declared.leaf.Left.{Left}
 use Rattle.node_check.specs.declared.leaf.Left.the-variants.{Some, Failed}
 use Rattle.node_check.specs.declared.mark.Window.{Window}
 use Rattle.node_check.specs.Mark.{markOnce}
-use Rattle.node_check.specs.Leaf.{bare, kindOf, onPath, testLeaf}
-use Rattle.node_check.specs.Frame.{entered, stepAlong, stepIn}
+use Rattle.node_check.specs.Leaf.{kindOf, onPath, testLeaf}
+use Rattle.children.specs.Order.{bare, entered, stepAlong, nextChild}
+use Rattle.node_check.specs.Frame.{stepIn}
 use Rattle.trie_visit.specs.Visit.{given, Fitting, visitChild, visit}
 use Rattle.trie_check.specs.Trie.{leftIf, run, testBelow, testTrie}
 
@@ -104,5 +106,5 @@ outside : Left
 outside = answerIn (record { from = 0; size = 4 }) (set nodes 5 (chainWord 2 5)) pages 7 3
 
 tried : sound ++ pageDamages ++ chainDamages ++ nodeDamages ++ (outside ∷ []) ≡ (Some 0 ∷ Some 1 ∷ replicate 15 Failed) ++ (Some 0 ∷ [])
-unfolding block rows sketches pages nodes window answerIn answer sound pageDamages chainDamages nodeDamages outside testTrie testBelow run leftIf visit visitChild stepIn stepAlong entered testLeaf onPath kindOf bare markOnce levelAt pageByte rowByte isLive withFlag flag withBit bit packable symbolsAt perByte from upto all
+unfolding block rows sketches pages nodes window answerIn answer sound pageDamages chainDamages nodeDamages outside testTrie testBelow run leftIf visit visitChild stepIn nextChild stepAlong entered testLeaf onPath kindOf stated bare markOnce levelAt pageByte rowByte isLive withFlag flag withBit bit packable symbolsAt perByte from upto all
 tried = refl

@@ -5,8 +5,8 @@ use mathlib.Core.Path.{_≡_, sym, subst}
 use mathlib.Core.List.{List}
 use lib.ListN.{length, getD, set}
 use Rattle.meaning.proofs.Stacks.{Held, held-start, held-stay, held-down, held-up}
-use Rattle.node_check.specs.declared.frame.Frame.{Frame}
-use Rattle.node_check.specs.Frame.{entered, pastChild, nextChain}
+use Rattle.children.specs.declared.order.Frame.{Frame}
+use Rattle.children.specs.Order.{entered, pastChild, nextChain}
 use Rattle.trie_visit.specs.declared.Place.{Place}
 use Rattle.trie_visit.specs.Visit.{placed}
 

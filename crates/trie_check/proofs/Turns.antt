@@ -9,7 +9,7 @@ use lib.ListN.{length, getD, replicate, set}
 use borrow.Author.Tests.{eq-eqb, ne-eqb}
 use Rattle.meaning.proofs.Stacks.{suc-pred, length-none, above, above-length, above-put, above-take}
 use Rattle.layout.specs.Nodes.{stepsFor}
-use Rattle.node_check.specs.declared.frame.Frame.{Frame}
+use Rattle.children.specs.declared.order.Frame.{Frame}
 use Rattle.node_check.specs.declared.leaf.Kind.{Kind}
 use Rattle.node_check.specs.declared.leaf.Kind.the-variants as kind
 use Rattle.node_check.specs.declared.leaf.Left.{Left}
@@ -19,7 +19,7 @@ use Rattle.trie_visit.specs.declared.Move.{Move}
 use Rattle.trie_visit.specs.declared.Move.the-variants as move
 use Rattle.node_check.specs.Mark.{Noted, noted, markOnce}
 use Rattle.node_check.specs.Leaf.{kindOf}
-use Rattle.node_check.specs.Frame.{entered, pastChild, nextChain}
+use Rattle.children.specs.Order.{entered, pastChild, nextChain}
 use Rattle.trie_visit.specs.Visit.{Given, Fitting, leafLeft, Visited, visited, visit, placed}
 use Rattle.trie_check.specs.Trie.{State, state, Tested, tested, leftIf, leftLeaf, follow, run, testBelow, testKind, testTrie}
 use Rattle.trie_check.proofs.Stack.{noFrame}

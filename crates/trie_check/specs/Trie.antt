@@ -5,7 +5,7 @@ use mathlib.Core.List.{List, [], _∷_}
 use lib.Dec.{eqb}
 use lib.ListN.{length, replicate}
 use Rattle.layout.specs.Nodes.{stepsFor}
-use Rattle.node_check.specs.declared.frame.Frame.{Frame}
+use Rattle.children.specs.declared.order.Frame.{Frame}
 use Rattle.node_check.specs.declared.leaf.Kind.{Kind}
 use Rattle.node_check.specs.declared.leaf.Kind.the-variants as kind
 use Rattle.node_check.specs.declared.leaf.Left.{Left}
@@ -14,7 +14,7 @@ use Rattle.trie_visit.specs.declared.Move.{Move}
 use Rattle.trie_visit.specs.declared.Move.the-variants as move
 use Rattle.node_check.specs.Mark.{markOnce}
 use Rattle.node_check.specs.Leaf.{kindOf}
-use Rattle.node_check.specs.Frame.{entered, pastChild, nextChain}
+use Rattle.children.specs.Order.{entered, pastChild, nextChain}
 use Rattle.trie_visit.specs.Visit.{Given, Visited, visit, leafLeft}
 
 -- the map, the path, what is left of both budgets, the frame of a node, and those of the nodes above, the nearest first

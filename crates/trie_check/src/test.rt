@@ -2,12 +2,12 @@
 ghost use mathlib.Core.Path.{_≡_};
 ghost use Prim.Native.Nat.{_+_, _-_, _<_};
 ghost use Rattle.layout.specs.Tables.{NodeTable};
-ghost use Rattle.node_check.specs.Frame.{entered, pastChild};
+ghost use Rattle.children.specs.Order.{entered, pastChild};
 ghost use Rattle.trie_visit.specs.Visit.{within, Fitting, placed};
 ghost use Rattle.trie_check.specs.Trie.{leftIf, tested, testBelow, testTrie};
-use node_check::frame::enter;
-use node_check::frame::next_chain;
-use node_check::frame::past_child;
+use children::order::enter;
+use children::order::next_chain;
+use children::order::past_child;
 use node_check::leaf::Kind;
 use node_check::leaf::Left;
 use trie_visit::Move;

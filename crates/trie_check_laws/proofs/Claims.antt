@@ -17,10 +17,11 @@ use Rattle.layout.specs.Nodes.{chainAt, stateAt, headAt, freeState, nodeWords}
 use Rattle.children.specs.Heap.{hit, nodeClaims, Holds}
 use Rattle.children.specs.Phys.{Phys, leafP, innerP, Buckets, end, bucket, Chain, stop, link, root, tree, noHeads, pageCells, freeCells, cells, cellsB, cellsC, Below, Sound, SoundB, SoundC}
 use Rattle.children.proofs.Frame.{hit-same, hit-other}
-use Rattle.children.proofs.Claims.{among, among-out, heads, root-below}
+use Rattle.children.proofs.Claims.{among, among-out, heads}
+use Rattle.children.proofs.Chains.{root-below, chains-left}
 use Rattle.trie.proofs.Spans.{sumTo, sum-add, sum-none, sum-hit}
 use Rattle.trie_check_laws.specs.Uses.{uses, usesB, usesC}
-use Rattle.trie_check_laws.proofs.WholeFit.{size, sizeB, sizeC, size-nodes, chains-left}
+use Rattle.trie_check_laws.proofs.WholeFit.{size, sizeB, sizeC, size-nodes}
 
 -- ---- the words of a node
 

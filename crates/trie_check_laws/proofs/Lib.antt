@@ -1,4 +1,3 @@
-pub mod RightTests
 pub mod RightStep
 pub mod RightMark
 pub mod RightLeaf

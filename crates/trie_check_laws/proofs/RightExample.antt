@@ -8,12 +8,14 @@ use Rattle.meaning.specs.Sketch.{perByte, symbolsAt, packable, packedLength}
 use Rattle.meaning.specs.Trie.{nodes, byteAt}
 use Rattle.words.specs.Bits.{bit, withBit, flag, withFlag}
 use Rattle.layout.specs.Pages.{isLive}
+use Rattle.layout.specs.States.{kindOf as stated}
 use Rattle.children.specs.Phys.{Phys, tree}
 use Rattle.blocks.specs.Packed.{rowByte, pageByte, levelAt}
 use Rattle.node_check.specs.declared.leaf.Left.the-variants.{Some}
 use Rattle.node_check.specs.Mark.{markOnce}
-use Rattle.node_check.specs.Leaf.{bare, kindOf, onPath, testLeaf}
-use Rattle.node_check.specs.Frame.{entered, stepAlong, stepIn}
+use Rattle.node_check.specs.Leaf.{kindOf, onPath, testLeaf}
+use Rattle.children.specs.Order.{bare, entered, stepAlong, nextChild}
+use Rattle.node_check.specs.Frame.{stepIn}
 use Rattle.trie_visit.specs.Visit.{Given, given, Fitting, visitChild, visit}
 use Rattle.trie_check.specs.Trie.{tested, run, leftIf, testBelow, testTrie}
 use Rattle.trie_check_laws.specs.Found.{Reads, Found, Marked}
@@ -35,7 +37,7 @@ w =
     (record { from = 0; size = 2 })
 
 pub example : testTrie w 0 (0 ∷ []) 2 1 ≡ tested (3 ∷ []) (Some 0)
-unfolding testTrie testBelow run visit visitChild leftIf entered stepIn stepAlong kindOf bare onPath testLeaf markOnce isLive pageByte rowByte levelAt
+unfolding testTrie testBelow run visit visitChild leftIf entered stepIn nextChild stepAlong kindOf stated bare onPath testLeaf markOnce isLive pageByte rowByte levelAt
     flag withFlag bit withBit packable symbolsAt perByte all upto from
 example = refl
 

@@ -11,64 +11,49 @@ use lib.Seq.{getD-take, length-take-le}
 use borrow.Author.Tests.{eqb-true, eqb-false, eq-eqb, ltb-false}
 use Rattle.meaning.specs.Lists.{all}
 use Rattle.meaning.specs.Trie.{byteAt}
-use Rattle.layout.specs.Nodes.{stateAt, headAt, freeState, innerState, leafState}
+use Rattle.layout.specs.Nodes.{stateAt, innerState, leafState}
+use Rattle.layout.specs.States.{stateOf, kindOf as stated}
+use Rattle.layout.specs.declared.nodes.Kind.{Kind as Stated}
+use Rattle.layout.specs.declared.nodes.Kind.the-variants as kind
+use Rattle.layout.proofs.States.{state-kind}
 use Rattle.layout.specs.Pages.{isLive}
 use Rattle.children.specs.Heap.{Holds}
 use Rattle.children.specs.Phys.{first, pageCells, noHeads, Below}
 use Rattle.blocks.specs.Packed.{pageByte, levelAt}
 use Rattle.trie_laws.specs.Path.{follows}
 use Rattle.meaning.proofs.Lists.{and-intro, upto-all}
+use Rattle.children.specs.Order.{bare}
+use Rattle.children.proofs.Bare.{bare-holds}
 use Rattle.trie_laws.proofs.Path.{shift}
-use Rattle.node_check.specs.declared.leaf.Kind.the-variants.{Inner, Leaf, Damaged}
+use Rattle.node_check.specs.declared.leaf.Kind.the-variants.{Inner, Leaf}
 use Rattle.node_check.specs.declared.leaf.Left.{Left}
 use Rattle.node_check.specs.declared.leaf.Left.the-variants.{Some, Failed}
-use Rattle.node_check.specs.Leaf.{bare, kindOf, onPath, testLeaf}
+use Rattle.node_check.specs.Leaf.{childless, kindOf, onPath, testLeaf}
 use Rattle.trie_visit.specs.Visit.{Given}
 use Rattle.trie_check_laws.specs.Found.{Reads}
-use Rattle.trie_check_laws.proofs.RightTests.{refused, passed}
+use Rattle.children.proofs.Tests.{refused, passed}
 
 -- ---- the kind of a node
 module _ (N P : List ℕ) (cap x : ℕ) where
-  pub bare-holds : bare N cap x ≡ true → Holds (noHeads cap x) N P
-  unfolding bare noHeads
-  bare-holds h =
-      let at : (g : ℕ) → g < 8 → getD N (headAt cap x g) 0 ≡ 0 =
-      λ g l. eqb-true (getD N (headAt cap x g) 0) 0 (upto-all (λ g. eqb (getD N (headAt cap x g) 0) 0) 8 h g l) in (
-        at 0 (omega arith),
-        (
-          at 1 (omega arith),
-          (
-            at 2 (omega arith),
-            (
-              at 3 (omega arith),
-              (
-                at 4 (omega arith),
-                (
-                  at 5 (omega arith),
-                  (at 6 (omega arith), (at 7 (omega arith), tt)),
-                ),
-              ),
-            ),
-          ),
-        ),
-      )
-
   abbrev word : ℕ
   word = getD N (stateAt cap x) 0
 
+  -- back from the test of a leaf
+  inner-stated : (q : Bool) (s : Stated) → childless q s ≡ Inner → s ≡ kind.Inner
+  inner-stated q kind.Inner h = refl
+  inner-stated q kind.Free h = let z : _≡_ {A = ℕ} 0 1 = cc in absurd (omega arith)
+  inner-stated true (kind.Leaf l) h = let z : _≡_ {A = ℕ} 0 1 = cc in absurd (omega arith)
+  inner-stated false (kind.Leaf l) h = let z : _≡_ {A = ℕ} 0 1 = cc in absurd (omega arith)
+
+  leaf-stated : (link : ℕ) (q : Bool) (s : Stated) → childless q s ≡ Leaf link → (s ≡ kind.Leaf link) × (q ≡ true)
+  leaf-stated link q kind.Inner h = let z : _≡_ {A = ℕ} 0 1 = cc in absurd (omega arith)
+  leaf-stated link q kind.Free h = let z : _≡_ {A = ℕ} 0 1 = cc in absurd (omega arith)
+  leaf-stated link true (kind.Leaf l) h = let e : l ≡ link = cc in (ap kind.Leaf e, refl)
+  leaf-stated link false (kind.Leaf l) h = let z : _≡_ {A = ℕ} 0 1 = cc in absurd (omega arith)
+
   pub kind-inner : kindOf N cap x ≡ Inner → word ≡ innerState
   unfolding kindOf
-  kind-inner h =
-      let t = refused Damaged Inner apart (eqb word freeState) _ h in
-      go (eqb word innerState) refl (bare N cap x) (t .1)
-    where
-      apart : Damaged ≡ Inner → ⊥
-      apart e = let z : _≡_ {A = ℕ} 0 1 = cc in omega arith
-
-      go : (q : Bool) → eqb word innerState ≡ q → (r : Bool) → cond q Inner (cond r (Leaf (word - 2)) Damaged) ≡ Inner → word ≡ innerState
-      go true e r h = eqb-true word innerState e
-      go false e true h = let z : _≡_ {A = ℕ} 0 1 = cc in absurd (omega arith)
-      go false e false h = absurd (apart h)
+  kind-inner h = state-kind N cap x ∙ ap stateOf (inner-stated (bare N cap x) (stated N cap x) h)
 
   pub record AtLeaf (link : ℕ) : Type 0 where
     pub state : word ≡ leafState link
@@ -77,22 +62,8 @@ module _ (N P : List ℕ) (cap x : ℕ) where
   pub kind-leaf : (link : ℕ) → kindOf N cap x ≡ Leaf link → AtLeaf link
   unfolding kindOf
   kind-leaf link h =
-      let t1 = refused Damaged (Leaf link) damaged (eqb word freeState) _ h in
-      let t2 = refused Inner (Leaf link) inner (eqb word innerState) _ (t1 .1) in
-      let t3 = passed Damaged (Leaf link) damaged (bare N cap x) _ (t2 .1) in
-      let e : word - 2 ≡ link = same (t3 .1) in
-      let a : word ≡ 0 → ⊥ = eqb-false word freeState (t1 .0) in
-      let b : word ≡ 1 → ⊥ = eqb-false word innerState (t2 .0) in
-      record { state = omega arith; heads = bare-holds (t3 .0) }
-    where
-      damaged : Damaged ≡ Leaf link → ⊥
-      damaged e = let z : _≡_ {A = ℕ} 0 1 = cc in omega arith
-
-      inner : Inner ≡ Leaf link → ⊥
-      inner e = let z : _≡_ {A = ℕ} 0 1 = cc in omega arith
-
-      same : {a : ℕ} → Leaf a ≡ Leaf link → a ≡ link
-      same e = cc
+      let e = leaf-stated link (bare N cap x) (stated N cap x) h in
+      record { state = state-kind N cap x ∙ ap stateOf (e .0); heads = bare-holds N P cap x (e .1) }
 
 -- ---- the path
 pub follows-each : (bytesOf : ℕ → List ℕ) (k : ℕ) (ys : List ℕ) (p : ℕ) → ((i : ℕ) → i < length ys → byteAt bytesOf (k + i) p ≡ getD ys i 0) →

@@ -19,11 +19,12 @@ use Rattle.children.proofs.Chains.{linkC, afterC, chain-head}
 use Rattle.trie_laws.specs.Sound.{filled}
 use Rattle.trie_laws.specs.Walk.{soundWalk, walkFrom}
 use Rattle.meaning.proofs.Lists.{and-intro, and-first, and-second, all-append}
-use Rattle.node_check.specs.declared.frame.Frame.{Frame}
-use Rattle.node_check.specs.Frame.{entered, pastChild, nextChain}
+use Rattle.children.specs.declared.order.Frame.{Frame}
+use Rattle.children.specs.Order.{entered, pastChild, nextChain}
 use Rattle.trie_visit.specs.Visit.{Given}
 use Rattle.trie_check_laws.specs.Uses.{usesB, usesC}
-use Rattle.trie_check_laws.proofs.RightStep.{AtChild, AtChain, AtEnd}
+use Rattle.trie_check_laws.proofs.RightStep.{AtChild}
+use Rattle.children.proofs.StepWords.{AtChain, AtEnd}
 
 -- ---- the walk's test of children
 module _ (bytesOf : ℕ → List ℕ) (b n len k : ℕ) (ys : List ℕ) where
@@ -87,7 +88,7 @@ module _ (w : Given) (bytesOf : ℕ → List ℕ) where
 
   module _ (k : ℕ) (ys : List ℕ) (f : Frame) where
     -- nothing is left
-    pub covers-end : AtEnd (w .nodes) cap (w .rows .bits) (w .rows .length) k f → Covers k ys f (rest stop end)
+    pub covers-end : AtEnd (w .nodes) cap f → Covers k ys f (rest stop end)
     unfolding soundWalk pagesIn all
     covers-end a = record {
       start = sym (a .done);
@@ -100,7 +101,7 @@ module _ (w : Given) (bytesOf : ℕ → List ℕ) where
     }
 
     -- the chains from the next on
-    pub covers-chain : (next : ℕ) (r : Rest) → AtChain (w .nodes) cap (w .rows .bits) (w .rows .length) k f next
+    pub covers-chain : (next : ℕ) (r : Rest) → AtChain (w .nodes) cap f next
         → Covers k ys (nextChain f next) r → Covers k ys f (rest stop (bucket (r .chain) (r .later)))
     covers-chain next r a c =
         let g : f .group + 1 ≡ suc (f .group) = add-one (f .group) in
@@ -135,15 +136,15 @@ module _ (w : Given) (bytesOf : ℕ → List ℕ) where
     covers-child x byte next t r a h c =
         let g : byte + 1 ≡ suc byte = add-one byte in
         let word : getD (w .nodes) (root t) 0 ≡ chainWord byte (linkC (r .chain)) =
-        ap (λ m. getD (w .nodes) m 0) (h .place) ∙ a .word ∙ ap (chainWord byte) (sym (c .start)) in
+        ap (λ m. getD (w .nodes) m 0) (h .place) ∙ a .here .word ∙ ap (chainWord byte) (sym (c .start)) in
         record {
-          start = omega (arith, h .place, a .at);
+          start = omega (arith, h .place, a .here .at);
           held = (h .held, chain-head cap (w .block .base) (r .chain) (root t) byte .back .holds (w .nodes) (w .pages) (word, c .held));
           heldLater = c .heldLater;
-          sound = (a .least, a .most, h .sound, subst (λ m. SoundC cap (w .block .pages) (r .chain) m (32 * f .group + 32)) g (c .sound));
+          sound = (a .here .least, a .here .most, h .sound, subst (λ m. SoundC cap (w .block .pages) (r .chain) m (32 * f .group + 32)) g (c .sound));
           soundLater = c .soundLater;
           walked = λ l. walk-child bytesOf (w .rows .bits) (w .rows .length) (w .rows .bytes) k ys (f .least) byte (tree t) (childrenOf r)
-              (a .least) (a .packs) (h .full) (h .walked) (subst (λ m. walks k ys m (childrenOf r) ≡ true) g (c .walked (omega (arith, a .most))));
+              (a .here .least) (a .packs) (h .full) (h .walked) (subst (λ m. walks k ys m (childrenOf r) ≡ true) g (c .walked (omega (arith, a .here .most))));
           live = all-append (isLive (w .pages)) (pagesIn (tree t)) (pagesAmong (childrenOf r))
               ∙ and-intro (all (isLive (w .pages)) (pagesIn (tree t))) (all (isLive (w .pages)) (pagesAmong (childrenOf r))) (h .live) (c .live);
         }

@@ -8,12 +8,13 @@ use lib.Seq.{take-set-le}
 use Rattle.meaning.specs.Trie.{nodes, nodesIn, pagesIn, pagesAmong}
 use Rattle.words.specs.Bits.{flag}
 use Rattle.children.specs.Phys.{Phys, end, bucket, stop, link, tree}
-use Rattle.node_check.specs.declared.frame.Frame.{Frame}
-use Rattle.node_check.specs.Frame.{pastChild, nextChain}
+use Rattle.children.specs.declared.order.Frame.{Frame}
+use Rattle.children.specs.Order.{pastChild, nextChain}
 use Rattle.trie_visit.specs.Visit.{Given}
 use Rattle.trie_check_laws.specs.Uses.{uses}
 use Rattle.trie_check_laws.specs.Found.{one}
-use Rattle.trie_check_laws.proofs.RightStep.{AtChild, AtChain, AtEnd}
+use Rattle.trie_check_laws.proofs.RightStep.{AtChild}
+use Rattle.children.proofs.StepWords.{AtChain, AtEnd}
 use Rattle.trie_check_laws.proofs.RightRest.{Rest, rest, childrenOf, usesOf, nodesAll, pagesAll, usesAll, Covers, Hangs, covers-end, covers-chain, covers-child}
 
 module _ (w : Given) (bytesOf : ℕ → List ℕ) where
@@ -48,7 +49,7 @@ module _ (w : Given) (bytesOf : ℕ → List ℕ) where
 
   module _ (bits : ℕ → ℕ) (size : ℕ) (path : List ℕ) (left pages : ℕ) (f : Frame) where
     abbrev ends : ℕ → Type 0
-    ends k = AtEnd (w .nodes) (w .block .nodes) (w .rows .bits) (w .rows .length) k f
+    ends k = AtEnd (w .nodes) (w .block .nodes) f
 
     -- the last step
     pub complete-done : (map′ : List ℕ) (left′ : ℕ) → ends 0 → left′ ≡ left → pages ≡ 0 → length map′ ≡ size
@@ -82,7 +83,7 @@ module _ (w : Given) (bytesOf : ℕ → List ℕ) where
 
     -- a step to the next chain
     pub complete-chain : (next : ℕ) (fs : List Frame) (map′ : List ℕ) (left′ : ℕ)
-        → AtChain (w .nodes) (w .block .nodes) (w .rows .bits) (w .rows .length) (length fs) f next
+        → AtChain (w .nodes) (w .block .nodes) f next
         → Completes bits size path left pages (nextChain f next) fs map′ left′ → Completes bits size path left pages f fs map′ left′
     complete-chain next fs map′ left′ a c = record {
       here = rest stop (bucket (c .here .chain) (c .here .later));

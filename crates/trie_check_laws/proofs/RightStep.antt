@@ -1,125 +1,28 @@
--- What a step in a node says of the words that it read.
-use Prim.Native.Nat.{ℕ, _+_, _*_, _-_, _<_, _≤_}
-use native.Mathlib.Omega.{arith}
-use mathlib.Core.Path.{_≡_, refl, sym, ap, _∙_}
-use mathlib.Core.Bool.{Bool, true, false, cond}
+-- What a step in a node says of the words that it read, and of its byte.
+use Prim.Native.Nat.{ℕ}
+use mathlib.Core.Path.{_≡_}
+use mathlib.Core.Bool.{true}
 use mathlib.Core.List.{List}
-use lib.Dec.{ltb, eqb}
-use lib.ListN.{getD}
-use borrow.Author.Tests.{eqb-true, eqb-false, ltb-true, ltb-false}
 use Rattle.meaning.specs.Sketch.{packable}
-use Rattle.layout.specs.Nodes.{linkOf, byteOf, chainWord, headAt}
-use Rattle.node_check.specs.declared.frame.Frame.{Frame}
-use Rattle.node_check.specs.declared.frame.Step.{Step}
-use Rattle.node_check.specs.declared.frame.Step.the-variants.{Chain, Child, Up, Broken}
-use Rattle.node_check.specs.Frame.{stepAlong, stepIn}
-use Rattle.trie_check_laws.proofs.RightTests.{refused, passed}
+use Rattle.children.specs.declared.order.Frame.{Frame}
+use Rattle.children.specs.declared.order.Step.the-variants.{Chain, Child, Up}
+use Rattle.children.proofs.StepWords as words
+use Rattle.node_check.specs.Frame.{stepIn}
+use Rattle.node_check.proofs.Steps.{packed-child, packed-chain, packed-up}
 
 module _ (N : List ℕ) (cap b n k : ℕ) (f : Frame) where
   -- a child x with a byte, followed by a link
   pub record AtChild (x byte next : ℕ) : Type 0 where
-    pub at : x + 1 ≡ f .link
-    pub inside : x < cap
-    pub word : getD N x 0 ≡ chainWord byte next
-    pub least : f .least ≤ byte
-    pub most : byte < 32 * f .group + 32
+    pub here : words.AtChild N cap f x byte next
     pub packs : packable b n k byte ≡ true
 
-  along-child : (x byte next : ℕ) → (f .link ≡ 0 → ⊥) → stepAlong N cap b n k f ≡ Child x byte next → AtChild x byte next
-  unfolding stepAlong
-  along-child x byte next some h =
-      let y : ℕ = f .link - 1 in
-      let v : ℕ = getD N y 0 in
-      let c : ℕ = byteOf v in
-      let good : Step = Child x byte next in
-      let t1 = refused Broken good no (ltb cap (f .link)) _ h in
-      let t2 = refused Broken good no (ltb c (f .least)) _ (t1 .1) in
-      let t3 = refused Broken good no (ltb (32 * f .group + 31) c) _ (t2 .1) in
-      let t4 = passed Broken good no (packable b n k c) _ (t3 .1) in
-      let e1 : y ≡ x = node-same (t4 .1) in
-      let e2 : c ≡ byte = byte-same (t4 .1) in
-      let e3 : linkOf v ≡ next = link-same (t4 .1) in
-      let e4 : getD N x 0 ≡ v = ap (λ m. getD N m 0) (sym e1) in
-      record {
-        at = omega arith;
-        inside = omega (arith, ltb-false cap (f .link) (t1 .0));
-        word = omega arith;
-        least = omega (arith, ltb-false c (f .least) (t2 .0));
-        most = omega (arith, ltb-false (32 * f .group + 31) c (t3 .0));
-        packs = ap (packable b n k) (sym e2) ∙ t4 .0;
-      }
-    where
-      no : Broken ≡ Child x byte next → ⊥
-      no e = let z : _≡_ {A = ℕ} 0 1 = cc in omega arith
-
-      node-same : {a c d : ℕ} → Child a c d ≡ Child x byte next → a ≡ x
-      node-same e = cc
-
-      byte-same : {a c d : ℕ} → Child a c d ≡ Child x byte next → c ≡ byte
-      byte-same e = cc
-
-      link-same : {a c d : ℕ} → Child a c d ≡ Child x byte next → d ≡ next
-      link-same e = cc
-
   pub step-child : (x byte next : ℕ) → stepIn N cap b n k f ≡ Child x byte next → AtChild x byte next
-  unfolding stepIn
-  step-child x byte next h = go (eqb (f .link) 0) refl (ltb (f .group) 7) h
-    where
-      go : (q : Bool) → eqb (f .link) 0 ≡ q → (r : Bool)
-          → cond q (cond r (Chain (getD N (headAt cap (f .node) (f .group + 1)) 0)) Up) (stepAlong N cap b n k f) ≡ Child x byte next → AtChild x byte next
-      go true e true h = let z : _≡_ {A = ℕ} 0 1 = cc in absurd (omega arith)
-      go true e false h = let z : _≡_ {A = ℕ} 0 1 = cc in absurd (omega arith)
-      go false e r h = along-child x byte next (eqb-false (f .link) 0 e) h
+  step-child x byte next h =
+      let p = packed-child N cap b n k f x byte next h in
+      record { here = words.step-child N cap f x byte next (p .0); packs = p .1 }
 
-  -- a step along a chain leads to a child, or is refused
-  along-not : (s : Step) → (Broken ≡ s → ⊥) → ((x byte next : ℕ) → Child x byte next ≡ s → ⊥) → stepAlong N cap b n k f ≡ s → ⊥
-  unfolding stepAlong
-  along-not s broken other h =
-      let t1 = refused Broken s broken (ltb cap (f .link)) _ h in
-      let t2 = refused Broken s broken (ltb (byteOf (getD N (f .link - 1) 0)) (f .least)) _ (t1 .1) in
-      let t3 = refused Broken s broken (ltb (32 * f .group + 31) (byteOf (getD N (f .link - 1) 0))) _ (t2 .1) in
-      let t4 = passed Broken s broken (packable b n k (byteOf (getD N (f .link - 1) 0))) _ (t3 .1) in
-      other _ _ _ (t4 .1)
+  pub step-chain : (next : ℕ) → stepIn N cap b n k f ≡ Chain next → words.AtChain N cap f next
+  step-chain next h = words.step-chain N cap f next (packed-chain N cap b n k f next h)
 
-  -- the next chain
-  pub record AtChain (next : ℕ) : Type 0 where
-    pub done : f .link ≡ 0
-    pub more : f .group < 7
-    pub word : getD N (headAt cap (f .node) (f .group + 1)) 0 ≡ next
-
-  pub step-chain : (next : ℕ) → stepIn N cap b n k f ≡ Chain next → AtChain next
-  unfolding stepIn
-  step-chain next h = go (eqb (f .link) 0) refl (ltb (f .group) 7) refl h
-    where
-      no : (x byte l : ℕ) → Child x byte l ≡ Chain next → ⊥
-      no x byte l e = let z : _≡_ {A = ℕ} 0 1 = cc in omega arith
-
-      broken : Broken ≡ Chain next → ⊥
-      broken e = let z : _≡_ {A = ℕ} 0 1 = cc in omega arith
-
-      go : (q : Bool) → eqb (f .link) 0 ≡ q → (r : Bool) → ltb (f .group) 7 ≡ r
-          → cond q (cond r (Chain (getD N (headAt cap (f .node) (f .group + 1)) 0)) Up) (stepAlong N cap b n k f) ≡ Chain next → AtChain next
-      go true e true l h = record { done = eqb-true (f .link) 0 e; more = ltb-true (f .group) 7 l; word = cc }
-      go true e false l h = let z : _≡_ {A = ℕ} 0 1 = cc in absurd (omega arith)
-      go false e r l h = absurd (along-not (Chain next) broken no h)
-
-  -- no child is left
-  pub record AtEnd : Type 0 where
-    pub done : f .link ≡ 0
-    pub last : 7 ≤ f .group
-
-  pub step-up : stepIn N cap b n k f ≡ Up → AtEnd
-  unfolding stepIn
-  step-up h = go (eqb (f .link) 0) refl (ltb (f .group) 7) refl h
-    where
-      no : (x byte l : ℕ) → Child x byte l ≡ Up → ⊥
-      no x byte l e = let z : _≡_ {A = ℕ} 0 1 = cc in omega arith
-
-      broken : Broken ≡ Up → ⊥
-      broken e = let z : _≡_ {A = ℕ} 0 1 = cc in omega arith
-
-      go : (q : Bool) → eqb (f .link) 0 ≡ q → (r : Bool) → ltb (f .group) 7 ≡ r
-          → cond q (cond r (Chain (getD N (headAt cap (f .node) (f .group + 1)) 0)) Up) (stepAlong N cap b n k f) ≡ Up → AtEnd
-      go true e true l h = let z : _≡_ {A = ℕ} 0 1 = cc in absurd (omega arith)
-      go true e false l h = record { done = eqb-true (f .link) 0 e; last = ltb-false (f .group) 7 l }
-      go false e r l h = absurd (along-not Up broken no h)
+  pub step-up : stepIn N cap b n k f ≡ Up → words.AtEnd N cap f
+  step-up h = words.step-up N cap f (packed-up N cap b n k f h)

@@ -17,9 +17,9 @@ use Rattle.children.specs.Phys.{Phys, leafP, innerP, bucket, tree, first}
 use Rattle.trie_laws.specs.Sound.{filled}
 use Rattle.trie_laws.specs.Path.{follows}
 use Rattle.trie_laws.specs.Walk.{soundWalk}
-use Rattle.node_check.specs.declared.frame.Frame.{Frame}
-use Rattle.node_check.specs.declared.frame.Step.{Step}
-use Rattle.node_check.specs.declared.frame.Step.the-variants as step
+use Rattle.children.specs.declared.order.Frame.{Frame}
+use Rattle.children.specs.declared.order.Step.{Step}
+use Rattle.children.specs.declared.order.Step.the-variants as step
 use Rattle.node_check.specs.declared.leaf.Kind.{Kind}
 use Rattle.node_check.specs.declared.leaf.Kind.the-variants as kind
 use Rattle.node_check.specs.declared.leaf.Left.{Left}
@@ -28,11 +28,12 @@ use Rattle.trie_visit.specs.declared.Move.{Move}
 use Rattle.trie_visit.specs.declared.Move.the-variants as move
 use Rattle.node_check.specs.Mark.{markOnce}
 use Rattle.node_check.specs.Leaf.{kindOf}
-use Rattle.node_check.specs.Frame.{entered, pastChild, nextChain, stepIn}
+use Rattle.children.specs.Order.{entered, pastChild, nextChain}
+use Rattle.node_check.specs.Frame.{stepIn}
 use Rattle.trie_visit.specs.Visit.{Given, Fitting, Visited, visited, childMove, leafLeft, pastLeaf, visitChild, visitStep, visit}
 use Rattle.trie_check.specs.Trie.{state, Tested, tested, follow, run, leftIf, leftLeaf, testBelow, testKind, testTrie}
 use Rattle.trie_check_laws.specs.Found.{Reads, Found, Marked, one}
-use Rattle.trie_check_laws.proofs.RightTests.{passed}
+use Rattle.children.proofs.Tests.{passed}
 use Rattle.trie_check_laws.proofs.RightStep.{AtChild, step-child, step-chain, step-up}
 use Rattle.trie_check_laws.proofs.RightMark.{Once, mark-fresh}
 use Rattle.trie_check_laws.proofs.RightLeaf.{kind-inner, kind-leaf, AtLeaf, LeafPages, leaf-right}
@@ -87,7 +88,7 @@ module _ (w : Given) (bytesOf : ℕ → List ℕ) (reads : Reads w bytesOf) (map
     leaf-hangs link n a more ps = record {
       place = refl;
       held = (a .state ∙ ap leafState (sym (ps .start)), (a .heads, ps .held));
-      sound = (at .inside, ps .below);
+      sound = (at .here .inside, ps .below);
       full = pages-filled (ps .list) (λ e. more (sym (ps .start) ∙ e));
       walked = subst (λ ys. all (follows bytesOf 0 ys) (ps .list) ≡ true) (ap (λ d. take d path₁) (add-one k) ∙ same-path) (ps .path);
       live = ps .live;
@@ -115,7 +116,7 @@ module _ (w : Given) (bytesOf : ℕ → List ℕ) (reads : Reads w bytesOf) (map
         record {
           place = refl;
           held = inner-held w bytesOf (suc k) (take (suc k) path₁) x (r .below) e c;
-          sound = inner-sound w bytesOf (suc k) (take (suc k) path₁) x (r .below) (at .inside) c;
+          sound = inner-sound w bytesOf (suc k) (take (suc k) path₁) x (r .below) (at .here .inside) c;
           full = refl;
           walked = subst (λ ys. soundWalk bytesOf (w .rows .bits) (w .rows .length) (w .rows .bytes) (suc k) ys (inner (childrenOf (r .below))) ≡ true) same-path
               (inner-walked w bytesOf (suc k) (take (suc k) path₁) x (r .below) l c);

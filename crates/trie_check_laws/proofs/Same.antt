@@ -7,7 +7,7 @@ use lib.ListN.{getD}
 use Rattle.layout.specs.Nodes.{chainWord, stateAt, headAt, mostNodes}
 use Rattle.children.specs.Heap.{Holds}
 use Rattle.children.specs.Phys.{Phys, leafP, innerP, Buckets, end, bucket, Chain, stop, link, root, first, pageCells, cells, cellsB, cellsC, Sound, SoundB, SoundC}
-use Rattle.children.proofs.Chains.{linkC, chain-head, link-below}
+use Rattle.children.proofs.Chains.{linkC, slot-word, link-below, chains-left}
 
 -- the pages of a leaf, by its first one
 pub same-pages : (base : ℕ) (N P : List ℕ) (ps qs : List ℕ) → Holds (pageCells base ps) N P → Holds (pageCells base qs) N P → first ps ≡ first qs → ps ≡ qs
@@ -19,24 +19,16 @@ same-pages base N P (p ∷ ps) (q ∷ qs) h g e =
     ap₂ (λ x xs. x ∷ xs) here (same-pages base N P ps qs (h .1) (g .1) (sym (h .0) ∙ ap (λ x. getD P (base + x) 0) here ∙ g .0))
 
 module _ (cap pcap base : ℕ) (N P : List ℕ) (small : cap ≤ mostNodes) where
-  chains-left : (bs : Buckets) (g : ℕ) → SoundB cap pcap bs g → g ≤ 8
-  chains-left end g s = omega arith
-  chains-left (bucket ch bs) g s = omega (arith, chains-left bs (suc g) (s .1))
-
-  -- the word of a slot, and its two parts
-  slot-word : (ch : Chain) (s y : ℕ) → Holds (cellsC cap base ch s y) N P → getD N s 0 ≡ chainWord y (linkC ch)
-  slot-word ch s y h = chain-head cap base ch s y .to .holds N P h .0
-
   module _ (ch ds : Chain) (s r y z lo hi lo′ hi′ : ℕ) (h : Holds (cellsC cap base ch s y) N P) (g : Holds (cellsC cap base ds r z) N P)
       (a : SoundC cap pcap ch lo hi) (b : SoundC cap pcap ds lo′ hi′) (e : s ≡ r) where
     words : chainWord y (linkC ch) ≡ chainWord z (linkC ds)
-    words = sym (slot-word ch s y h) ∙ ap (λ m. getD N m 0) e ∙ slot-word ds r z g
+    words = sym (slot-word cap base N P ch s y h) ∙ ap (λ m. getD N m 0) e ∙ slot-word cap base N P ds r z g
 
     same-link : linkC ch ≡ linkC ds
-    same-link = omega (arith, words, link-below cap pcap base small ch lo hi a, link-below cap pcap base small ds lo′ hi′ b)
+    same-link = omega (arith, words, link-below cap pcap ch lo hi a, link-below cap pcap ds lo′ hi′ b)
 
     same-byte : y ≡ z
-    same-byte = omega (arith, words, link-below cap pcap base small ch lo hi a, link-below cap pcap base small ds lo′ hi′ b)
+    same-byte = omega (arith, words, link-below cap pcap ch lo hi a, link-below cap pcap ds lo′ hi′ b)
 
   mutual
     pub same-trie : (t u : Phys) → Holds (cells cap base t) N P → Holds (cells cap base u) N P → Sound cap pcap t → Sound cap pcap u → root t ≡ root u → t ≡ u
@@ -54,8 +46,8 @@ module _ (cap pcap base : ℕ) (N P : List ℕ) (small : cap ≤ mostNodes) wher
     same-buckets : (bs cs : Buckets) (n m g : ℕ) → Holds (cellsB cap base bs n g) N P → Holds (cellsB cap base cs m g) N P → SoundB cap pcap bs g → SoundB cap pcap cs g
         → n ≡ m → bs ≡ cs
     same-buckets end end n m g h k a b e = refl
-    same-buckets end (bucket ch cs) n m g h k a b e = absurd (omega (arith, chains-left cs (suc g) (b .1)))
-    same-buckets (bucket ch bs) end n m g h k a b e = absurd (omega (arith, chains-left bs (suc g) (a .1)))
+    same-buckets end (bucket ch cs) n m g h k a b e = absurd (omega (arith, chains-left cap pcap cs (suc g) (b .1)))
+    same-buckets (bucket ch bs) end n m g h k a b e = absurd (omega (arith, chains-left cap pcap bs (suc g) (a .1)))
     same-buckets (bucket ch bs) (bucket ds cs) n m g h k a b e =
         ap₂ bucket
         (same-chain ch ds (headAt cap n g) (headAt cap m g) 0 0 (32 * g) (32 * g + 32) (32 * g) (32 * g + 32) (h .0) (k .0) (a .0) (b .0)

@@ -74,11 +74,6 @@ mutual
   load-chain (link c t ch) cs =
       omega (arith, load-pages t, load-chain ch cs, length-append (pagesIn (tree t)) (pagesAmong (childrenC ch cs)))
 
--- eight chains
-pub chains-left : (cap pcap : ℕ) (bs : Buckets) (g : ℕ) → SoundB cap pcap bs g → g ≤ 8
-chains-left cap pcap end g s = omega arith
-chains-left cap pcap (bucket ch bs) g s = omega (arith, chains-left cap pcap bs (suc g) (s .1))
-
 -- ---- order
 module _ (bytesOf : ℕ → List ℕ) (live : ℕ → Bool) (b n len : ℕ) where
   -- below the bytes ys: pages that follow them and are live, bytes that packing can give, no empty child

@@ -12,44 +12,29 @@ use lib.Seq.{getD-set-same, getD-set-other, getD-append-seam}
 use borrow.Author.Tests.{eq-eqb, ne-eqb, le-ltb}
 use Rattle.meaning.specs.Lists.{all, from, upto}
 use Rattle.meaning.specs.Trie.{byteAt}
-use Rattle.layout.specs.Nodes.{headAt}
+use Rattle.layout.specs.declared.nodes.Kind.the-variants as kind
+use Rattle.layout.proofs.States.{kind-state}
 use Rattle.layout.specs.Pages.{isLive}
 use Rattle.blocks.specs.declared.Rows.{Rows}
 use Rattle.children.specs.Heap.{Holds}
-use Rattle.children.specs.Phys.{leafP, innerP, Buckets, first, noHeads, pageCells, cells, Below}
+use Rattle.children.specs.Phys.{leafP, innerP, Buckets, first, pageCells, cells, Below}
 use Rattle.blocks.specs.Packed.{pageByte, levelAt}
 use Rattle.trie_laws.specs.Path.{follows}
+use Rattle.children.proofs.Bare.{held-bare}
 use Rattle.meaning.proofs.Lists.{and-intro, and-first, and-second}
 use Rattle.node_check.specs.declared.leaf.Kind.the-variants.{Inner, Leaf}
 use Rattle.node_check.specs.declared.leaf.Left.the-variants.{Some}
-use Rattle.node_check.specs.Leaf.{bare, kindOf, onPath, testLeaf}
+use Rattle.node_check.specs.Leaf.{kindOf, onPath, testLeaf}
 
 -- ---- what a node is
 module _ (N P : List ℕ) (cap base x : ℕ) where
-  pub held-bare : Holds (noHeads cap x) N P → bare N cap x ≡ true
-  unfolding bare noHeads all upto from
-  held-bare h =
-      rw (
-        eq-eqb (getD N (headAt cap x 0) 0) 0 (h .0),
-        eq-eqb (getD N (headAt cap x 1) 0) 0 (h .1 .0),
-        eq-eqb (getD N (headAt cap x 2) 0) 0 (h .1 .1 .0),
-        eq-eqb (getD N (headAt cap x 3) 0) 0 (h .1 .1 .1 .0),
-        eq-eqb (getD N (headAt cap x 4) 0) 0 (h .1 .1 .1 .1 .0),
-        eq-eqb (getD N (headAt cap x 5) 0) 0 (h .1 .1 .1 .1 .1 .0),
-        eq-eqb (getD N (headAt cap x 6) 0) 0 (h .1 .1 .1 .1 .1 .1 .0),
-        eq-eqb (getD N (headAt cap x 7) 0) 0 (h .1 .1 .1 .1 .1 .1 .1 .0),
-      )
-      refl
-
   pub leaf-kind : (ps : List ℕ) → Holds (cells cap base (leafP x ps)) N P → kindOf N cap x ≡ Leaf (first ps)
   unfolding kindOf
-  leaf-kind ps h =
-      let less : 2 + first ps - 2 ≡ first ps = omega arith in
-      rw (h .0, ne-eqb (2 + first ps) 0 (omega arith), ne-eqb (2 + first ps) 1 (omega arith), held-bare (h .1 .0)) (ap Leaf less)
+  leaf-kind ps h = rw (kind-state N cap x (kind.Leaf (first ps)) (h .0), held-bare N P cap x (h .1 .0)) refl
 
   pub inner-kind : (bs : Buckets) → Holds (cells cap base (innerP x bs)) N P → kindOf N cap x ≡ Inner
   unfolding kindOf
-  inner-kind bs h = rw (h .0) refl
+  inner-kind bs h = rw (kind-state N cap x kind.Inner (h .0)) refl
 
 -- ---- the path
 -- an array that begins with the bytes ys

@@ -6,17 +6,19 @@ use mathlib.Core.Bool.{true}
 use mathlib.Core.List.{List, [], _∷_}
 use lib.Dec.{eqb}
 use lib.ListN.{length, getD, set}
-use borrow.Author.Tests.{eq-eqb, ne-eqb, lt-ltb, le-ltb}
+use borrow.Author.Tests.{ne-eqb}
+use Rattle.children.proofs.StepWords as words
 use Rattle.meaning.specs.Sketch.{packable}
 use Rattle.layout.specs.Nodes.{linkOf, byteOf, chainWord, headAt, linkBase}
-use Rattle.node_check.specs.declared.frame.Frame.{Frame}
-use Rattle.node_check.specs.declared.frame.Step.{Step}
-use Rattle.node_check.specs.declared.frame.Step.the-variants as step
+use Rattle.children.specs.declared.order.Frame.{Frame}
+use Rattle.children.specs.declared.order.Step.{Step}
+use Rattle.children.specs.declared.order.Step.the-variants as step
 use Rattle.node_check.specs.declared.leaf.Kind.{Kind}
 use Rattle.trie_visit.specs.declared.Move.the-variants as move
 use Rattle.node_check.specs.Mark.{noted, markOnce}
 use Rattle.node_check.specs.Leaf.{kindOf}
-use Rattle.node_check.specs.Frame.{entered, pastChild, nextChain, stepAlong, stepIn}
+use Rattle.children.specs.Order.{entered, pastChild, nextChain, stepAlong}
+use Rattle.node_check.specs.Frame.{stepIn}
 use Rattle.trie_visit.specs.Visit.{Given, Visited, visited, childMove, onMark, visitChild, onChild, visitStep, visit}
 use Rattle.trie_check.specs.Trie.{State, state, Tested, tested, leftIf, follow, run}
 
@@ -108,29 +110,14 @@ module _ (N : List ℕ) (cap b n k : ℕ) (frame : Frame) where
   -- to node x of byte c, which is followed by l
   pub to-child : (x c l : ℕ) → frame .link ≡ x + 1 → x < cap → getD N x 0 ≡ chainWord c l → l < linkBase → frame .least ≤ c → c < 32 * frame .group + 32
       → packable b n k c ≡ true → stepIn N cap b n k frame ≡ step.Child x c l
-  unfolding stepIn stepAlong
-  to-child x c l e i h m lo hi p =
-      let at : frame .link - 1 ≡ x = omega arith in
-      let byte : byteOf (chainWord c l) ≡ c = omega arith in
-      let next : linkOf (chainWord c l) ≡ l = omega arith in
-      rw (
-        ne-eqb (frame .link) 0 (omega arith),
-        le-ltb cap (frame .link) (omega arith),
-        at,
-        h,
-        byte,
-        next,
-        le-ltb c (frame .least) lo,
-        le-ltb (32 * frame .group + 31) c (omega arith),
-        p,
-      )
-      refl
+  unfolding stepIn
+  to-child x c l e i h m lo hi p = rw (words.to-child N cap frame x c l e i h m lo hi, p) refl
 
   -- to the next chain, or up
   pub to-chain : frame .link ≡ 0 → frame .group < 7 → stepIn N cap b n k frame ≡ step.Chain (getD N (headAt cap (frame .node) (frame .group + 1)) 0)
   unfolding stepIn
-  to-chain e l = rw (eq-eqb (frame .link) 0 e, lt-ltb (frame .group) 7 l)
+  to-chain e l = rw (words.to-chain N cap frame e l) refl
 
   pub to-up : frame .link ≡ 0 → 7 ≤ frame .group → stepIn N cap b n k frame ≡ step.Up
   unfolding stepIn
-  to-up e l = rw (eq-eqb (frame .link) 0 e, le-ltb (frame .group) 7 l)
+  to-up e l = rw (words.to-up N cap frame e l) refl

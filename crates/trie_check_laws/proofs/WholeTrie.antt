@@ -15,18 +15,16 @@ use Rattle.layout.specs.Pages.{isLive}
 use Rattle.children.specs.Heap.{Holds, hit}
 use Rattle.children.specs.Phys.{Phys, leafP, innerP, Buckets, end, bucket, Chain, stop, link, root, first, tree, cells, cellsB, cellsC, Below, SoundB, SoundC}
 use Rattle.children.specs.Phys.{Sound as SoundNodes}
-use Rattle.children.proofs.Claims.{root-below}
-use Rattle.children.proofs.Chains.{linkC, chain-head, link-below}
-use Rattle.children.specs.Phys.{Sound as SoundNodes}
+use Rattle.children.proofs.Chains.{linkC, slot-word, root-below, link-below, chains-left}
 use Rattle.trie_laws.specs.Sound.{filled}
-use Rattle.node_check.specs.declared.frame.Frame.{Frame}
-use Rattle.node_check.specs.declared.frame.Step.the-variants as step
+use Rattle.children.specs.declared.order.Frame.{Frame}
+use Rattle.children.specs.declared.order.Step.the-variants as step
 use Rattle.node_check.specs.declared.leaf.Kind.{Kind}
 use Rattle.node_check.specs.declared.leaf.Kind.the-variants as kind
 use Rattle.node_check.specs.declared.leaf.Left.the-variants as budget
 use Rattle.node_check.specs.Mark.{Noted, noted, markOnce}
 use Rattle.node_check.specs.Leaf.{kindOf}
-use Rattle.node_check.specs.Frame.{entered, pastChild, nextChain}
+use Rattle.children.specs.Order.{entered, pastChild, nextChain}
 use Rattle.trie_visit.specs.Visit.{Given, Fitting, leafLeft, pastLeaf}
 use Rattle.trie_check.specs.Trie.{State, state, Tested, tested, leftIf, leftLeaf, run, testBelow, testKind, testTrie}
 use Rattle.trie_check_laws.specs.Uses.{uses, usesB, usesC}
@@ -34,7 +32,7 @@ use Rattle.trie_check_laws.specs.Found.{Reads, Found, Marked, one}
 use Rattle.trie_check_laws.proofs.WholeMarks.{Clear, Counted, counted-none, counted-then, clear-first, clear-then, Fresh, mark-once}
 use Rattle.trie_check_laws.proofs.WholeLeaf.{leaf-kind, inner-kind, Leads, leads-none, leads-more, leads-less, on-path, leaf-tested}
 use Rattle.trie_check_laws.proofs.WholeSteps.{Ran, ran-none, ran-then, ran-within, ran-to, stepAt, step-chain, step-up, step-end, step-past, step-down, to-child, to-chain, to-up}
-use Rattle.trie_check_laws.proofs.WholeFit.{size, sizeB, sizeC, load, loadB, loadC, size-nodes, load-pages, chains-left, Fit, FitB, FitC, fit}
+use Rattle.trie_check_laws.proofs.WholeFit.{size, sizeB, sizeC, load, loadB, loadC, size-nodes, load-pages, Fit, FitB, FitC, fit}
 
 -- ---- from one end of a part to the other
 
@@ -164,12 +162,8 @@ module _ (w : Given) (bytesOf : ℕ → List ℕ) (small : w .block .nodes ≤ m
   abbrev FitsC : Chain → List ℕ → Type 0
   FitsC = FitC bytesOf (isLive P) (w .rows .bits) (w .rows .length) len
 
-  slot-word : (ch : Chain) (s y : ℕ) → Holds (cellsC cap base ch s y) N P → getD N s 0 ≡ chainWord y (linkC ch)
-  slot-word ch s y h = chain-head cap base ch s y .to .holds N P h .0
-
-  -- the first link of a chain, as a head holds it
   head-link : (ch : Chain) (x g : ℕ) → Holds (cellsC cap base ch (headAt cap x g) 0) N P → getD N (headAt cap x g) 0 ≡ linkC ch
-  head-link ch x g h = omega (arith, slot-word ch (headAt cap x g) 0 h)
+  head-link ch x g h = omega (arith, slot-word cap base N P ch (headAt cap x g) 0 h)
 
   -- ---- a leaf with a page
   leaf-through : (x p : ℕ) (ps ys : List ℕ) (c l : ℕ) → Holds (cells cap base (leafP x (p ∷ ps))) N P → Below pcap (p ∷ ps)
@@ -379,7 +373,7 @@ module _ (w : Given) (bytesOf : ℕ → List ℕ) (small : w .block .nodes ≤ m
         (λ f′ s′ e′ l′ g′ r′ n′. chain-through ch ys (chainAt (root t)) c (suc c) hi (h .1 .1) (b .3) (u .3) v f′ s′ e′ l′ g′ r′ n′) f s g r n
         (tree-through t ys c (linkC ch) (h .1 .0) (b .2) (u .2) (u .1) v f s
         (to-child N cap (w .rows .bits) (w .rows .length) (length (s .stack)) (s .frame) (root t) c (linkC ch) e (root-below cap pcap t (b .2))
-        (slot-word ch (root t) c (h .1 .1)) (omega (arith, link-below cap pcap base small ch (suc c) hi (b .3))) (omega (arith, b .0)) (omega (arith, b .1))
+        (slot-word cap base N P ch (root t) c (h .1 .1)) (omega (arith, link-below cap pcap ch (suc c) hi (b .3))) (omega (arith, b .0)) (omega (arith, b .1))
         (rw (r .level) (u .0))) (omega arith)
         (ready-first w s ys (λ a. uses t a) (λ a. usesC ch a) (size t) (sizeC ch) (load t) (loadC ch) r))
 

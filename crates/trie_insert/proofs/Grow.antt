@@ -86,7 +86,7 @@ module _ (bytesOf : ℕ → List ℕ) (S τ : List ℕ) (r : Rows) (cap pcap bas
     N1 = pushNodes N cap n p
 
     P1 : List ℕ
-    P1 = pushPages N P cap base n p
+    P1 = pushPages P base p (first ps)
 
     st1 : State cap pcap base N1 P1 free (leafP n (p ∷ ps)) fs G
     unfolding N1 P1

@@ -1,5 +1,5 @@
 -- `insertPage` is `insert`, if there are free nodes enough.
-use Prim.Native.Nat.{ℕ, suc, _+_, _*_, _/_, _<_, _≤_}
+use Prim.Native.Nat.{ℕ, suc, _+_, _<_, _≤_}
 use mathlib.Core.Path.{_≡_, refl, ap, _∙_, sym, subst}
 use mathlib.Core.List.{List, [], _∷_}
 use native.Mathlib.Omega.{arith}
@@ -13,11 +13,11 @@ use Rattle.children.specs.Heap.{Cells, page, _⊕_}
 use Rattle.blocks.specs.Tables.{RowTable}
 use Rattle.blocks.specs.Packed.{pageByte, levelAt}
 use Rattle.trie.specs.Model.{linkLeaf, made, freshLeaf}
-use Rattle.children.specs.Phys.{Phys, root, tree, childrenB, childrenC, Sound, SoundC, State, leafP, innerP, link}
+use Rattle.children.specs.Phys.{Phys, root, tree, childrenB, childrenC, Sound, SoundC, State, leafP, innerP, link, chainEnd}
 use Rattle.children.proofs.Frame.{same-swap}
 use Rattle.children.proofs.Abstract.{Above}
 use Rattle.trie.proofs.Context.{Context, inside, enter, leave, beside}
-use Rattle.children.proofs.Chains.{past, tail-above}
+use Rattle.children.proofs.Spot.{past, tail-above}
 use Rattle.trie.proofs.Fresh.{fresh-state, fresh-is}
 use Rattle.trie.specs.declared.path.Reach.{Reach}
 use Rattle.trie.specs.declared.path.Reach.the-variants.{Leaf, Gap, Broken}
@@ -82,7 +82,7 @@ module _ (bytesOf : ℕ → List ℕ) (S τ Y : List ℕ) (r : Rows) (cap pcap b
     In = insertIn bytesOf (r .bytes) τ j p
 
     above : Above b K
-    above = tail-above cap pcap base small (a .spot .tail) b (32 * (b / 32) + 32) (a .spot .later) (a .gap) (a .spot .from) (a .spot .above)
+    above = tail-above cap pcap base small (a .spot .tail) b (chainEnd b) (a .spot .later) (a .gap) (a .spot .from) (a .spot .above)
 
     here : tree t ≡ a .way .context .around (inner (childrenB (a .buckets)))
     here = ap tree (sym (a .way .is)) ∙ a .way .context .trees (innerP n (a .buckets))
@@ -138,8 +138,8 @@ module _ (bytesOf : ℕ → List ℕ) (S τ Y : List ℕ) (r : Rows) (cap pcap b
       pub gap-is : freshLeaf N cap (a .spot .slot) b free ≡ made N1 (Node f (getD N f 0))
       gap-is = fresh-is cap pcap base small entered-gap (a .spot) (a .octet) (a .gap)
 
-      sound-tail : SoundC cap pcap (a .spot .tail) (suc b) (32 * (b / 32) + 32)
-      sound-tail = past cap pcap base small (a .spot .tail) b (32 * (b / 32) + 32) (a .gap) (a .spot .from)
+      sound-tail : SoundC cap pcap (a .spot .tail) (suc b) (chainEnd b)
+      sound-tail = past cap pcap base small (a .spot .tail) b (chainEnd b) (a .gap) (a .spot .from)
 
       C : Context cap pcap base small byte 0 (root t) (suc j) f
       C = inside cap pcap base small byte (a .way .context) (a .buckets) (a .spot) f (a .spot .tail) (a .way .sound .0) (a .octet) sound-tail

@@ -1,12 +1,15 @@
 -- A page put first into a leaf: `pushPage` keeps the state.
-use Prim.Native.Nat.{ℕ, _+_, _-_, _<_}
-use mathlib.Core.Path.{_≡_, sym}
+use Prim.Native.Nat.{ℕ, _+_, _<_}
+use mathlib.Core.Path.{_≡_, refl, sym}
 use mathlib.Core.List.{List, _∷_}
 use mathlib.Core.Bool.{true}
 use native.Mathlib.Omega.{arith}
 use lib.ListN.{getD, set, length-set}
 use Rattle.meaning.specs.Trie.{nodes}
 use Rattle.layout.specs.Nodes.{stateAt, leafState}
+use Rattle.layout.specs.States.{kindOf}
+use Rattle.layout.specs.declared.nodes.Kind.the-variants as kind
+use Rattle.layout.proofs.States.{kind-state}
 use Rattle.children.specs.Heap.{Cells, Heap, node, page, _⊕_}
 use Rattle.children.specs.Phys.{first, pageCells, noHeads, freeCells, cells, State, leafP}
 use Rattle.children.proofs.Frame.{Less, less, same-swap, node-write, page-write, nodes-kept, pages-kept}
@@ -30,12 +33,11 @@ module _ {cap pcap base : ℕ} {N P : List ℕ} {free c p v : ℕ} {ps fs : List
   word : getD N (stateAt cap c) 0 ≡ leafState (first ps)
   word = st .heap .holds .0 .0
 
-  pub push-ok : pushPage N P cap base c p ≡ pushed (pushNodes N cap c p) (pushPages N P cap base c p) true
-  push-ok = sym (push-done N P cap base c p (omega (arith, word)))
+  pub push-ok : pushPage N P cap base c p ≡ pushed (pushNodes N cap c p) (pushPages P base p (first ps)) true
+  push-ok = sym (push-done N P cap base c p (kindOf N cap c) refl (first ps) (kind-state N cap c (kind.Leaf (first ps)) word) (pushNodes N cap c p) refl)
 
-  pub push-state : State cap pcap base (pushNodes N cap c p) (pushPages N P cap base c p) free (leafP c (p ∷ ps)) fs G
+  pub push-state : State cap pcap base (pushNodes N cap c p) (pushPages P base p (first ps)) free (leafP c (p ∷ ps)) fs G
   push-state =
-      let e : getD N (stateAt cap c) 0 - 2 ≡ first ps = omega (arith, word) in
       let t = st .nodeTable in
       let s = st .pageTable in
       let lc : c < cap = st .sound .0 in
@@ -44,7 +46,7 @@ module _ {cap pcap base : ℕ} {N P : List ℕ} {free c p v : ℕ} {ps fs : List
       record {
         nodeTable = nodes-kept (simp length-set) t;
         pageTable = pages-kept (simp length-set) s;
-        heap = rw e (less together h2);
+        heap = less together h2;
         sound = (lc, (lp, st .sound .1));
         chain = st .chain;
         below = st .below;

@@ -7,7 +7,9 @@ use native.Mathlib.Omega.{arith}
 use borrow.Author.Tests.{le-ltb, lt-ltb, eq-eqb, ne-eqb, ltb-true, ltb-false}
 use lib.Dec.{ltb, eqb}
 use lib.ListN.{getD}
-use Rattle.layout.specs.Nodes.{stateAt, nodeWords}
+use Rattle.layout.specs.States.{kindOf}
+use Rattle.layout.specs.declared.nodes.Kind.{Kind}
+use Rattle.layout.specs.declared.nodes.Kind.the-variants as kind
 use Rattle.blocks.specs.declared.Level.{Level}
 use Rattle.blocks.specs.declared.Rows.{Rows}
 use Rattle.trie.specs.declared.leaf.Got.{Got}
@@ -22,7 +24,7 @@ use Rattle.trie.specs.Model.{made, freshLeaf, childLeaf, spanFrom}
 use Rattle.children.proofs.Steps.{suc-pred}
 use Rattle.trie.specs.declared.path.Reach.{Reach}
 use Rattle.trie.specs.declared.path.Reach.the-variants.{Leaf, Gap, Broken}
-use Rattle.trie.specs.Descend.{descendTo, Inside}
+use Rattle.trie.specs.Descend.{descendTo}
 use Rattle.trie_insert.specs.declared.insert.Target.{Target}
 use Rattle.trie_insert.specs.declared.insert.Target.the-variants.{Ready, NoRoom}
 use Rattle.trie_insert.specs.declared.insert.Target.the-variants as target
@@ -33,15 +35,18 @@ use mir.Val.{Fits}
 use mir.Syntax.{w32, w64}
 
 -- `pushPage`, by each way
-module _ (N P : List ℕ) (cap base n p : ℕ) where
-  pub push-none : getD N (stateAt cap n) 0 < 2 → pushed N P false ≡ pushPage N P cap base n p
+module _ (N P : List ℕ) (cap base n p : ℕ) (q : Kind) (e : q ≡ kindOf N cap n) where
+  pub push-inner : q ≡ kind.Inner → pushed N P false ≡ pushPage N P cap base n p
   unfolding pushPage
-  push-none l = rw (lt-ltb _ _ l) refl
+  push-inner z = rw (← e, z) refl
 
-  pub push-done : 2 ≤ getD N (stateAt cap n) 0 →
-      pushed (pushNodes N cap n p) (pushPages N P cap base n p) true ≡ pushPage N P cap base n p
+  pub push-free : q ≡ kind.Free → pushed N P false ≡ pushPage N P cap base n p
   unfolding pushPage
-  push-done l = rw (le-ltb _ _ l) refl
+  push-free z = rw (← e, z) refl
+
+  pub push-done : (first : ℕ) → q ≡ kind.Leaf first → (ns : List ℕ) → ns ≡ pushNodes N cap n p → pushed ns (pushPages P base p first) true ≡ pushPage N P cap base n p
+  unfolding pushPage
+  push-done first z ns w = rw (← e, z, w) refl
 
 -- `putLeafM`, by each way
 module _ (N P : List ℕ) (cap base n b p free : ℕ) (ns : List ℕ) (g : Got) (e : made ns g ≡ childLeaf N cap n b free) where
@@ -176,13 +181,7 @@ module _ (N : List ℕ) (cap : ℕ) (Y : List ℕ) (root free : ℕ) (x : Reach)
     pub aim-failed : g ≡ got.Broken → aimed ns target.Broken ≡ leafFor N cap Y root free
     aim-failed z = rw z at aim-gap
 
--- the bounds that a match tells
-pub leaf-node : (N : List ℕ) (cap len : ℕ) (x : Reach) (n s k : ℕ) → x ≡ Leaf n s k → Inside N cap len x → n < cap
-leaf-node N cap len x n s k e h = (rw e at h) .0
-
-pub gap-slot : (N : List ℕ) (cap len : ℕ) (x : Reach) (n s k : ℕ) → x ≡ Gap n s k → Inside N cap len x → s < nodeWords cap
-gap-slot N cap len x n s k e h = (rw e at h) .1
-
+-- the bound that a match tells
 pub target-in : (cap : ℕ) (x : Target) (n k free : ℕ) → x ≡ Ready n k free → targetIn x ≤ cap → n < cap
 target-in cap x n k free e h = rw e at h
 

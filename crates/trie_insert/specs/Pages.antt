@@ -1,10 +1,12 @@
 -- A page put into a leaf: N is the node table, of cap nodes, P the page table; the links of the block's pages stand from base on.
-use Prim.Native.Nat.{ℕ, _+_, _-_}
+use Prim.Native.Nat.{ℕ, _+_}
 use mathlib.Core.List.{List}
-use mathlib.Core.Bool.{Bool, true, false, cond}
-use lib.Dec.{ltb}
-use lib.ListN.{getD, set}
+use mathlib.Core.Bool.{Bool, true, false}
+use lib.ListN.{set}
 use Rattle.layout.specs.Nodes.{stateAt, leafState}
+use Rattle.layout.specs.States.{kindOf}
+use Rattle.layout.specs.declared.nodes.Kind.{Kind}
+use Rattle.layout.specs.declared.nodes.Kind.the-variants as kind
 use Rattle.trie.specs.declared.leaf.Got.{Got}
 use Rattle.trie.specs.declared.leaf.Got.the-variants.{Node, Full}
 use Rattle.trie.specs.declared.leaf.Got.the-variants as got
@@ -14,16 +16,20 @@ use Rattle.trie.specs.Model.{Made, made, childLeaf}
 pub data Pushed : Type 0 where
   pushed : List ℕ → List ℕ → Bool → Pushed
 
--- page p put first into leaf n
+-- page p put first into leaf n, before a link
 abbrev pub pushNodes : List ℕ → ℕ → ℕ → ℕ → List ℕ
 pushNodes N cap n p = set N (stateAt cap n) (leafState (p + 1))
 
-abbrev pub pushPages : List ℕ → List ℕ → ℕ → ℕ → ℕ → ℕ → List ℕ
-pushPages N P cap base n p = set P (base + p) (getD N (stateAt cap n) 0 - 2)
+abbrev pub pushPages : List ℕ → ℕ → ℕ → ℕ → List ℕ
+pushPages P base p next = set P (base + p) next
+
+abbrev pub pushAt : List ℕ → List ℕ → ℕ → ℕ → ℕ → ℕ → Kind → Pushed
+pushAt N P cap base n p (kind.Leaf first) = pushed (pushNodes N cap n p) (pushPages P base p first) true
+pushAt N P cap base n p kind.Inner = pushed N P false
+pushAt N P cap base n p kind.Free = pushed N P false
 
 unfoldable pub pushPage : List ℕ → List ℕ → ℕ → ℕ → ℕ → ℕ → Pushed
-pushPage N P cap base n p =
-    cond (ltb (getD N (stateAt cap n) 0) 2) (pushed N P false) (pushed (pushNodes N cap n p) (pushPages N P cap base n p) true)
+pushPage N P cap base n p = pushAt N P cap base n p (kindOf N cap n)
 
 -- both tables and the answer
 pub data After : Type 0 where

@@ -4,6 +4,9 @@ ghost use Prim.Native.Nat.{_<_};
 ghost use Rattle.layout.specs.Tables.{NodeTable, PageTable};
 ghost use Rattle.trie_insert.specs.Pages.{pushed, pushPage, after, putLeafM};
 use layout::Block;
+use layout::nodes::Kind;
+use layout::nodes::kind_of;
+use layout::nodes::set_leaf;
 use trie::leaf::Got;
 use trie::leaf::child_leaf;
 
@@ -15,14 +18,16 @@ pub fn push_page(nodes: &mut [u32], pages: &mut [u32], block: Block, n: usize, p
     requires { ⌜ p < block .pages ⌝ }
     ensures { λ r. ⌜ pushed (now (nodes .exit)) (now (pages .exit)) r ≡ pushPage (now (nodes .entry)) (now (pages .entry)) (block .nodes) (block .base) n p ⌝ }
 {
-    let leaf = block.nodes + n;
-    let state = nodes[leaf];
-    if state < 2 {
-        return false;
+    let kind = kind_of(nodes, block.nodes, n);
+    match kind {
+        Kind::Leaf(first) => {
+            pages[block.base + p] = first;
+            set_leaf(nodes, block.nodes, n, (p + 1) as u32);
+            true
+        }
+        Kind::Inner => false,
+        Kind::Free => false,
     }
-    pages[block.base + p] = state - 2;
-    nodes[leaf] = 2 + (p + 1) as u32;
-    true
 }
 
 // A page put into the child leaf of a byte.

@@ -5,7 +5,7 @@ ghost use lib.ListN.{length};
 ghost use Rattle.layout.specs.Tables.{NodeTable, PageTable};
 ghost use Rattle.blocks.specs.Tables.{SketchTable, RowTable};
 ghost use Rattle.trie_insert.specs.Pages.{after};
-ghost use Rattle.trie_insert.specs.Split.{splitFrom, openLeaf, tooLong, splitLeaf, growLeaf};
+ghost use Rattle.trie_insert.specs.Split.{splitFrom, tooLong, splitLeaf, growLeaf};
 use crate::pages::push_page;
 use crate::pages::put_leaf;
 use blocks::Level;
@@ -13,6 +13,7 @@ use blocks::Rows;
 use blocks::packed::level_at;
 use blocks::packed::page_byte;
 use layout::Block;
+use layout::nodes::set_inner;
 use trie::leaf::Got;
 use trie::span::Span;
 use trie::span::at_least;
@@ -67,15 +68,6 @@ pub fn split_pages(
     }
 }
 
-// A leaf as an inner node without children. Its pages are loose then.
-pub fn open_leaf(nodes: &mut [u32], cap: usize, n: usize)
-    requires { ⌜ NodeTable cap (now nodes) ⌝ }
-    requires { ⌜ n < cap ⌝ }
-    ensures { λ r. ⌜ now (nodes .exit) ≡ openLeaf (now (nodes .entry)) cap n ⌝ }
-{
-    nodes[cap + n] = 1;
-}
-
 // Whether the leaf at level k whose first page is at a link is too long.
 fn too_long(
     pages: &[u32],
@@ -96,7 +88,7 @@ fn too_long(
     at_least(pages, block.base, block.pages, first, most + 1)
 }
 
-// Leaf n at level k as an inner node, its pages in leaves below.
+// Leaf n at level k as an inner node without children, its pages, which are loose then, in leaves below.
 fn split_leaf(
     nodes: &mut [u32],
     pages: &mut [u32],
@@ -116,7 +108,7 @@ fn split_leaf(
     ensures { λ r. ⌜ after (now (nodes .exit)) (now (pages .exit)) r ≡ splitLeaf (now (sketches .entry)) rows (block .nodes) (block .pages) (block .base) (now (nodes .entry)) (now (pages .entry)) k n first free ⌝ }
 {
     let level = level_at(rows, k);
-    open_leaf(nodes, block.nodes, n);
+    set_inner(nodes, block.nodes, n);
     split_pages(nodes, pages, sketches, block, level, n, first, free)
 }
 

@@ -10,6 +10,7 @@ use lib.ListN.{getD, replicate}
 use Rattle.meaning.specs.Lists.{all, any, count}
 use Rattle.meaning.specs.Sketch.{perByte, symbolsAt, packable}
 use Rattle.meaning.specs.Trie.{byteAt, pagesIn}
+use Rattle.layout.specs.States.{kindOf}
 use Rattle.children.specs.Heap.{Cells, hit, nodeClaims, pageClaims, nil, node, page, _⊕_}
 use Rattle.children.specs.Places.{placeFrom, findPlace}
 use Rattle.children.specs.Phys.{Phys, Buckets, tree, noHeads, cells, State, leafP, innerP, end, bucket, stop, link}
@@ -20,7 +21,8 @@ use Rattle.trie.specs.Descend.{descend, descendTo}
 use Rattle.trie.proofs.Arrival.{Leads, sound-leads}
 use Rattle.trie_remove.specs.declared.Removed.the-variants.{Done}
 use Rattle.trie_remove.specs.Take.{takePage}
-use Rattle.trie_remove.specs.Remove.{freeChild, setFirst, removeAt, removePage, gone}
+use Rattle.trie.specs.Model.{freeChild}
+use Rattle.trie_remove.specs.Remove.{setFirst, removeAt, removePage, gone}
 use Rattle.trie_remove.proofs.Removal.{RemoveDone, remove-right}
 
 -- ---- cells at different addresses claim no word twice
@@ -125,5 +127,5 @@ done : RemoveDone 3 2 0 bytesOf 1 N P t [] nil (removePage N P 3 2 0 0 (2 ∷ []
 done = remove-right bytesOf 1 state leads 8 1 1 sound stands
 
 computed : removePage N P 3 2 0 0 (2 ∷ []) 1 0 ≡ gone (0 ∷ 524288 ∷ 0 ∷ 1 ∷ 3 ∷ 0 ∷ 2 ∷ replicate 23 0) P (Done 3)
-unfolding removePage removeAt setFirst freeChild takePage descendTo descend findPlace placeFrom
+unfolding removePage removeAt setFirst freeChild kindOf takePage descendTo descend findPlace placeFrom
 computed = refl

@@ -1,14 +1,17 @@
 -- A page out of a leaf that holds it: what `removeAt` comes to, and the state with the leaf that is left.
-use Prim.Native.Nat.{ℕ, _+_, _-_, _<_}
+use Prim.Native.Nat.{ℕ, _+_, _<_}
 use native.Mathlib.Omega.{arith}
-use mathlib.Core.Path.{_≡_, refl, sym}
+use mathlib.Core.Path.{_≡_, refl, ap, sym}
 use mathlib.Core.Bool.{Bool, true, false, cond, false≢true}
 use mathlib.Core.List.{List, [], _∷_}
 use lib.Dec.{eqb}
-use lib.ListN.{length, getD, set, length-set}
+use lib.ListN.{length, set, length-set}
 use Rattle.meaning.specs.Lists.{any}
 use Rattle.meaning.specs.Trie.{without}
 use Rattle.layout.specs.Nodes.{stateAt, leafState}
+use Rattle.layout.specs.States.{kindOf, firstOf}
+use Rattle.layout.specs.declared.nodes.Kind.the-variants as kind
+use Rattle.layout.proofs.States.{kind-state}
 use Rattle.children.specs.Heap.{Cells, Heap, node, page, _⊕_}
 use Rattle.children.specs.Phys.{first, pageCells, noHeads, freeCells, cells, Below, State, leafP}
 use Rattle.children.proofs.Frame.{Less, less, node-write, nodes-kept, pages-kept}
@@ -16,7 +19,8 @@ use Rattle.trie_remove.specs.declared.Taken.{Taken}
 use Rattle.trie_remove.specs.declared.Taken.the-variants.{First, Inside, Missing, Broken}
 use Rattle.trie_remove.specs.declared.Removed.the-variants.{Done}
 use Rattle.trie_remove.specs.Take.{takePage, took}
-use Rattle.trie_remove.specs.Remove.{freeChild, removeAt, Gone, freed, gone}
+use Rattle.trie.specs.Model.{freeChild}
+use Rattle.trie_remove.specs.Remove.{removeAt, Gone, freed, gone}
 use Rattle.trie_remove.proofs.Steps.{first-some, first-root, first-freed, remove-first, remove-inside}
 use Rattle.trie_remove.proofs.Take.{Tells, TakeDone, take-right}
 
@@ -62,10 +66,10 @@ module _ {cap pcap base : ℕ} {N P : List ℕ} {free c : ℕ} {ps fs : List ℕ
     unfolding R
     together = record { holds = λ N P h. search; nodes = λ a. omega arith; pages = λ a. omega arith }
 
-  word : getD N (stateAt cap c) 0 - 2 ≡ first ps
-  word = omega (arith, st .heap .holds .0 .0)
+  word : firstOf (kindOf N cap c) ≡ first ps
+  word = ap firstOf (kind-state N cap c (kind.Leaf (first ps)) (st .heap .holds .0 .0))
 
-  done : TakeDone N P base p ps (node (stateAt cap c) (leafState (first ps)) ⊕ R) (takePage P pcap base (getD N (stateAt cap c) 0 - 2) p)
+  done : TakeDone N P base p ps (node (stateAt cap c) (leafState (first ps)) ⊕ R) (takePage P pcap base (firstOf (kindOf N cap c)) p)
   done = rw word (take-right pcap base p (st .pageTable) ps (less apart (st .heap)) (st .sound .1) m)
 
   left : (M : List ℕ) (P' : List ℕ) (v : ℕ) → length M ≡ length N → length P' ≡ length P → Heap M P' (node (stateAt cap c) (leafState (first (without p ps))) ⊕ pageCells base (without p ps) ⊕ page (base + p) v ⊕ R) →
@@ -95,18 +99,18 @@ module _ {cap pcap base : ℕ} {N P : List ℕ} {free c : ℕ} {ps fs : List ℕ
       M : List ℕ
       M = set N (stateAt cap c) (leafState (first qs))
 
-      go : (a : Taken) → Tells a ps qs → took (done .pagesTo) a ≡ takePage P pcap base (getD N (stateAt cap c) 0 - 2) p → LeafDone cap pcap base N P free c p s k ps fs G (removeAt N P cap pcap base c s k p free)
+      go : (a : Taken) → Tells a ps qs → took (done .pagesTo) a ≡ takePage P pcap base (firstOf (kindOf N cap c)) p → LeafDone cap pcap base N P free c p s k ps fs G (removeAt N P cap pcap base c s k p free)
       go (First l) e i =
-          let r = remove-first N P cap pcap base c s k p free (done .pagesTo) (First (first qs)) (rw e at i) (first qs) in
+          let r = remove-first N P cap pcap base c s k p free (firstOf (kindOf N cap c)) refl (done .pagesTo) (First (first qs)) (rw e at i) (first qs) in
           let t = st .nodeTable in
           record {
             nodesTo = M;
             pagesTo = done .pagesTo;
             linkTo = done .linkTo;
             state = left M (done .pagesTo) (done .linkTo) (simp length-set) (done .length) (node-write (leafState (first qs)) h (omega arith));
-            full = λ z. sym (r M free refl (first-some N cap c s k (first qs) free z));
-            root = λ z y. sym (r M free refl (first-root N cap c s k (first qs) free (omega arith) y));
-            emptied = λ z y. sym (r (freeChild M cap s c free) (c + 1) refl (first-freed N cap c s k (first qs) free (omega arith) (freeChild M cap s c free) (c + 1) y refl refl));
+            full = λ z. sym (r M free refl (first-some N cap c s k (first qs) free M refl z));
+            root = λ z y. sym (r M free refl (first-root N cap c s k (first qs) free M refl (omega arith) y));
+            emptied = λ z y. sym (r (freeChild M cap s c free) (c + 1) refl (first-freed N cap c s k (first qs) free M refl (omega arith) (freeChild M cap s c free) (c + 1) y refl refl));
             nodesLength = simp length-set;
             pagesLength = done .length;
           }
@@ -117,7 +121,7 @@ module _ {cap pcap base : ℕ} {N P : List ℕ} {free c : ℕ} {ps fs : List ℕ
             pagesTo = done .pagesTo;
             linkTo = done .linkTo;
             state = left N (done .pagesTo) (done .linkTo) refl (done .length) (rw e at h);
-            full = λ z. sym (remove-inside N P cap pcap base c s k p free (done .pagesTo) Inside i refl);
+            full = λ z. sym (remove-inside N P cap pcap base c s k p free (firstOf (kindOf N cap c)) refl (done .pagesTo) Inside i refl);
             root = λ z y. absurd (omega arith);
             emptied = λ z y. absurd (omega arith);
             nodesLength = refl;

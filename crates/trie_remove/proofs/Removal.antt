@@ -1,5 +1,5 @@
 -- On a state with a sound trie that has the page, `removePage` is `remove`; a node more is free exactly where `frees` says so.
-use Prim.Native.Nat.{ℕ, zero, suc, _+_, _*_, _/_, _<_, _≤_}
+use Prim.Native.Nat.{ℕ, zero, suc, _+_, _<_, _≤_}
 use native.Mathlib.Nat.{zero-add}
 use native.Mathlib.Omega.{arith}
 use mathlib.Core.Path.{_≡_, refl, ap, _∙_, sym, subst}
@@ -11,7 +11,7 @@ use Rattle.meaning.specs.Lists.{any}
 use Rattle.meaning.specs.Trie.{Children, leaf, inner, without, byteAt, remove, pagesIn}
 use Rattle.layout.specs.Nodes.{mostNodes}
 use Rattle.children.specs.Heap.{Cells, page, _⊕_}
-use Rattle.children.specs.Phys.{Phys, Chain, root, tree, childrenB, first, SoundC, State, leafP, innerP, link}
+use Rattle.children.specs.Phys.{Phys, Chain, root, tree, childrenB, first, SoundC, State, leafP, innerP, link, chainEnd}
 use Rattle.children.proofs.Frame.{same-swap}
 use Rattle.trie.proofs.Context.{enter, beside}
 use Rattle.trie_laws.specs.Sound.{filled, soundTrie}
@@ -26,9 +26,10 @@ use Rattle.children.proofs.Spots.{from-here, spot-has, spot-child, spot-drop}
 use Rattle.trie.proofs.Way.{Way, onward, onward-put, go-in, go-out}
 use Rattle.trie.proofs.Arrival.{Leads, Parent, AtLeaf, Arrives, arrives}
 use Rattle.trie_remove.specs.declared.Removed.the-variants.{Done}
-use Rattle.trie_remove.specs.Remove.{freeChild, removeAt, removePage, Gone, gone}
+use Rattle.trie.specs.Model.{freeChild}
+use Rattle.trie_remove.specs.Remove.{removeAt, removePage, Gone, gone}
 use Rattle.trie_remove.proofs.Steps.{remove-leaf}
-use Rattle.trie_remove.proofs.Free.{free-state}
+use Rattle.trie.proofs.Free.{free-state}
 use Rattle.trie_remove.proofs.Leaf.{LeafDone, leaf-right}
 
 -- what removing page p from t comes to: the page's link is left over
@@ -117,7 +118,7 @@ module _ {cap pcap base : ℕ} (small : cap ≤ mostNodes) (bytesOf : ℕ → Li
     abbrev rest : Phys
     rest = innerP (a .node) (a .spot .put (a .after))
 
-    empty : SoundC cap pcap (link y (leafP n []) (a .after)) y (32 * (y / 32) + 32)
+    empty : SoundC cap pcap (link y (leafP n []) (a .after)) y (chainEnd y)
     empty = let g = from-here cap pcap base small (a .spot) (leafP n ps) (a .after) (a .here) in (g .0, g .1, (g .2 .0, tt), g .3)
 
     empty-put : w .context .put (leafP n (without p ps)) ≡ a .way .context .put (innerP (a .node) (a .spot .put (link y (leafP n []) (a .after))))

@@ -8,16 +8,18 @@ use borrow.Author.Tests.{le-ltb, lt-ltb, eq-eqb, ne-eqb}
 use lib.Dec.{ltb, eqb}
 use lib.ListN.{getD, set}
 use Rattle.layout.specs.Pages.{mostPages}
-use Rattle.layout.specs.Nodes.{stateAt, leafState, nodeWords}
+use Rattle.layout.specs.Nodes.{stateAt, leafState}
+use Rattle.layout.specs.States.{kindOf, firstOf}
 use Rattle.trie.specs.declared.path.Reach.{Reach}
 use Rattle.trie.specs.declared.path.Reach.the-variants.{Leaf, Gap}
 use Rattle.trie.specs.declared.path.Reach.the-variants as reach
-use Rattle.trie.specs.Descend.{descendTo, Inside as ReachInside}
+use Rattle.trie.specs.Descend.{descendTo}
+use Rattle.trie.specs.Model.{freeChild}
 use Rattle.trie_remove.specs.declared.Taken.{Taken}
 use Rattle.trie_remove.specs.declared.Taken.the-variants.{First, Inside, Missing, Broken}
 use Rattle.trie_remove.specs.declared.Removed.the-variants.{Done, Broken as Undone}
 use Rattle.trie_remove.specs.Take.{Took, linkIn, takeFrom, takePage, took}
-use Rattle.trie_remove.specs.Remove.{freeChild, setFirst, removeAt, removePage, Gone, freed, gone}
+use Rattle.trie_remove.specs.Remove.{setFirst, removeAt, removePage, Gone, freed, gone}
 
 -- `takePage`, where the page is the first, and where it is not
 module _ (P : List ℕ) (pcap base l p : ℕ) where
@@ -67,57 +69,41 @@ module _ (P : List ℕ) (pcap base p l f : ℕ) (R : Took) (inv : takeFrom P pca
         take-on q = rw (ne-eqb _ _ e, le-ltb _ _ w, ne-eqb _ _ q) at take-step
 
 -- `setFirst`, by each way
-module _ (N : List ℕ) (cap n s k l free : ℕ) where
-  abbrev relinked : List ℕ
-  relinked = set N (stateAt cap n) (leafState l)
-
-  pub first-some : 0 < l → freed relinked free ≡ setFirst N cap n s k l free
+module _ (N : List ℕ) (cap n s k l free : ℕ) (M : List ℕ) (w : M ≡ set N (stateAt cap n) (leafState l)) where
+  pub first-some : 0 < l → freed M free ≡ setFirst N cap n s k l free
   unfolding setFirst
-  first-some h = rw (lt-ltb _ _ h) refl
+  first-some h = rw (w, lt-ltb _ _ h) refl
 
   module _ (h : l ≤ 0) where
-    pub first-root : k ≡ 0 → freed relinked free ≡ setFirst N cap n s k l free
+    pub first-root : k ≡ 0 → freed M free ≡ setFirst N cap n s k l free
     unfolding setFirst
-    first-root e = rw (le-ltb _ _ h, eq-eqb _ _ e) refl
+    first-root e = rw (w, le-ltb _ _ h, eq-eqb _ _ e) refl
 
-    pub first-freed : (ns : List ℕ) (r : ℕ) → (k ≡ 0 → ⊥) → r ≡ n + 1 → ns ≡ freeChild relinked cap s n free → freed ns r ≡ setFirst N cap n s k l free
+    pub first-freed : (ns : List ℕ) (r : ℕ) → (k ≡ 0 → ⊥) → r ≡ n + 1 → ns ≡ freeChild M cap s n free → freed ns r ≡ setFirst N cap n s k l free
     unfolding setFirst
-    first-freed ns r e z q = rw (le-ltb _ _ h, ne-eqb _ _ e, z, q) refl
+    first-freed ns r e z q = rw (← w, le-ltb _ _ h, ne-eqb _ _ e, z, q) refl
 
 -- what a match tells
-module _ (N : List ℕ) (cap len : ℕ) (r : Reach) (n s k : ℕ) (e : r ≡ Leaf n s k) (h : ReachInside N cap len r) where
-  inside : ReachInside N cap len (Leaf n s k)
-  inside = rw e at h
-
-  pub leaf-node : n < cap
-  leaf-node = inside .0
-
-  pub leaf-slot : s < nodeWords cap
-  leaf-slot = inside .1
-
-  pub leaf-state : 2 ≤ getD N (stateAt cap n) 0
-  leaf-state = omega (arith, inside .3)
-
 pub first-link : (pcap : ℕ) (a : Taken) (l : ℕ) → a ≡ First l → linkIn a ≤ pcap → pcap ≤ mostPages → l ≤ mostPages
 first-link pcap a l e h m = let i : l ≤ pcap = rw e at h in omega arith
 
 -- `removeAt`, by each way
-module _ (N P : List ℕ) (cap pcap base n s k p free : ℕ) (ps : List ℕ) (a : Taken) (e : took ps a ≡ takePage P pcap base (getD N (stateAt cap n) 0 - 2) p) where
+module _ (N P : List ℕ) (cap pcap base n s k p free first : ℕ) (f : first ≡ firstOf (kindOf N cap n)) (ps : List ℕ) (a : Taken) (e : took ps a ≡ takePage P pcap base first p) where
   pub remove-first : (l : ℕ) (ns : List ℕ) (r : ℕ) → a ≡ First l → freed ns r ≡ setFirst N cap n s k l free → gone ns ps (Done r) ≡ removeAt N P cap pcap base n s k p free
   unfolding removeAt
-  remove-first l ns r q h = rw (← e, q, ← h) refl
+  remove-first l ns r q h = rw (← f, ← e, q, ← h) refl
 
   pub remove-inside : a ≡ Inside → gone N ps (Done free) ≡ removeAt N P cap pcap base n s k p free
   unfolding removeAt
-  remove-inside q = rw (← e, q) refl
+  remove-inside q = rw (← f, ← e, q) refl
 
   pub remove-missing : a ≡ Missing → gone N ps Undone ≡ removeAt N P cap pcap base n s k p free
   unfolding removeAt
-  remove-missing q = rw (← e, q) refl
+  remove-missing q = rw (← f, ← e, q) refl
 
   pub remove-unlinked : a ≡ Broken → gone N ps Undone ≡ removeAt N P cap pcap base n s k p free
   unfolding removeAt
-  remove-unlinked q = rw (← e, q) refl
+  remove-unlinked q = rw (← f, ← e, q) refl
 
 -- `removePage`, by each way
 module _ (N P : List ℕ) (cap pcap base root : ℕ) (Y : List ℕ) (p free : ℕ) (r : Reach) (e : r ≡ descendTo N cap root Y) where

@@ -1,11 +1,12 @@
--- What `free_child` and `remove_page` compute: N is the node table and P the page table.
-use Prim.Native.Nat.{ℕ, _+_, _-_}
+-- What `set_first` and `remove_page` compute: N is the node table and P the page table.
+use Prim.Native.Nat.{ℕ, _+_}
 use mathlib.Core.Bool.{cond}
 use mathlib.Core.List.{List}
 use lib.Dec.{ltb, eqb}
-use lib.ListN.{getD, set}
-use Rattle.layout.specs.Nodes.{withLink, stateAt, freeState, leafState}
-use Rattle.children.specs.Places.{linkAt}
+use lib.ListN.{set}
+use Rattle.layout.specs.Nodes.{stateAt, leafState}
+use Rattle.layout.specs.States.{kindOf, firstOf}
+use Rattle.trie.specs.Model.{freeChild}
 use Rattle.trie.specs.declared.path.Reach.{Reach}
 use Rattle.trie.specs.declared.path.Reach.the-variants.{Leaf, Gap}
 use Rattle.trie.specs.declared.path.Reach.the-variants as reach
@@ -15,10 +16,6 @@ use Rattle.trie_remove.specs.declared.Taken.the-variants as taken
 use Rattle.trie_remove.specs.declared.Removed.{Removed}
 use Rattle.trie_remove.specs.declared.Removed.the-variants.{Done, Broken}
 use Rattle.trie_remove.specs.Take.{Took, took, takePage}
-
--- child c out of the chain at slot s, and first among the free nodes
-unfoldable pub freeChild : List ℕ → ℕ → ℕ → ℕ → ℕ → List ℕ
-freeChild N cap s c free = set (set (set N s (withLink (getD N s 0) (linkAt N c))) (stateAt cap c) freeState) c free
 
 -- the node table and the free link
 pub data Freed : Type 0 where
@@ -45,7 +42,7 @@ removeTaken N cap n s k free (took P taken.Broken) = gone N P Broken
 
 -- page p out of leaf n
 unfoldable pub removeAt : List ℕ → List ℕ → ℕ → ℕ → ℕ → ℕ → ℕ → ℕ → ℕ → ℕ → Gone
-removeAt N P cap pcap base n s k p free = removeTaken N cap n s k free (takePage P pcap base (getD N (stateAt cap n) 0 - 2) p)
+removeAt N P cap pcap base n s k p free = removeTaken N cap n s k free (takePage P pcap base (firstOf (kindOf N cap n)) p)
 
 abbrev pub removeReached : List ℕ → List ℕ → ℕ → ℕ → ℕ → ℕ → ℕ → Reach → Gone
 removeReached N P cap pcap base p free (Leaf n s k) = removeAt N P cap pcap base n s k p free

@@ -1,13 +1,17 @@
 // A page taken out of one block's trie.
 ghost use mathlib.Core.Path.{_≡_};
-ghost use Prim.Native.Nat.{_+_, _*_, _≤_, _<_};
-ghost use lib.ListN.{getD};
+ghost use Prim.Native.Nat.{_≤_, _<_};
 ghost use Rattle.layout.specs.Pages.{mostPages};
-ghost use Rattle.layout.specs.Nodes.{stateAt, nodeWords};
+ghost use Rattle.layout.specs.Nodes.{nodeWords};
 ghost use Rattle.layout.specs.Tables.{NodeTable, PageTable};
 ghost use Rattle.trie_remove.specs.Take.{takeFrom, takePage, took, linkIn};
-ghost use Rattle.trie_remove.specs.Remove.{freeChild, setFirst, freed, removeAt, removePage, gone};
+ghost use Rattle.trie_remove.specs.Remove.{setFirst, freed, removeAt, removePage, gone};
+use layout::Block;
+use layout::nodes::first_page;
+use layout::nodes::set_leaf;
+use trie::leaf::free_child;
 use trie::path::Reach;
+use trie::path::descend_to;
 
 // How a page left a chain: it was the first, before a link; or inside. Or why not.
 pub enum Taken {
@@ -63,21 +67,6 @@ pub fn take_page(pages: &mut [u32], pcap: usize, base: usize, first: u32, p: usi
     Taken::First(after)
 }
 
-// A child leaf without pages, out of the chain at a slot and first among the free nodes; the new free link.
-pub fn free_child(nodes: &mut [u32], cap: usize, slot: usize, child: usize, free: u32) -> u32
-    requires { ⌜ NodeTable cap (now nodes) ⌝ }
-    requires { ⌜ slot < nodeWords cap ⌝ }
-    requires { ⌜ child < cap ⌝ }
-    ensures { λ r. ⌜ r ≡ child + 1 ⌝ }
-    ensures { λ r. ⌜ now (nodes .exit) ≡ freeChild (now (nodes .entry)) cap slot child free ⌝ }
-{
-    let next = layout::nodes::link_of(nodes[child]);
-    nodes[slot] = layout::nodes::with_link(nodes[slot], next);
-    nodes[cap + child] = 0;
-    nodes[child] = free;
-    (child + 1) as u32
-}
-
 // Leaf n with another first page; the free link then. Where it has none and is not the root, it is freed.
 pub fn set_first(
     nodes: &mut [u32],
@@ -94,7 +83,7 @@ pub fn set_first(
     requires { ⌜ link ≤ mostPages ⌝ }
     ensures { λ r. ⌜ freed (now (nodes .exit)) r ≡ setFirst (now (nodes .entry)) cap n slot level link free ⌝ }
 {
-    nodes[cap + n] = 2 + link;
+    set_leaf(nodes, cap, n, link);
     if link > 0 {
         return free;
     }
@@ -114,25 +103,24 @@ pub enum Removed {
 pub fn remove_at(
     nodes: &mut [u32],
     pages: &mut [u32],
-    cap: usize,
-    pcap: usize,
-    base: usize,
+    block: Block,
     n: usize,
     slot: usize,
     level: usize,
     p: usize,
     free: u32,
 ) -> Removed
-    requires { ⌜ NodeTable cap (now nodes) ⌝ }
-    requires { ⌜ PageTable pcap base (now pages) ⌝ }
-    requires { ⌜ (n < cap) × (slot < nodeWords cap) × (p < pcap) ⌝ }
-    requires { ⌜ 2 ≤ getD (now nodes) (stateAt cap n) 0 ⌝ }
-    ensures { λ r. ⌜ gone (now (nodes .exit)) (now (pages .exit)) r ≡ removeAt (now (nodes .entry)) (now (pages .entry)) cap pcap base n slot level p free ⌝ }
+    requires { ⌜ NodeTable (block .nodes) (now nodes) ⌝ }
+    requires { ⌜ PageTable (block .pages) (block .base) (now pages) ⌝ }
+    requires { ⌜ (n < block .nodes) × (slot < nodeWords (block .nodes)) × (p < block .pages) ⌝ }
+    ensures { λ r. ⌜ gone (now (nodes .exit)) (now (pages .exit)) r ≡ removeAt (now (nodes .entry)) (now (pages .entry)) (block .nodes) (block .pages) (block .base) n slot level p free ⌝ }
 {
-    let first = nodes[cap + n] - 2;
-    let taken = take_page(pages, pcap, base, first, p);
+    let first = first_page(nodes, block.nodes, n);
+    let taken = take_page(pages, block.pages, block.base, first, p);
     match taken {
-        Taken::First(link) => Removed::Done(set_first(nodes, cap, n, slot, level, link, free)),
+        Taken::First(link) => {
+            Removed::Done(set_first(nodes, block.nodes, n, slot, level, link, free))
+        },
         Taken::Inside => Removed::Done(free),
         Taken::Missing => Removed::Broken,
         Taken::Broken => Removed::Broken,
@@ -143,25 +131,21 @@ pub fn remove_at(
 pub fn remove_page(
     nodes: &mut [u32],
     pages: &mut [u32],
-    cap: usize,
-    pcap: usize,
-    base: usize,
+    block: Block,
     root: usize,
     bytes: &[u8],
     p: usize,
     free: u32,
 ) -> Removed
-    requires { ⌜ NodeTable cap (now nodes) ⌝ }
-    requires { ⌜ PageTable pcap base (now pages) ⌝ }
-    requires { ⌜ root < cap ⌝ }
-    requires { ⌜ p < pcap ⌝ }
-    ensures { λ r. ⌜ gone (now (nodes .exit)) (now (pages .exit)) r ≡ removePage (now (nodes .entry)) (now (pages .entry)) cap pcap base root (now (bytes .entry)) p free ⌝ }
+    requires { ⌜ NodeTable (block .nodes) (now nodes) ⌝ }
+    requires { ⌜ PageTable (block .pages) (block .base) (now pages) ⌝ }
+    requires { ⌜ root < block .nodes ⌝ }
+    requires { ⌜ p < block .pages ⌝ }
+    ensures { λ r. ⌜ gone (now (nodes .exit)) (now (pages .exit)) r ≡ removePage (now (nodes .entry)) (now (pages .entry)) (block .nodes) (block .pages) (block .base) root (now (bytes .entry)) p free ⌝ }
 {
-    let reach = trie::path::descend_to(nodes, cap, root, bytes);
+    let reach = descend_to(nodes, block.nodes, root, bytes);
     match reach {
-        Reach::Leaf(n, slot, level) => {
-            remove_at(nodes, pages, cap, pcap, base, n, slot, level, p, free)
-        }
+        Reach::Leaf(n, slot, level) => { remove_at(nodes, pages, block, n, slot, level, p, free) }
         Reach::Gap(_, _, _) => Removed::Broken,
         Reach::Broken => Removed::Broken,
     }

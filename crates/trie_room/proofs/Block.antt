@@ -11,7 +11,10 @@ use borrow.Author.Tests.{ltb-true, lt-ltb, le-ltb, leb-true, leb-false}
 use Rattle.meaning.specs.Lists.{any, count}
 use Rattle.meaning.specs.Trie.{byteAt, pagesIn}
 use Rattle.meaning.specs.Ledger.{Settings}
-use Rattle.layout.specs.Nodes.{stateAt, mostNodes}
+use Rattle.layout.specs.Nodes.{mostNodes}
+use Rattle.layout.specs.States.{kindOf, firstOf}
+use Rattle.layout.specs.declared.nodes.Kind.the-variants as kind
+use Rattle.layout.proofs.States.{kind-state}
 use Rattle.blocks.specs.declared.Rows.{Rows}
 use Rattle.children.specs.Heap.{Cells, _⊕_}
 use Rattle.blocks.specs.Packed.{pageByte, levelAt}
@@ -87,7 +90,7 @@ module _ {cap pcap base : ℕ} (small : cap ≤ mostNodes) (bytesOf : ℕ → Li
     at-right (Leaf n s k) a =
         let ps : List ℕ = a .pages in
         let u = part (a .way) in
-        let link : getD N (stateAt cap n) 0 - 2 ≡ first ps = omega (arith, u .heap .holds .0 .0) in
+        let link : firstOf (kindOf N cap n) ≡ first ps = ap firstOf (kind-state N cap n (kind.Leaf (first ps)) (u .heap .holds .0 .0)) in
         rw (link, needed-at-leaf bytesOf (length Y) τ p k 0 (tree t) (a .way .path) ps (a .way .sub), zero-add k)
         (leaf-right bytesOf P S τ pcap base r Y p (y .bytes) k ps (pages-linked N P base ps (u .heap .holds .0 .1 .1)) (u .sound .1) (leaf-most u)
         (λ x m. reads k x (inside (a .way) x m)))

@@ -6,6 +6,7 @@ use lib.ListN.{replicate}
 use Rattle.meaning.specs.Sketch.{perByte, packedLength, blockStart, blockLength}
 use Rattle.meaning.specs.Ledger.{settingsGiven, Settings}
 use Rattle.meaning.specs.Forest.{blockBytes}
+use Rattle.layout.specs.States.{kindOf}
 use Rattle.blocks.specs.Packed.{rowByte, pageByte, levelAt}
 use Rattle.trie.specs.Model.{spanFrom}
 use Rattle.trie.specs.declared.span.Span.the-variants.{Enough, Short}
@@ -36,7 +37,7 @@ answer link threshold byte = nodesNeeded (pages link) sketches (threshold ∷ []
 
 -- another byte: two children; the same byte: one; below the threshold: none; a chain that leaves the table, or does not end
 sums : (answer 0 1 180 ≡ Nodes 2) × (answer 0 1 228 ≡ Nodes 1) × (answer 0 2 180 ≡ Nodes 0) × (answer 3 1 180 ≡ Broken) × (answer 1 1 180 ≡ Broken)
-unfolding answer nodes pages sketches settings nodesNeeded descendTo descend leafNeeds distinctBytes chainFrom spanFrom levelAt rowsOf blockBytes packedLength perByte blockStart blockLength pageByte rowByte distinctFrom
+unfolding answer nodes pages sketches settings nodesNeeded kindOf descendTo descend leafNeeds distinctBytes chainFrom spanFrom levelAt rowsOf blockBytes packedLength perByte blockStart blockLength pageByte rowByte distinctFrom
 sums = (refl, refl, refl, refl, refl)
 
 -- a new leaf at level 1 splits at once where the threshold there is 0 and there is a byte

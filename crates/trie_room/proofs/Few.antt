@@ -5,7 +5,7 @@ use mathlib.Core.List.{List, [], _∷_, map}
 use native.Mathlib.Omega.{arith}
 use lib.Dec.{ltb, eqb}
 use lib.ListN.{length, getD, length-map}
-use Rattle.layout.specs.Nodes.{stateAt}
+use Rattle.layout.specs.States.{kindOf, firstOf}
 use Rattle.blocks.specs.declared.Rows.{Rows}
 use Rattle.blocks.specs.declared.Level.{Level}
 use Rattle.trie.specs.declared.span.Span.{Span}
@@ -74,8 +74,8 @@ module _ (P S τ : List ℕ) (pcap base : ℕ) (r : Rows) where
   pub at-few : (Y N : List ℕ) (cap : ℕ) (g : Reach) → countIn (neededAt P S τ pcap base r Y N cap g) ≤ pcap + 2
   at-few Y N cap (Leaf n s k) = go (ltb k (length Y))
     where
-      go : (q : Bool) → countIn (cond q (leafNeeds P S τ pcap base r k (getD N (stateAt cap n) 0 - 2) (getD Y k 0)) (Nodes 0)) ≤ pcap + 2
-      go true = omega (arith, leaf-few k (getD N (stateAt cap n) 0 - 2) (getD Y k 0))
+      go : (q : Bool) → countIn (cond q (leafNeeds P S τ pcap base r k (firstOf (kindOf N cap n)) (getD Y k 0)) (Nodes 0)) ≤ pcap + 2
+      go true = omega (arith, leaf-few k (firstOf (kindOf N cap n)) (getD Y k 0))
       go false = omega arith
   at-few Y N cap (Gap n s k) = omega (arith, gap-few (length Y) (suc k))
   at-few Y N cap reach.Broken = omega arith

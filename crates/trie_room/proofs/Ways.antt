@@ -1,11 +1,11 @@
 -- The models without a loop, by each way through the code.
-use Prim.Native.Nat.{ℕ, _+_, _-_, _<_, _≤_}
+use Prim.Native.Nat.{ℕ, _+_, _<_, _≤_}
 use mathlib.Core.Path.{_≡_, refl, ap, _∙_, sym}
 use mathlib.Core.List.{List}
 use native.Mathlib.Numerals.{add-one}
 use borrow.Author.Tests.{le-ltb, lt-ltb, eq-eqb, ne-eqb}
 use lib.ListN.{length, getD}
-use Rattle.layout.specs.Nodes.{stateAt}
+use Rattle.layout.specs.States.{kindOf, firstOf}
 use Rattle.blocks.specs.declared.Level.{Level}
 use Rattle.blocks.specs.declared.Rows.{Rows}
 use Rattle.trie.specs.declared.span.Span.{Span}
@@ -16,7 +16,6 @@ use Rattle.trie.specs.Model.{spanFrom}
 use Rattle.trie.specs.declared.path.Reach.{Reach}
 use Rattle.trie.specs.declared.path.Reach.the-variants.{Leaf, Gap}
 use Rattle.trie.specs.declared.path.Reach.the-variants as reach
-use Rattle.trie.specs.Descend.{Inside}
 use Rattle.trie_room.specs.declared.needed.Needed.{Needed}
 use Rattle.trie_room.specs.declared.needed.Needed.the-variants.{Nodes, Broken}
 use Rattle.trie_room.specs.Needs.{distinctBytes, gapNeeds, leafNeeds, neededAt}
@@ -50,18 +49,14 @@ module _ (P S τ : List ℕ) (pcap base : ℕ) (r : Rows) (k link byte : ℕ) (q
   unfolding leafNeeds
   leaf-broken z = rw (sym e ∙ z) refl
 
--- what a match tells
-pub leaf-in : (N : List ℕ) (cap len : ℕ) (g : Reach) (n s k : ℕ) → g ≡ Leaf n s k → Inside N cap len g → (n < cap) × (1 < getD N (stateAt cap n) 0)
-leaf-in N cap len g n s k q h = let i : Inside N cap len (Leaf n s k) = rw q at h in (i .0, i .3)
-
 -- `neededAt`
 module _ (P S τ : List ℕ) (pcap base : ℕ) (r : Rows) (Y N : List ℕ) (cap : ℕ) (g : Reach) where
   module _ (n s k : ℕ) (q : g ≡ Leaf n s k) where
     pub at-end : length Y ≤ k → Nodes 0 ≡ neededAt P S τ pcap base r Y N cap g
     at-end l = rw (q, le-ltb k (length Y) l) refl
 
-    pub at-leaf : k < length Y → (x : Needed) → x ≡ leafNeeds P S τ pcap base r k (getD N (stateAt cap n) 0 - 2) (getD Y k 0) → x ≡ neededAt P S τ pcap base r Y N cap g
-    at-leaf l x e = rw (q, lt-ltb k (length Y) l) e
+    pub at-leaf : k < length Y → (first : ℕ) → first ≡ firstOf (kindOf N cap n) → (x : Needed) → x ≡ leafNeeds P S τ pcap base r k first (getD Y k 0) → x ≡ neededAt P S τ pcap base r Y N cap g
+    at-leaf l first f x e = rw (q, lt-ltb k (length Y) l, ← f) e
 
   pub at-gap : (n s k : ℕ) → g ≡ Gap n s k → (x : ℕ) → x ≡ gapNeeds τ (length Y) (k + 1) → Nodes x ≡ neededAt P S τ pcap base r Y N cap g
   at-gap n s k q x e = rw q (ap Nodes (e ∙ ap (gapNeeds τ (length Y)) (add-one k)))

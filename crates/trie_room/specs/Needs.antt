@@ -1,10 +1,10 @@
 -- How many nodes an add needs in one block. N is the node table, P the page table, S the sketch table.
-use Prim.Native.Nat.{ℕ, suc, _-_}
+use Prim.Native.Nat.{ℕ, suc}
 use mathlib.Core.Bool.{false, cond, _&&_}
 use mathlib.Core.List.{List, _∷_, map}
 use lib.Dec.{ltb, eqb}
 use lib.ListN.{length, getD}
-use Rattle.layout.specs.Nodes.{stateAt}
+use Rattle.layout.specs.States.{kindOf, firstOf}
 use Rattle.blocks.specs.declared.Level.{Level}
 use Rattle.blocks.specs.declared.Rows.{Rows}
 use Rattle.trie.specs.declared.span.Span.{Span}
@@ -52,7 +52,7 @@ module _ (P S τ : List ℕ) (pcap base : ℕ) (r : Rows) where
 
   -- where the bytes Y of the page lead
   abbrev pub neededAt : List ℕ → List ℕ → ℕ → Reach → Needed
-  neededAt Y N cap (Leaf n s k) = cond (ltb k (length Y)) (leafNeeds k (getD N (stateAt cap n) 0 - 2) (getD Y k 0)) (Nodes 0)
+  neededAt Y N cap (Leaf n s k) = cond (ltb k (length Y)) (leafNeeds k (firstOf (kindOf N cap n)) (getD Y k 0)) (Nodes 0)
   neededAt Y N cap (Gap n s k) = Nodes (gapNeeds τ (length Y) (suc k))
   neededAt Y N cap reach.Broken = Broken
 

@@ -12,6 +12,7 @@ use blocks::Rows;
 use blocks::packed::level_at;
 use blocks::packed::page_byte;
 use layout::Block;
+use layout::nodes::first_page;
 use trie::path::Reach;
 use trie::path::descend_to;
 use trie::span::Span;
@@ -120,7 +121,7 @@ pub fn needed_at(
     requires { ⌜ RowTable (block .pages) rows (now sketches) ⌝ }
     requires { ⌜ rows .bytes ≤ length (now thresholds) ⌝ }
     requires { ⌜ length (now bytes) ≡ rows .bytes ⌝ }
-    requires { ⌜ Inside (now nodes) (block .nodes) (rows .bytes) reach ⌝ }
+    requires { ⌜ Inside (block .nodes) (rows .bytes) reach ⌝ }
     ensures { λ r. ⌜ r ≡ neededAt (now (pages .entry)) (now (sketches .entry)) (now (thresholds .entry)) (block .pages) (block .base) rows (now (bytes .entry)) (now (nodes .entry)) (block .nodes) reach ⌝ }
 {
     match reach {
@@ -128,7 +129,7 @@ pub fn needed_at(
             if k >= bytes.len() {
                 return Needed::Nodes(0);
             }
-            let first = nodes[block.nodes + n] - 2;
+            let first = first_page(nodes, block.nodes, n);
             leaf_needs(
                 pages,
                 sketches,

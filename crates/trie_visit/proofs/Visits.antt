@@ -5,9 +5,9 @@ use mathlib.Core.Bool.{Bool, true, false}
 use mathlib.Core.List.{List}
 use lib.ListN.{set}
 use borrow.Author.Tests.{lt-ltb, le-ltb, eq-eqb, ne-eqb}
-use Rattle.node_check.specs.declared.frame.Frame.{Frame}
-use Rattle.node_check.specs.declared.frame.Step.{Step}
-use Rattle.node_check.specs.declared.frame.Step.the-variants as step
+use Rattle.children.specs.declared.order.Frame.{Frame}
+use Rattle.children.specs.declared.order.Step.{Step}
+use Rattle.children.specs.declared.order.Step.the-variants as step
 use Rattle.node_check.specs.declared.leaf.Kind.{Kind}
 use Rattle.node_check.specs.declared.leaf.Kind.the-variants as kind
 use Rattle.node_check.specs.declared.leaf.Left.{Left}

@@ -11,9 +11,9 @@ use Rattle.layout.specs.declared.Block.{Block}
 use Rattle.blocks.specs.declared.Rows.{Rows}
 use Rattle.layout.specs.Tables.{NodeTable, PageTable}
 use Rattle.blocks.specs.Tables.{RowTable}
-use Rattle.node_check.specs.declared.frame.Frame.{Frame}
-use Rattle.node_check.specs.declared.frame.Step.{Step}
-use Rattle.node_check.specs.declared.frame.Step.the-variants as step
+use Rattle.children.specs.declared.order.Frame.{Frame}
+use Rattle.children.specs.declared.order.Step.{Step}
+use Rattle.children.specs.declared.order.Step.the-variants as step
 use Rattle.node_check.specs.declared.leaf.Kind.{Kind}
 use Rattle.node_check.specs.declared.leaf.Kind.the-variants as kind
 use Rattle.node_check.specs.declared.leaf.Left.{Left}

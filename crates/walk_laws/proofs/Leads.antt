@@ -15,7 +15,7 @@ use Rattle.layout.specs.Nodes.{linkOf, chainWord, headAt, linkBase, mostNodes}
 use Rattle.children.specs.Heap.{Holds}
 use Rattle.children.specs.Phys.{Phys, leafP, innerP, Buckets, end, bucket, Chain, stop, link, root, first, tree, childrenB, childrenC, pageCells, cells, cellsB, cellsC, Below, Sound, SoundB, SoundC}
 use Rattle.trie_laws.proofs.Lists.{less, same, more, compared}
-use Rattle.children.proofs.Claims.{root-below}
+use Rattle.children.proofs.Chains.{root-below}
 use Rattle.descent.specs.declared.Cursor.{Cursor}
 use Rattle.descent.specs.Cursor.{ended, ahead, arrive}
 use Rattle.walk_laws.specs.Near.{near, nearB, nearC}

@@ -17,7 +17,7 @@ use Rattle.meaning.specs.Trie.{Children, none, met, metIn, nodes, nodesIn}
 use Rattle.layout.specs.Nodes.{linkOf, chainWord, headAt, stateAt, stepsFor, mostNodes, nodeSteps}
 use Rattle.children.specs.Heap.{Holds}
 use Rattle.children.specs.Phys.{Phys, leafP, innerP, Buckets, end, bucket, Chain, stop, link, root, first, tree, childrenB, childrenC, cells, cellsB, cellsC, Sound, SoundB, SoundC}
-use Rattle.children.proofs.Claims.{root-below}
+use Rattle.children.proofs.Chains.{root-below}
 use Rattle.walk.specs.declared.frame.Frame.{Frame}
 use Rattle.walk.specs.Mark.{marks, markAll, onMarks}
 use Rattle.walk.specs.Frame.{entered, stepTo, stepIn}

@@ -5,17 +5,8 @@ use borrow.Author.Needs.{needs}
 use Rattle.trie_remove.proofs.remove_at.Statement.{statement}
 use Rattle.trie_remove.proofs.remove_at.Tie as tie
 
-add-first : tie.Need-add-first
-add-first c = search needs
-
-mul-first : tie.Need-mul-first
-mul-first c = search needs
-
-slice-read-first : tie.Need-slice-read-first
-slice-read-first c = search needs
-
-sub-first : tie.Need-sub-first
-sub-first c = search needs
+first-page-requires : tie.Need-first-page-requires
+first-page-requires c κs = search needs
 
 take-page-requires : tie.Need-take-page-requires
 take-page-requires c κs = search needs
@@ -47,17 +38,26 @@ returns c = search remove-first
 same-length-3 : tie.Need-same-length-3
 same-length-3 c = search needs
 
+same-length-4 : tie.Need-same-length-4
+same-length-4 c = search needs
+
 returns-2 : tie.Need-returns-2
 returns-2 c = search remove-inside
 
-same-length-4 : tie.Need-same-length-4
-same-length-4 c = search needs
+same-length-5 : tie.Need-same-length-5
+same-length-5 c = search needs
+
+same-length-6 : tie.Need-same-length-6
+same-length-6 c = search needs
 
 returns-3 : tie.Need-returns-3
 returns-3 c = search remove-missing
 
-same-length-5 : tie.Need-same-length-5
-same-length-5 c = search needs
+same-length-7 : tie.Need-same-length-7
+same-length-7 c = search needs
+
+same-length-8 : tie.Need-same-length-8
+same-length-8 c = search needs
 
 returns-4 : tie.Need-returns-4
 returns-4 c = search remove-unlinked
@@ -66,10 +66,7 @@ pub remove-at-spec : {M : Type 1} → statement M
 remove-at-spec =
     tie.close
     (tie.spec
-    add-first
-    mul-first
-    slice-read-first
-    sub-first
+    first-page-requires
     take-page-requires
     enum-known-taken
     set-first-requires
@@ -80,8 +77,11 @@ remove-at-spec =
     same-length-2
     returns
     same-length-3
-    returns-2
     same-length-4
-    returns-3
+    returns-2
     same-length-5
+    same-length-6
+    returns-3
+    same-length-7
+    same-length-8
     returns-4)

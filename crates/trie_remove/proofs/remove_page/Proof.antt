@@ -1,6 +1,7 @@
 -- `remove_page` meets its contract.
 use native.Mathlib.Omega.{arith}
-use Rattle.trie_remove.proofs.Steps.{leaf-node, leaf-slot, leaf-state, remove-leaf, remove-gap, remove-nowhere}
+use Rattle.trie.proofs.Inside.{leaf-node, leaf-slot}
+use Rattle.trie_remove.proofs.Steps.{remove-leaf, remove-gap, remove-nowhere}
 use borrow.Author.Needs.{needs}
 use Rattle.trie_remove.proofs.remove_page.Statement.{statement}
 use Rattle.trie_remove.proofs.remove_page.Tie as tie
@@ -12,7 +13,7 @@ enum-known-reach : tie.Need-enum-known-reach
 enum-known-reach c = search needs
 
 remove-at-requires : tie.Need-remove-at-requires
-remove-at-requires c κs = (search needs, (search needs, ((search leaf-node, search leaf-slot, omega arith), search leaf-state)))
+remove-at-requires c κs = (search needs, (search needs, (search leaf-node, search leaf-slot, omega arith)))
 
 enum-told : tie.Need-enum-told
 enum-told c = search needs

@@ -1,22 +1,11 @@
 -- `set_first` meets its contract.
-use mathlib.Core.Path.{_∙_}
-use lib.ListN.{length-set}
 use Rattle.trie_remove.proofs.Steps.{first-some, first-root, first-freed}
 use borrow.Author.Needs.{needs}
 use Rattle.trie_remove.proofs.set_first.Statement.{statement}
 use Rattle.trie_remove.proofs.set_first.Tie as tie
 
-add-nodes : tie.Need-add-nodes
-add-nodes c = search needs
-
-add-nodes-2 : tie.Need-add-nodes-2
-add-nodes-2 c = search needs
-
-mul-nodes : tie.Need-mul-nodes
-mul-nodes c = search needs
-
-slice-write-nodes : tie.Need-slice-write-nodes
-slice-write-nodes c = search needs
+set-leaf-requires : tie.Need-set-leaf-requires
+set-leaf-requires c κs = search needs
 
 same-length : tie.Need-same-length
 same-length c = search needs
@@ -34,7 +23,7 @@ free-child-requires : tie.Need-free-child-requires
 free-child-requires c κs = search needs
 
 same-length-3 : tie.Need-same-length-3
-same-length-3 c = c .before .before .free-child .kept .0 ∙ simp length-set
+same-length-3 c = search needs
 
 returns-3 : tie.Need-returns-3
 returns-3 c = search first-freed
@@ -43,10 +32,7 @@ pub set-first-spec : {M : Type 1} → statement M
 set-first-spec =
     tie.close
     (tie.spec
-    add-nodes
-    add-nodes-2
-    mul-nodes
-    slice-write-nodes
+    set-leaf-requires
     same-length
     returns
     same-length-2

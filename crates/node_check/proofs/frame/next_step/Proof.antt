@@ -1,54 +1,65 @@
 -- `next_step` is `stepIn`, a test at a time.
-use borrow.Author.Tests.{lt-ltb, le-ltb, eq-eqb, ne-eqb}
-use Rattle.node_check.specs.Frame.{stepIn}
+use mathlib.Core.Path.{sym, _∙_}
+use native.Mathlib.Omega.{arith}
+use borrow.Author.Tests.{not-true, not-false}
+use Rattle.children.proofs.Ordered.{child-within}
+use Rattle.node_check.proofs.Steps.{step-child, step-odd, step-chain, step-up, step-broken}
 use borrow.Author.Needs.{needs}
 use Rattle.node_check.proofs.frame.next_step.Statement.{statement}
 use Rattle.node_check.proofs.frame.next_step.Tie as tie
 
-step-along-requires : tie.Need-step-along-requires
-step-along-requires c κs = search needs
+next-child-requires : tie.Need-next-child-requires
+next-child-requires c κs = search needs
+
+enum-known-step : tie.Need-enum-known-step
+enum-known-step c = search needs
+
+cast-packable : tie.Need-cast-packable
+cast-packable c =
+    let start = c .before .before .before .before .before in
+    let inside = child-within _ _ _ (start .pre .1 .1 .1 .1) _ _ _ (sym (c .before .before .before .next-child .ensures) ∙ c .before .step .given .1) in
+    record { fits = omega (arith, inside .1) }
+
+packable-requires : tie.Need-packable-requires
+packable-requires c κs = search needs
 
 returns : tie.Need-returns
-unfolding stepIn
-returns c = rw (ne-eqb _ _ (c .before .if1 .taken)) (c .step-along .ensures)
+returns c = step-odd _ _ _ _ _ _ _ (c .before .before .before .before .before .next-child .ensures) _ _ _ (c .before .before .before .step .given .1) (sym (c .before .packable .ensures) ∙ not-true _ (c .if1 .taken))
+
+enum-known-step-2 : tie.Need-enum-known-step-2
+enum-known-step-2 c = search needs
+
+enum-told : tie.Need-enum-told
+enum-told c = search needs
+
+enum-told-2 : tie.Need-enum-told-2
+enum-told-2 c = search needs
 
 returns-2 : tie.Need-returns-2
-unfolding stepIn
-returns-2 c = rw (eq-eqb _ _ (c .before .before .if1 .left), le-ltb _ _ (c .if2 .taken))
-
-cast-g : tie.Need-cast-g
-cast-g c = search needs
-
-add-g : tie.Need-add-g
-add-g c = search needs
-
-cast-head-at : tie.Need-cast-head-at
-cast-head-at c = search needs
-
-head-at-requires : tie.Need-head-at-requires
-head-at-requires c κs = search needs
-
-mul-t11 : tie.Need-mul-t11
-mul-t11 c = search needs
-
-shared-slice-read-t13 : tie.Need-shared-slice-read-t13
-shared-slice-read-t13 c = search needs
+returns-2 c = step-child _ _ _ _ _ _ _ (c .before .before .before .before .before .next-child .ensures) _ _ _ (c .before .before .before .step .given .1) (sym (c .before .packable .ensures) ∙ not-false _ (c .if1 .left))
 
 returns-3 : tie.Need-returns-3
-unfolding stepIn
-returns-3 c = rw (eq-eqb _ _ (c .before .before .before .before .before .before .if1 .left), lt-ltb _ _ (c .before .before .before .before .if2 .left), ← c .before .head-at .ensures)
+returns-3 c = search step-chain
+
+returns-4 : tie.Need-returns-4
+returns-4 c = search step-up
+
+returns-5 : tie.Need-returns-5
+returns-5 c = search step-broken
 
 pub next-step-spec : {M : Type 1} → statement M
 next-step-spec =
     tie.close
     (tie.spec
-    step-along-requires
+    next-child-requires
+    enum-known-step
+    cast-packable
+    packable-requires
     returns
+    enum-known-step-2
+    enum-told
+    enum-told-2
     returns-2
-    cast-g
-    add-g
-    cast-head-at
-    head-at-requires
-    mul-t11
-    shared-slice-read-t13
-    returns-3)
+    returns-3
+    returns-4
+    returns-5)

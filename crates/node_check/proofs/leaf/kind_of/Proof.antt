@@ -1,52 +1,48 @@
--- `kind_of` is `kindOf`, a test at a time.
-use borrow.Author.Needs.{needs}
+-- `kind_of` is `kindOf`, by each way.
 use mathlib.Core.Path.{sym, _∙_}
-use borrow.Author.Tests.{eq-eqb, ne-eqb, not-true, not-false}
-use Rattle.node_check.specs.Leaf.{kindOf}
+use borrow.Author.Tests.{not-true, not-false}
+use Rattle.node_check.proofs.LeafSteps.{kind-free, kind-inner, kind-damaged, kind-leaf}
+use borrow.Author.Needs.{needs}
 use Rattle.node_check.proofs.leaf.kind_of.Statement.{statement}
 use Rattle.node_check.proofs.leaf.kind_of.Tie as tie
 
-state-at-requires : tie.Need-state-at-requires
-state-at-requires c κs = search needs
+kind-of-requires : tie.Need-kind-of-requires
+kind-of-requires c κs = search needs
 
-mul-state : tie.Need-mul-state
-mul-state c = search needs
+enum-told : tie.Need-enum-told
+enum-told c = search needs
 
-shared-slice-read-state : tie.Need-shared-slice-read-state
-shared-slice-read-state c = search needs
+enum-told-2 : tie.Need-enum-told-2
+enum-told-2 c = search needs
 
-returns : tie.Need-returns
-unfolding kindOf
-returns c = rw (← c .before .before .state-at .ensures, eq-eqb _ _ (c .if1 .taken))
-
-returns-2 : tie.Need-returns-2
-unfolding kindOf
-returns-2 c = rw (← c .before .before .before .state-at .ensures, ne-eqb _ _ (c .before .if1 .left), eq-eqb _ _ (c .if2 .taken))
+enum-known-kind : tie.Need-enum-known-kind
+enum-known-kind c = search needs
 
 is-bare-requires : tie.Need-is-bare-requires
 is-bare-requires c κs = search needs
 
-returns-3 : tie.Need-returns-3
-unfolding kindOf
-returns-3 c = rw (← c .before .before .before .before .before .state-at .ensures, ne-eqb _ _ (c .before .before .before .if1 .left), ne-eqb _ _ (c .before .before .if2 .left), sym (c .before .is-bare .ensures) ∙ not-true _ (c .if3 .taken))
+returns : tie.Need-returns
+returns c = kind-damaged _ _ _ _ (c .before .before .before .before .before .kind-of .ensures) _ (c .before .before .before .kind .given .1) (sym (c .before .is-bare .ensures) ∙ not-true _ (c .if1 .taken))
 
-sub-t8 : tie.Need-sub-t8
-sub-t8 c = search needs
+returns-2 : tie.Need-returns-2
+returns-2 c = search kind-free
+
+returns-3 : tie.Need-returns-3
+returns-3 c = search kind-inner
 
 returns-4 : tie.Need-returns-4
-unfolding kindOf
-returns-4 c = rw (← c .before .before .before .before .before .state-at .ensures, ne-eqb _ _ (c .before .before .before .if1 .left), ne-eqb _ _ (c .before .before .if2 .left), sym (c .before .is-bare .ensures) ∙ not-false _ (c .if3 .left))
+returns-4 c = kind-leaf _ _ _ _ (c .before .before .before .before .before .kind-of .ensures) _ (c .before .before .before .kind .given .1) (sym (c .before .is-bare .ensures) ∙ not-false _ (c .if1 .left))
 
 pub kind-of-spec : {M : Type 1} → statement M
 kind-of-spec =
     tie.close
     (tie.spec
-    state-at-requires
-    mul-state
-    shared-slice-read-state
+    kind-of-requires
+    enum-told
+    enum-told-2
+    enum-known-kind
+    is-bare-requires
     returns
     returns-2
-    is-bare-requires
     returns-3
-    sub-t8
     returns-4)

@@ -24,20 +24,23 @@ loop-holds c =
     let e : length (c .before .before .args .bytes .now) - 0 ≡ length (c .before .before .args .bytes .now) = omega arith in
     (rw e refl, omega arith, omega arith, omega arith)
 
-add-state : tie.Need-add-state Inv-loop μ-loop
-add-state c = search needs
+kind-of-requires : tie.Need-kind-of-requires Inv-loop μ-loop
+kind-of-requires c κs = search needs
 
-mul-state : tie.Need-mul-state Inv-loop μ-loop
-mul-state c = search needs
-
-shared-slice-read-state : tie.Need-shared-slice-read-state Inv-loop μ-loop
-shared-slice-read-state c = search needs
+enum-told : tie.Need-enum-told Inv-loop μ-loop
+enum-told c = search needs
 
 returns : tie.Need-returns Inv-loop μ-loop
 returns c = search (desc-leaf, arith)
 
+enum-told-2 : tie.Need-enum-told-2 Inv-loop μ-loop
+enum-told-2 c = search needs
+
 returns-2 : tie.Need-returns-2 Inv-loop μ-loop
 returns-2 c = search (desc-free, arith)
+
+enum-told-3 : tie.Need-enum-told-3 Inv-loop μ-loop
+enum-told-3 c = search needs
 
 returns-3 : tie.Need-returns-3 Inv-loop μ-loop
 returns-3 c = search (desc-out, arith)
@@ -46,10 +49,10 @@ shared-slice-read-find-place : tie.Need-shared-slice-read-find-place Inv-loop μ
 shared-slice-read-find-place c = search needs
 
 cast-find-place : tie.Need-cast-find-place Inv-loop μ-loop
-cast-find-place c = omega (arith, c .shared-slice-known4 .given (c .before .before .before .before .before .loop .level))
+cast-find-place c = omega (arith, c .shared-slice-known3 .given (c .before .before .before .before .before .loop .level))
 
 find-place-requires : tie.Need-find-place-requires Inv-loop μ-loop
-find-place-requires c κs = omega (arith, c .shared-slice-known4 .given (c .before .before .before .before .before .loop .level))
+find-place-requires c κs = omega (arith, c .shared-slice-known3 .given (c .before .before .before .before .before .loop .level))
 
 enum-known-place : tie.Need-enum-known-place Inv-loop μ-loop
 enum-known-place c = search needs
@@ -69,8 +72,8 @@ enum-known-place-2 c = search needs
 returns-4 : tie.Need-returns-4 Inv-loop μ-loop
 returns-4 c = (search desc-gap, (omega arith, search missing-in, omega arith))
 
-enum-told : tie.Need-enum-told Inv-loop μ-loop
-enum-told c = search needs
+enum-told-4 : tie.Need-enum-told-4 Inv-loop μ-loop
+enum-told-4 c = search needs
 
 returns-5 : tie.Need-returns-5 Inv-loop μ-loop
 returns-5 c = search (desc-nowhere, arith)
@@ -82,11 +85,12 @@ descend-to-spec =
     Inv-loop
     μ-loop
     loop-holds
-    add-state
-    mul-state
-    shared-slice-read-state
+    kind-of-requires
+    enum-told
     returns
+    enum-told-2
     returns-2
+    enum-told-3
     returns-3
     shared-slice-read-find-place
     cast-find-place
@@ -97,5 +101,5 @@ descend-to-spec =
     loop-again
     enum-known-place-2
     returns-4
-    enum-told
+    enum-told-4
     returns-5)

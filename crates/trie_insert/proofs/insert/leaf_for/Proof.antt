@@ -3,10 +3,10 @@ use native.Mathlib.Omega.{arith}
 use mir.Syntax.{w8}
 use mir.Facts.{fits-widen}
 use Rattle.trie.proofs.Steps.{got-in}
-use Rattle.trie_insert.proofs.Steps.{leaf-node, gap-slot, aim-leaf, aim-made, aim-full, aim-failed, aim-nowhere}
+use Rattle.trie.proofs.Inside.{leaf-node, gap-slot, gap-level}
+use Rattle.trie_insert.proofs.Steps.{aim-leaf, aim-made, aim-full, aim-failed, aim-nowhere}
 use Rattle.trie_insert.proofs.insert.leaf_for.Statement.{statement}
 use Rattle.trie_insert.proofs.insert.leaf_for.Tie as tie
-use Rattle.trie.proofs.Inside.{gap-level}
 use borrow.Author.Needs.{needs}
 
 descend-to-requires : tie.Need-descend-to-requires
@@ -19,7 +19,7 @@ enum-known-reach-2 : tie.Need-enum-known-reach-2
 enum-known-reach-2 c = search needs
 
 add-level : tie.Need-add-level
-add-level c = omega (arith, gap-level _ _ _ _ _ _ _ (c .before .reach2 .given .1) (c .before .before .before .descend-to .ensures .1))
+add-level c = omega (arith, gap-level _ _ _ _ _ _ (c .before .reach2 .given .1) (c .before .before .before .descend-to .ensures .1))
 
 shared-slice-read-fresh-leaf : tie.Need-shared-slice-read-fresh-leaf
 shared-slice-read-fresh-leaf c = search gap-level

@@ -1,20 +1,14 @@
 -- `push_page` meets its contract.
-use Rattle.trie_insert.proofs.Steps.{push-none, push-done}
+use Rattle.trie_insert.proofs.Steps.{push-inner, push-free, push-done}
+use borrow.Author.Needs.{needs}
 use Rattle.trie_insert.proofs.pages.push_page.Statement.{statement}
 use Rattle.trie_insert.proofs.pages.push_page.Tie as tie
-use borrow.Author.Needs.{needs}
 
-add-leaf : tie.Need-add-leaf
-add-leaf c = search needs
+kind-of-requires : tie.Need-kind-of-requires
+kind-of-requires c κs = search needs
 
-mul-state : tie.Need-mul-state
-mul-state c = search needs
-
-slice-read-state : tie.Need-slice-read-state
-slice-read-state c = search needs
-
-returns : tie.Need-returns
-returns c = search push-none
+enum-known-kind : tie.Need-enum-known-kind
+enum-known-kind c = search needs
 
 add-pages : tie.Need-add-pages
 add-pages c = search needs
@@ -25,20 +19,20 @@ mul-pages c = search needs
 slice-write-pages : tie.Need-slice-write-pages
 slice-write-pages c = search needs
 
-add-nodes : tie.Need-add-nodes
-add-nodes c = search needs
+add-set-leaf : tie.Need-add-set-leaf
+add-set-leaf c = search needs
 
-cast-nodes : tie.Need-cast-nodes
-cast-nodes c = search needs
+cast-set-leaf : tie.Need-cast-set-leaf
+cast-set-leaf c = search needs
 
-add-nodes-2 : tie.Need-add-nodes-2
-add-nodes-2 c = search needs
+set-leaf-requires : tie.Need-set-leaf-requires
+set-leaf-requires c κs = search needs
 
-mul-nodes : tie.Need-mul-nodes
-mul-nodes c = search needs
+enum-told : tie.Need-enum-told
+enum-told c = search needs
 
-slice-write-nodes : tie.Need-slice-write-nodes
-slice-write-nodes c = search needs
+enum-told-2 : tie.Need-enum-told-2
+enum-told-2 c = search needs
 
 same-length : tie.Need-same-length
 same-length c = search needs
@@ -46,25 +40,39 @@ same-length c = search needs
 same-length-2 : tie.Need-same-length-2
 same-length-2 c = search needs
 
+returns : tie.Need-returns
+returns c = search push-done
+
+same-length-3 : tie.Need-same-length-3
+same-length-3 c = search needs
+
 returns-2 : tie.Need-returns-2
-returns-2 c = search push-done
+returns-2 c = search push-inner
+
+same-length-4 : tie.Need-same-length-4
+same-length-4 c = search needs
+
+returns-3 : tie.Need-returns-3
+returns-3 c = search push-free
 
 pub push-page-spec : {M : Type 1} → statement M
 push-page-spec =
     tie.close
     (tie.spec
-    add-leaf
-    mul-state
-    slice-read-state
-    returns
+    kind-of-requires
+    enum-known-kind
     add-pages
     mul-pages
     slice-write-pages
-    add-nodes
-    cast-nodes
-    add-nodes-2
-    mul-nodes
-    slice-write-nodes
+    add-set-leaf
+    cast-set-leaf
+    set-leaf-requires
+    enum-told
+    enum-told-2
     same-length
     same-length-2
-    returns-2)
+    returns
+    same-length-3
+    returns-2
+    same-length-4
+    returns-3)

@@ -9,8 +9,8 @@ use borrow.Author.Needs.{needs}
 level-at-requires : tie.Need-level-at-requires
 level-at-requires c κs = search needs
 
-open-leaf-requires : tie.Need-open-leaf-requires
-open-leaf-requires c κs = search needs
+set-inner-requires : tie.Need-set-inner-requires
+set-inner-requires c κs = search needs
 
 split-pages-requires : tie.Need-split-pages-requires
 split-pages-requires c κs = (search (nodes-kept, needs), (search, (search level-path, search)))
@@ -29,7 +29,7 @@ split-leaf-spec =
     tie.close
     (tie.spec
     level-at-requires
-    open-leaf-requires
+    set-inner-requires
     split-pages-requires
     same-length
     same-length-2

@@ -1,9 +1,7 @@
 -- `needed_at` is `neededAt`.
 use native.Mathlib.Omega.{arith}
-use Prim.Native.Nat.{_+_, _<_}
-use lib.ListN.{getD}
-use Rattle.trie.proofs.Inside.{gap-level}
-use Rattle.trie_room.proofs.Ways.{leaf-in, at-end, at-leaf, at-gap, at-none}
+use Rattle.trie.proofs.Inside.{leaf-node, gap-level}
+use Rattle.trie_room.proofs.Ways.{at-end, at-leaf, at-gap, at-none}
 use borrow.Author.Needs.{needs}
 use Rattle.trie_room.proofs.needed.needed_at.Statement.{statement}
 use Rattle.trie_room.proofs.needed.needed_at.Tie as tie
@@ -14,34 +12,19 @@ enum-known-reach c = search needs
 returns : tie.Need-returns
 returns c = search at-end
 
--- the leaf that is reached
-there : (c : tie.After-struct-known) → let start = c .before .before .before .before .before .before .before .before .before .before in
-    (c .before .before .before .reach .given .0 .0 < start .args .block .nodes)
-    × (1 < getD (start .args .nodes .now) (start .args .block .nodes + c .before .before .before .reach .given .0 .0) 0)
-there c = leaf-in _ _ _ _ _ _ _ (c .before .before .before .reach .given .1) (c .before .before .before .before .before .before .before .before .before .before .pre .1 .1 .1 .1 .1)
-
-add-first : tie.Need-add-first
-add-first c = omega (arith, there c)
-
-mul-first : tie.Need-mul-first
-mul-first c = omega (arith, there c)
-
-shared-slice-read-first : tie.Need-shared-slice-read-first
-shared-slice-read-first c = omega (arith, there (c .before))
-
-sub-first : tie.Need-sub-first
-sub-first c = omega (arith, there (c .before))
+first-page-requires : tie.Need-first-page-requires
+first-page-requires c κs = (search needs, search leaf-node)
 
 shared-slice-read-leaf-needs : tie.Need-shared-slice-read-leaf-needs
 shared-slice-read-leaf-needs c = search needs
 
 cast-leaf-needs : tie.Need-cast-leaf-needs
-cast-leaf-needs c = omega (arith, c .shared-slice-known7 .given (c .before .before .before .before .before .reach .given .0 .1 .1 .0))
+cast-leaf-needs c = omega (arith, c .shared-slice-known6 .given (c .before .before .before .before .reach .given .0 .1 .1 .0))
 
 leaf-needs-requires : tie.Need-leaf-needs-requires
 leaf-needs-requires c κs =
-    let pre = c .before .before .before .before .before .before .before .before .before .before .before .before .pre in
-    (pre .1 .0, (pre .1 .1 .0, (pre .1 .1 .1 .0, (omega arith, omega (arith, c .shared-slice-known7 .given (c .before .before .before .before .before .reach .given .0 .1 .1 .0))))))
+    let pre = c .before .before .before .before .before .before .before .before .before .before .before .pre in
+    (pre .1 .0, (pre .1 .1 .0, (pre .1 .1 .1 .0, (omega arith, omega (arith, c .shared-slice-known6 .given (c .before .before .before .before .reach .given .0 .1 .1 .0))))))
 
 enum-known-reach-2 : tie.Need-enum-known-reach-2
 enum-known-reach-2 c = search needs
@@ -49,7 +32,7 @@ enum-known-reach-2 c = search needs
 add-gap-needs : tie.Need-add-gap-needs
 add-gap-needs c =
     let start = c .before .before .before .before .before .before .before .before in
-    omega (arith, gap-level _ _ _ _ _ _ _ (c .before .reach2 .given .1) (start .pre .1 .1 .1 .1 .1), start .pre .1 .1 .1 .1 .0, start .good)
+    omega (arith, gap-level _ _ _ _ _ _ (c .before .reach2 .given .1) (start .pre .1 .1 .1 .1 .1), start .pre .1 .1 .1 .1 .0, start .good)
 
 gap-needs-requires : tie.Need-gap-needs-requires
 gap-needs-requires c κs = search needs
@@ -72,10 +55,7 @@ needed-at-spec =
     (tie.spec
     enum-known-reach
     returns
-    add-first
-    mul-first
-    shared-slice-read-first
-    sub-first
+    first-page-requires
     shared-slice-read-leaf-needs
     cast-leaf-needs
     leaf-needs-requires

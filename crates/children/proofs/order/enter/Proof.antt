@@ -1,8 +1,8 @@
 -- `enter` reads the first head.
-use Rattle.node_check.specs.Frame.{entered}
+use Rattle.children.specs.Order.{entered}
 use borrow.Author.Needs.{needs}
-use Rattle.node_check.proofs.frame.enter.Statement.{statement}
-use Rattle.node_check.proofs.frame.enter.Tie as tie
+use Rattle.children.proofs.order.enter.Statement.{statement}
+use Rattle.children.proofs.order.enter.Tie as tie
 
 cast-t4 : tie.Need-cast-t4
 cast-t4 c = search needs

@@ -6,10 +6,10 @@ use borrow.Author.Needs.{needs}
 use borrow.Author.Tests.{eq-eqb, ne-eqb}
 use Rattle.meaning.specs.Lists.{all, from, upto}
 use Rattle.sketch.proofs.Runs.{all-fails, all-passes, all-done}
-use Rattle.node_check.specs.Leaf.{bare}
-use Rattle.node_check.proofs.LeafSteps.{bareAt}
-use Rattle.node_check.proofs.leaf.is_bare.Statement.{statement}
-use Rattle.node_check.proofs.leaf.is_bare.Tie as tie
+use Rattle.children.specs.Order.{bare}
+use Rattle.children.proofs.Ordered.{bareAt}
+use Rattle.children.proofs.order.is_bare.Statement.{statement}
+use Rattle.children.proofs.order.is_bare.Tie as tie
 
 abbrev Inv-loop : tie.InvT-loop
 Inv-loop nodes cap x g₀ g = (g ≤ 8) × (all (bareAt nodes cap x) (from g (8 - g)) ≡ bare nodes cap x)
