@@ -27,7 +27,7 @@ module _ (nodes : List ℕ) (cap b : ℕ) (frame : Frame) (y : ℕ) where
   along-inside w u k d i e f g h = rw (le-ltb cap (frame .link) i, h, g, f, e)
 
 -- a step leads to a node of the table
-abbrev Within : ℕ → Step → Type 0
+abbrev pub Within : ℕ → Step → Type 0
 Within cap (Stay at link) = Unit {0}
 Within cap (Leaf first link) = Unit {0}
 Within cap (Exact x link) = x < cap
@@ -64,7 +64,7 @@ module _ (nodes : List ℕ) (cap : ℕ) where
       go true e = tt
       go false e = within-to (frame .link - 1) _ _ _ _ (omega (arith, ltb-false cap (frame .link) e))
 
-  step-within : (b y : ℕ) (frame : Frame) → Within cap (stepIn nodes cap b frame y)
+  pub step-within : (b y : ℕ) (frame : Frame) → Within cap (stepIn nodes cap b frame y)
   unfolding stepIn
   step-within b y frame = go (eqb (frame .link) 0) (ltb (frame .at) (frame .last)) refl
     where
@@ -74,9 +74,6 @@ module _ (nodes : List ℕ) (cap : ℕ) where
       go true false e = tt
       go false r e = within-along b y frame (omega (arith, eqb-false (frame .link) 0 e))
 
-  module _ (b y : ℕ) (frame : Frame) (found : Step) (e : found ≡ stepIn nodes cap b frame y) where
-    pub exact-within : (x link : ℕ) → found ≡ Exact x link → x < cap
-    exact-within x link q = subst (Within cap) (sym e ∙ q) (step-within b y frame)
-
-    pub down-within : (x radius link : ℕ) → found ≡ Down x radius link → x < cap
-    down-within x radius link q = subst (Within cap) (sym e ∙ q) (step-within b y frame)
+  -- by the code's answer
+  pub within-by : (b y : ℕ) (frame : Frame) (found : Step) → found ≡ stepIn nodes cap b frame y → (s : Step) → found ≡ s → Within cap s
+  within-by b y frame found e s q = subst (Within cap) (sym e ∙ q) (step-within b y frame)

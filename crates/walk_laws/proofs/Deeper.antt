@@ -8,12 +8,14 @@ use lib.ListN.{getD}
 use Rattle.meaning.specs.Lists.{count, from, upto}
 use Rattle.meaning.specs.Sketch.{perByte, group, byteDistance}
 use Rattle.meaning.specs.Trie.{met, metIn}
+use Rattle.layout.specs.declared.Block.{Block}
 use Rattle.trie.specs.Heap.{Holds}
 use Rattle.trie.specs.Phys.{Phys, leafP, innerP, end, bucket, stop, link, tree, cells, noHeads, Sound}
 use Rattle.walk.specs.declared.frame.Step.the-variants.{Exact, Down}
-use Rattle.walk.specs.Mark.{marks, broken, markAll, markLeaf}
+use Rattle.marking.specs.Mark.{marks, broken, markAll, markLeaf}
 use Rattle.walk.specs.Frame.{entered, stepTo, stepAlong, stepIn, reads}
-use Rattle.walk.specs.Walk.{Given, given, run, walkBelow, walkFrom}
+use Rattle.marking.specs.Given.{Given, given}
+use Rattle.walk.specs.Walk.{run, walkBelow, walkFrom}
 use Rattle.descent.specs.Cursor.{arrive, pass, advance, descended, drawn, leafOf}
 use Rattle.walk_laws.specs.Near.{near, nearB, nearC}
 use Rattle.walk_laws.specs.Trail.{trailFrom}
@@ -32,9 +34,12 @@ nodeTable =
 abbrev pageTable : List ℕ
 pageTable = 0 ∷ 0 ∷ 0 ∷ 0 ∷ 0 ∷ 0 ∷ 0 ∷ 0 ∷ 0 ∷ 0 ∷ 0 ∷ 0 ∷ 0 ∷ 0 ∷ 0 ∷ 0 ∷ 0 ∷ 0 ∷ 0 ∷ 0 ∷ 0 ∷ 0 ∷ 0 ∷ 0 ∷ []
 
+abbrev block : Block
+block = record { nodes = 3; pages = 8; base = 16 }
+
 -- for a query of the bytes 181 and y
 abbrev w : ℕ → Given
-w y = given nodeTable pageTable 3 8 16 1 2 (181 ∷ y ∷ [])
+w y = given nodeTable pageTable block 1 2 (181 ∷ y ∷ [])
 
 abbrev t₁ : Phys
 t₁ =

@@ -12,11 +12,11 @@ use lib.Seq.{getD-set-same, getD-set-other, take-suc-set}
 use Rattle.descent.specs.declared.Cursor.{Cursor}
 use Rattle.descent.specs.Cursor.{Inside, AllInside, ended, arrive, drawnAll, leafOf}
 use Rattle.descent.proofs.Steps.{inside-arrive, descended-ended, drawn-ended, drawn-one-more}
-use Rattle.walk.specs.Mark.{Marks, marks, broken, onMarks, spend}
-use Rattle.walk.specs.Walk.{Given, mark, leafFrom, drawnFrom, markExact}
-use Rattle.walk.specs.Waiting.{markWaiting, drawnBy, stopped, onLeaves, flush}
-use Rattle.walk.proofs.Spend.{onMarks-same, onMarks-then, onMarks-broken, spend-none, spend-same, spend-marks, spend-both, spend-swap, spend-broken}
-use Rattle.walk.proofs.Flush.{onFlushed}
+use Rattle.marking.specs.Mark.{Marks, marks, broken, onMarks, spend}
+use Rattle.marking.specs.Given.{Given, mark, leafFrom, drawnFrom, markExact}
+use Rattle.marking.specs.Waiting.{markWaiting, drawnBy, stopped, onLeaves, flush}
+use Rattle.marking.proofs.Spend.{onMarks-same, onMarks-then, onMarks-broken, spend-none, spend-same, spend-marks, spend-both, spend-swap, spend-broken}
+use Rattle.marking.proofs.Flush.{onFlushed}
 
 -- ---- marked
 
@@ -39,9 +39,9 @@ exact-ended w go map left nodes first c e =
     sym
     (ap (markExact w go map left nodes) e
     ∙ ap (λ d. spend nodes d (λ k. onMarks (λ m l. go m l k) (mark w map left (leafFrom w (ended first)))))
-    (drawn-ended (w .nodes) (w .cap) (w .bytes) (w .cap) (ended first) refl)
+    (drawn-ended (w .nodes) (w .block .nodes) (w .bytes) (w .block .nodes) (ended first) refl)
     ∙ spend-none nodes (λ k. onMarks (λ m l. go m l k) (mark w map left (leafFrom w (ended first))))
-    ∙ ap (λ d. onMarks (λ m l. go m l nodes) (mark w map left (leafOf d))) (descended-ended (w .nodes) (w .cap) (w .bytes) (w .cap) (ended first) refl))
+    ∙ ap (λ d. onMarks (λ m l. go m l nodes) (mark w map left (leafOf d))) (descended-ended (w .nodes) (w .block .nodes) (w .bytes) (w .block .nodes) (ended first) refl))
 
 -- ---- on past them, when their descents have drawn on the nodes
 module _ (w : Given) where
@@ -86,7 +86,7 @@ module _ (w : Given) where
         (λ k. spend-marks k (drawnFrom w c) (λ m l i. onMarks (λ n j. go n j i) (mark w m l (leafFrom w c))) (markWaiting w map left cs))
         ∙ spend-both nodes (drawnBy w cs) (drawnFrom w c) both
         ∙ spend-same nodes (drawnBy w cs + drawnFrom w c) both more (λ k. sym (waiting-more (λ m l. go m l k) w cs c map left))
-        ∙ ap (λ d. spend nodes d more) (sym (drawn-one-more (w .nodes) (w .cap) (w .bytes) cs c))
+        ∙ ap (λ d. spend nodes d more) (sym (drawn-one-more (w .nodes) (w .block .nodes) (w .bytes) cs c))
 
     -- all are marked
     pub past-flush : (nodes : ℕ) (cs : List Cursor) → past go map left nodes cs ≡ onFlushed go (flush w map left nodes cs)
