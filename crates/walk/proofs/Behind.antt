@@ -69,77 +69,71 @@ module _ (w : Given) where
   popped map cs steps left [] = finished (flush w map (left .pages) (left .nodes) cs)
   popped map cs steps left (f ∷ fs) = behind map left cs (steps - 1) f fs
 
-  module _ (map : List ℕ) (cs : List Cursor) (steps : ℕ) (stack : List Frame) where
+  module _ (map : List ℕ) (cs : List Cursor) (steps : ℕ) (stack : List Frame) (p : Place) where
+    abbrev left : Budget
+    left = drawnOf (p .left) (reads (p .frame))
+
     -- what it leaves, by where it leads
     abbrev pub after : Move → Marks
-    after (move.Stay q) = behind map (q .left) cs (steps - 1) (q .frame) stack
-    after (move.Leaf c q) = behind map (q .left) (cs ++ (c ∷ [])) (steps - 1) (q .frame) stack
-    after (move.Down back q) = behind map (q .left) cs (steps - 1) (q .frame) (back ∷ stack)
-    after (move.Up left) = popped map cs steps left stack
+    after (move.Stay at link) = behind map left cs (steps - 1) (atLink (p .frame) at link) stack
+    after (move.Leaf c link) = behind map left (cs ++ (c ∷ [])) (steps - 1) (atLink (p .frame) (p .frame .at) link) stack
+    after (move.Down x radius link) =
+        behind map left cs (steps - 1) (entered (w .nodes) (w .block .nodes) x radius) (atLink (p .frame) (p .frame .at) link ∷ stack)
+    after move.Up = popped map cs steps left stack
     after move.Broken = broken
 
     -- the machine's step, and the move that it makes
-    module _ (frame : Frame) (left : Budget) where
-      abbrev stepped : Step → Marks
-      stepped s = past w (λ m l k. follow w (run w (steps - 1)) k m l frame stack s) map (left .pages) (left .nodes) cs
+    abbrev stepped : ℕ → Step → Marks
+    stepped nodes s = past w (λ m l k. follow w (run w (steps - 1)) k m l (p .frame) stack s) map (p .left .pages) nodes cs
 
-      ups : (fs : List Frame) → past w (λ m l k. above w (run w (steps - 1)) k m l frame stack fs) map (left .pages) (left .nodes) cs ≡ popped map cs steps left fs
-      ups [] =
-          past-flush w (λ m l k. marks m k) map (left .pages) (left .nodes) cs ∙ sym (finished-on (flush w map (left .pages) (left .nodes) cs))
-      ups (f ∷ fs) = refl
+    ups : (fs : List Frame)
+        → past w (λ m l k. above w (run w (steps - 1)) k m l (p .frame) stack fs) map (left .pages) (left .nodes) cs ≡ popped map cs steps left fs
+    ups [] =
+        past-flush w (λ m l k. marks m k) map (left .pages) (left .nodes) cs ∙ sym (finished-on (flush w map (left .pages) (left .nodes) cs))
+    ups (f ∷ fs) = refl
 
-      moves : (s : Step) → stepped s ≡ after (moved (w .nodes) (w .block .nodes) (w .b) (w .bytes) (length stack) frame left s)
-      moves (step.Stay at link) = refl
-      moves (step.Leaf first link) =
-          let go : List ℕ → ℕ → ℕ → Marks = rest (steps - 1) (atLink frame (frame .at) link) stack in
-          past-same w (λ m l k. onMarks (λ n i. go n i k) (mark w m l first)) map (left .pages) (λ m l k. markExact w go m l k (ended first)) (left .nodes) cs
-          (λ m l k. exact-ended w go m l k first (ended first) refl)
-          ∙ past-more w go map (left .pages) (left .nodes) cs (ended first)
-      moves (step.Exact x link) =
-          past-more w (rest (steps - 1) (atLink frame (frame .at) link) stack) map (left .pages) (left .nodes) cs (exactFrom w x (length stack + 1))
-      moves (step.Down x radius link) = deep (ltb (length stack + 1) (length (w .bytes)))
-        where
-          below : Frame
-          below = entered (w .nodes) (w .block .nodes) x radius
+    moves : (s : Step) → stepped (left .nodes) s ≡ after (moved (w .nodes) (w .block .nodes) (w .b) (w .bytes) (length stack) s)
+    moves (step.Stay at link) = refl
+    moves (step.Leaf first link) =
+        let go : List ℕ → ℕ → ℕ → Marks = rest (steps - 1) (atLink (p .frame) (p .frame .at) link) stack in
+        past-same w (λ m l k. onMarks (λ n i. go n i k) (mark w m l first)) map (left .pages) (λ m l k. markExact w go m l k (ended first)) (left .nodes) cs
+        (λ m l k. exact-ended w go m l k first)
+        ∙ past-more w go map (left .pages) (left .nodes) cs (ended first)
+    moves (step.Exact x link) =
+        past-more w (rest (steps - 1) (atLink (p .frame) (p .frame .at) link) stack) map (left .pages) (left .nodes) cs (exactFrom w x (length stack + 1))
+    moves (step.Down x radius link) = deep (ltb (length stack + 1) (length (w .bytes)))
+      where
+        deep : (q : Bool)
+            → past w
+            (λ m l k. cond q (rest (steps - 1) (entered (w .nodes) (w .block .nodes) x radius) (atLink (p .frame) (p .frame .at) link ∷ stack) m l k) broken) map
+            (left .pages) (left .nodes) cs
+            ≡ after (cond q (move.Down x radius link) move.Broken)
+        deep true = refl
+        deep false = past-broken w map (left .pages) (left .nodes) cs
+    moves step.Up = ups stack
+    moves step.Broken = past-broken w map (left .pages) (left .nodes) cs
 
-          back : Frame
-          back = atLink frame (frame .at) link
-
-          deep : (q : Bool)
-              → past w (λ m l k. cond q (rest (steps - 1) below (back ∷ stack) m l k) broken) map (left .pages) (left .nodes) cs
-              ≡ after (cond q (move.Down back (record { depth = length stack + 1; frame = below; left = left })) move.Broken)
-          deep true = refl
-          deep false = past-broken w map (left .pages) (left .nodes) cs
-      moves step.Up = ups stack
-      moves step.Broken = past-broken w map (left .pages) (left .nodes) cs
-
-    module _ (some : 0 < steps) (p : Place) (level : length stack ≡ p .depth) where
-      abbrev found : ℕ → Step
-      found depth = stepIn (w .nodes) (w .block .nodes) (w .b) (p .frame) (getD (w .bytes) depth 0)
+    module _ (some : 0 < steps) (level : length stack ≡ p .depth) where
+      abbrev found : Step
+      found = stepIn (w .nodes) (w .block .nodes) (w .b) (p .frame) (getD (w .bytes) (p .depth) 0)
 
       -- the step draws on the nodes ahead of the leaves
-      drawn : behind map (p .left) cs steps (p .frame) stack
-          ≡ spend (p .left .nodes) (reads (p .frame)) (λ k. stepped (p .frame) (record { pages = p .left .pages; nodes = k }) (found (p .depth)))
+      drawn : behind map (p .left) cs steps (p .frame) stack ≡ spend (p .left .nodes) (reads (p .frame)) (λ k. stepped k found)
       drawn =
-          let go : List ℕ → ℕ → ℕ → Marks = λ m l k. follow w (run w (steps - 1)) k m l (p .frame) stack (found (p .depth)) in
+          let go : List ℕ → ℕ → ℕ → Marks = λ m l k. follow w (run w (steps - 1)) k m l (p .frame) stack found in
           past-same w (rest steps (p .frame) stack) map (p .left .pages) (λ m l k. spend k (reads (p .frame)) (go m l)) (p .left .nodes) cs
-          (λ m l k. run-by w steps k m l (p .frame) stack some (p .depth) level (found (p .depth)) refl (found (p .depth)) refl)
+          (λ m l k. run-by w steps k m l (p .frame) stack some (p .depth) level found refl found refl)
           ∙ past-draw w go map (p .left .pages) (reads (p .frame)) (p .left .nodes) cs
 
       turn-law : behind map (p .left) cs steps (p .frame) stack ≡ after (turned (w .nodes) (w .block .nodes) (w .b) (w .bytes) p)
       unfolding turned
       turn-law = drawn ∙ by (ltb (p .left .nodes) (reads (p .frame)))
         where
-          next : Budget
-          next = drawnOf (p .left) (reads (p .frame))
-
           by : (q : Bool)
-              → cond q broken (stepped (p .frame) next (found (p .depth)))
-              ≡ after (cond q move.Broken (moved (w .nodes) (w .block .nodes) (w .b) (w .bytes) (p .depth) (p .frame) next (found (p .depth))))
+              → cond q broken (stepped (left .nodes) found)
+              ≡ after (cond q move.Broken (moved (w .nodes) (w .block .nodes) (w .b) (w .bytes) (p .depth) found))
           by true = refl
-          by false =
-              moves (p .frame) next (found (p .depth))
-              ∙ ap (λ d. after (moved (w .nodes) (w .block .nodes) (w .b) (w .bytes) d (p .frame) next (found (p .depth)))) level
+          by false = moves found ∙ ap (λ d. after (moved (w .nodes) (w .block .nodes) (w .b) (w .bytes) d found)) level
 
       -- by the code's answer
       pub turn-by : (a : Move) → a ≡ turned (w .nodes) (w .block .nodes) (w .b) (w .bytes) p → (m : Move) → a ≡ m

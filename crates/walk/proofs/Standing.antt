@@ -20,10 +20,14 @@ use Rattle.walk.specs.declared.frame.Frame.{Frame}
 use Rattle.walk.specs.declared.turn.Place.{Place}
 use Rattle.walk.specs.declared.turn.Move.{Move}
 use Rattle.walk.specs.declared.turn.Move.the-variants as move
-use Rattle.walk.specs.Turn.{placed, begun, turned}
+use Rattle.walk.specs.Turn.{placed, begun, drawnOf, onward, lowered, turned}
+use Rattle.walk.specs.Frame.{atLink, entered, reads}
 use Rattle.walk.proofs.Stack.{noFrame, Inside, entered-inside}
 use Rattle.walk.proofs.Moves.{Kept, kept-by}
 use Rattle.walk.proofs.Behind.{behind, behind-spent, behind-flush, behind-marked, popped, after, turn-by}
+
+abbrev budget : ℕ → ℕ → Budget
+budget pages nodes = record { pages = pages; nodes = nodes }
 
 module _ (w : Given) where
   -- what is left of it, with the frames of the nodes above in an array
@@ -65,76 +69,86 @@ module _ (w : Given) where
 
       -- a turn
       module _ (some : 0 < steps) (answer : Move) (e : answer ≡ turned (w .nodes) (w .block .nodes) (w .b) (w .bytes) p) where
-        turned-to : (m : Move) → answer ≡ m → after w map (take n waiting) steps (above noFrame stack (p .depth)) m ≡ goal
+        turned-to : (m : Move) → answer ≡ m → after w map (take n waiting) steps (above noFrame stack (p .depth)) p m ≡ goal
         turned-to m q =
-            sym (turn-by w map (take n waiting) steps (above noFrame stack (p .depth)) some p (above-length noFrame stack (p .depth)) answer e m q) ∙ s .walk
+            sym (turn-by w map (take n waiting) steps (above noFrame stack (p .depth)) p some (above-length noFrame stack (p .depth)) answer e m q) ∙ s .walk
 
-        kept : (m : Move) → answer ≡ m → Kept (w .nodes) (w .block .nodes) (w .b) (w .bytes) (p .depth) (p .left .nodes) m
-        kept m q = kept-by (w .nodes) (w .block .nodes) (w .b) (w .bytes) p (s .held .inside) (omega (arith, s .held .level)) answer e m q
+        pub kept : (m : Move) → answer ≡ m → Kept (w .nodes) (w .block .nodes) (w .b) (w .bytes) p m
+        kept m q = kept-by (w .nodes) (w .block .nodes) (w .b) (w .bytes) p (omega (arith, s .held .level)) answer e m q
 
-        pub standing-stay : (q : Place) → answer ≡ move.Stay q → Standing map waiting n (steps - 1) q stack
-        standing-stay q h =
-            let k = kept (move.Stay q) h in
-            record {
-              walk =
-                  ap (λ d. behind w map (q .left) (take n waiting) (steps - 1) (q .frame) (above noFrame stack d)) (k .level) ∙ turned-to (move.Stay q) h;
+        pub standing-stay : (at link : ℕ) → answer ≡ move.Stay at link → (q : Place) → q ≡ onward p at link → Standing map waiting n (steps - 1) q stack
+        standing-stay at link h q o =
+            rw o record {
+              walk = turned-to (move.Stay at link) h;
               long = s .long;
-              held = rw (k .level) (held-stay noFrame _ _ _ _ _ (s .held) (q .frame) (k .inside));
+              held = held-stay noFrame _ _ _ _ _ (s .held) (atLink (p .frame) at link) (s .held .inside);
               waits = s .waits;
-              few = omega (arith, s .few, k .few);
+              few = omega (arith, s .few);
             }
 
         -- one more leaf waits
-        pub standing-leaf : n < 16 → (c : Cursor) (q : Place) → answer ≡ move.Leaf c q → Standing map (set waiting n c) (n + 1) (steps - 1) q stack
-        standing-leaf l c q h =
-            let k = kept (move.Leaf c q) h in
-            record {
+        pub standing-leaf : n < 16 → (c : Cursor) (link : ℕ) → answer ≡ move.Leaf c link → (q : Place) → q ≡ onward p (p .frame .at) link
+            → Standing map (set waiting n c) (n + 1) (steps - 1) q stack
+        standing-leaf l c link h q o =
+            rw o record {
               walk =
-                  ap (λ cs. behind w map (q .left) cs (steps - 1) (q .frame) (above noFrame stack (q .depth)))
+                  ap
+                  (λ cs.
+                  behind w map (drawnOf (p .left) (reads (p .frame))) cs (steps - 1) (atLink (p .frame) (p .frame .at) link) (above noFrame stack (p .depth)))
                   (take-put waiting n c (omega (arith, s .waits .long)))
-                  ∙ ap (λ d. behind w map (q .left) (take n waiting ++ (c ∷ [])) (steps - 1) (q .frame) (above noFrame stack d)) (k .1 .level)
-                  ∙ turned-to (move.Leaf c q) h;
+                  ∙ turned-to (move.Leaf c link) h;
               long = s .long;
-              held = rw (k .1 .level) (held-stay noFrame _ _ _ _ _ (s .held) (q .frame) (k .1 .inside));
-              waits = inside-put (w .bytes) waiting n c (s .waits) l (k .0);
-              few = omega (arith, s .few, k .1 .few);
+              held = held-stay noFrame _ _ _ _ _ (s .held) (atLink (p .frame) (p .frame .at) link) (s .held .inside);
+              waits = inside-put (w .bytes) waiting n c (s .waits) l (kept (move.Leaf c link) h .0);
+              few = omega (arith, s .few);
             }
 
-        pub standing-down : (back : Frame) (q : Place) → answer ≡ move.Down back q → Standing map waiting n (steps - 1) q (set stack (p .depth) back)
-        standing-down back q h =
-            let k = kept (move.Down back q) h in
-            record {
+        pub standing-down : (x radius link : ℕ) → answer ≡ move.Down x radius link → (q r : Place) → q ≡ onward p (p .frame .at) link
+            → r ≡ lowered (w .nodes) (w .block .nodes) q x radius → Standing map waiting n (steps - 1) r (set stack (p .depth) (q .frame))
+        standing-down x radius link h q r o d =
+            let back : Frame = atLink (p .frame) (p .frame .at) link in
+            let below : Frame = entered (w .nodes) (w .block .nodes) x radius in
+            let k = kept (move.Down x radius link) h in
+            rw (d, o) record {
               walk =
-                  ap (λ d. behind w map (q .left) (take n waiting) (steps - 1) (q .frame) (above noFrame (set stack (p .depth) back) d)) (k .level)
-                  ∙ ap (behind w map (q .left) (take n waiting) (steps - 1) (q .frame))
+                  ap (behind w map (drawnOf (p .left) (reads (p .frame))) (take n waiting) (steps - 1) below)
                   (above-put noFrame stack (p .depth) back (omega (arith, s .held .level, s .held .levels, s .held .room)))
-                  ∙ turned-to (move.Down back q) h;
+                  ∙ turned-to (move.Down x radius link) h;
               long = s .long;
-              held = rw (k .level) (held-down noFrame _ _ _ _ _ (s .held) back (q .frame) (k .again) (k .inside) (k .deep));
+              held =
+                  held-down noFrame _ _ _ _ _ (s .held) back below (s .held .inside) (entered-inside (w .nodes) (w .block .nodes) x radius (k .0)) (k .1);
               waits = s .waits;
-              few = omega (arith, s .few, k .few);
+              few = omega (arith, s .few);
             }
 
-        pub standing-up : (left : Budget) → answer ≡ move.Up left → 0 < p .depth
-            → Standing map waiting n (steps - 1) (placed (p .depth - 1) (getD stack (p .depth - 1) noFrame) left) stack
-        standing-up left h l = record {
+        -- a step up reads no node
+        same-left : answer ≡ move.Up → drawnOf (p .left) (reads (p .frame)) ≡ p .left
+        same-left h =
+            let none : p .left .nodes - reads (p .frame) ≡ p .left .nodes = omega (arith, kept move.Up h) in
+            ap (λ k. budget (p .left .pages) k) none
+
+        pub standing-up : answer ≡ move.Up → 0 < p .depth
+            → Standing map waiting n (steps - 1) (placed (p .depth - 1) (getD stack (p .depth - 1) noFrame) (p .left)) stack
+        standing-up h l = record {
           walk =
-              sym (ap (popped w map (take n waiting) steps left) (above-take noFrame stack (p .depth) l)) ∙ turned-to (move.Up left) h;
+              sym
+              (ap (λ b. popped w map (take n waiting) steps b (above noFrame stack (p .depth))) (same-left h)
+              ∙ ap (popped w map (take n waiting) steps (p .left)) (above-take noFrame stack (p .depth) l))
+              ∙ turned-to move.Up h;
           long = s .long;
           held = held-up noFrame _ _ _ _ _ (s .held) l;
           waits = s .waits;
-          few = omega (arith, s .few, kept (move.Up left) h);
+          few = s .few;
         }
 
         -- the walk is over
-        pub standing-done : (left : Budget) → answer ≡ move.Up left → p .depth ≡ 0
-            → finished (flush w map (left .pages) (left .nodes) (take n waiting)) ≡ goal
-        standing-done left h z =
-            sym (ap (popped w map (take n waiting) steps left) (length-none (above noFrame stack (p .depth)) (above-length noFrame stack (p .depth) ∙ z)))
-            ∙ turned-to (move.Up left) h
-
-        pub standing-few : (left : Budget) → answer ≡ move.Up left → left .nodes ≤ most
-        standing-few left h = omega (arith, s .few, kept (move.Up left) h)
+        pub standing-done : answer ≡ move.Up → p .depth ≡ 0 → finished (flush w map (p .left .pages) (p .left .nodes) (take n waiting)) ≡ goal
+        standing-done h z =
+            sym
+            (ap (λ b. popped w map (take n waiting) steps b (above noFrame stack (p .depth))) (same-left h)
+            ∙ ap (popped w map (take n waiting) steps (p .left))
+            (length-none (above noFrame stack (p .depth)) (above-length noFrame stack (p .depth) ∙ z)))
+            ∙ turned-to move.Up h
 
         pub standing-broken : answer ≡ move.Broken → broken ≡ goal
         standing-broken h = turned-to move.Broken h

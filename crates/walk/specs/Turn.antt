@@ -26,22 +26,24 @@ begun nodes block root radius budget = placed 0 (entered nodes (block .nodes) ro
 abbrev pub drawnOf : Budget → ℕ → Budget
 drawnOf left d = record { pages = left .pages; nodes = left .nodes - d }
 
+-- on in the node, from a link in the chain whose head is at `at`, when the step is taken
+abbrev pub onward : Place → ℕ → ℕ → Place
+onward p at link = placed (p .depth) (atLink (p .frame) at link) (drawnOf (p .left) (reads (p .frame)))
+
+-- in an inner node x, a level below
+abbrev pub lowered : List ℕ → ℕ → Place → ℕ → ℕ → Place
+lowered nodes cap p x radius = placed (p .depth + 1) (entered nodes cap x radius) (p .left)
+
 module _ (nodes : List ℕ) (cap b : ℕ) (bytes : List ℕ) where
-  -- by the step from a level and a frame
-  abbrev pub moved : ℕ → Frame → Budget → Step → Move
-  moved depth frame left (step.Stay at link) = move.Stay (placed depth (atLink frame at link) left)
-  moved depth frame left (step.Leaf first link) = move.Leaf (ended first) (placed depth (atLink frame (frame .at) link) left)
-  moved depth frame left (step.Exact x link) =
-      move.Leaf (arrive nodes cap bytes x (depth + 1) (length bytes - 1)) (placed depth (atLink frame (frame .at) link) left)
-  moved depth frame left (step.Down x radius link) =
-      cond (ltb (depth + 1) (length bytes))
-      (move.Down (atLink frame (frame .at) link) (placed (depth + 1) (entered nodes cap x radius) left))
-      move.Broken
-  moved depth frame left step.Up = move.Up left
-  moved depth frame left step.Broken = move.Broken
+  -- by the step from a level
+  abbrev pub moved : ℕ → Step → Move
+  moved depth (step.Stay at link) = move.Stay at link
+  moved depth (step.Leaf first link) = move.Leaf (ended first) link
+  moved depth (step.Exact x link) = move.Leaf (arrive nodes cap bytes x (depth + 1) (length bytes - 1)) link
+  moved depth (step.Down x radius link) = cond (ltb (depth + 1) (length bytes)) (move.Down x radius link) move.Broken
+  moved depth step.Up = move.Up
+  moved depth step.Broken = move.Broken
 
   -- the step draws on the nodes
   unfoldable pub turned : Place → Move
-  turned p =
-      cond (ltb (p .left .nodes) (reads (p .frame))) move.Broken
-      (moved (p .depth) (p .frame) (drawnOf (p .left) (reads (p .frame))) (stepIn nodes cap b (p .frame) (getD bytes (p .depth) 0)))
+  turned p = cond (ltb (p .left .nodes) (reads (p .frame))) move.Broken (moved (p .depth) (stepIn nodes cap b (p .frame) (getD bytes (p .depth) 0)))

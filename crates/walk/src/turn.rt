@@ -6,8 +6,8 @@ ghost use Rattle.layout.specs.Nodes.{nodeWords};
 ghost use Rattle.sketch.specs.Settings.{Bits};
 ghost use Rattle.sketch.specs.Table.{distanceTable};
 ghost use Rattle.descent.specs.Tables.{NodeTable};
-ghost use Rattle.walk.specs.Frame.{atLink};
-ghost use Rattle.walk.specs.Turn.{turned};
+ghost use Rattle.walk.specs.Frame.{reads};
+ghost use Rattle.walk.specs.Turn.{onward, lowered, turned};
 use crate::frame;
 use crate::frame::Frame;
 use crate::frame::Step;
@@ -22,29 +22,51 @@ pub struct Place {
     pub left: Budget,
 }
 
-// Where a turn leads.
+// Where a turn leads. The last number is the link to go on from.
 pub enum Move {
-    // on in the same node
-    Stay(Place),
+    // on in the same node; the first number is the head of the chain
+    Stay(u32, u32),
     // past a child: a descent leads on to a leaf, or has ended at one
-    Leaf(Cursor, Place),
-    // to an inner node; the walk comes back to the frame
-    Down(Frame, Place),
-    // back to the node above, with what is left
-    Up(Budget),
+    Leaf(Cursor, u32),
+    // to an inner node, and the radius left below it
+    Down(u32, u32, u32),
+    // back to the node above
+    Up,
     // a link is not in order, or no node is left to read
     Broken,
 }
 
-// The frame, to go on from a link in the chain whose head is at `at`.
-fn at_link(frame: Frame, at: u32, link: u32) -> Frame
-    ensures { λ r. ⌜ r ≡ atLink frame at link ⌝ }
+// On in the node, from a link in the chain whose head is at `at`, when the step is taken.
+pub fn onward(place: Place, at: u32, link: u32) -> Place
+    requires { ⌜ reads (place .frame) ≤ place .left .nodes ⌝ }
+    ensures { λ r. ⌜ r ≡ onward place at link ⌝ }
 {
-    Frame {
-        at,
-        last: frame.last,
-        link,
-        radius: frame.radius,
+    Place {
+        depth: place.depth,
+        frame: Frame {
+            at,
+            last: place.frame.last,
+            link,
+            radius: place.frame.radius,
+        },
+        left: Budget {
+            pages: place.left.pages,
+            nodes: place.left.nodes - frame::reads(place.frame),
+        },
+    }
+}
+
+// In an inner node x, a level below.
+pub fn enter_child(nodes: &[u32], cap: usize, place: Place, x: u32, radius: u32) -> Place
+    requires { ⌜ NodeTable cap (now nodes) ⌝ }
+    requires { ⌜ (x < cap) × (place .depth < 64) ⌝ }
+    ensures { λ r. ⌜ r ≡ lowered (now (nodes .entry)) cap place x radius ⌝ }
+{
+    let left = place.left;
+    Place {
+        depth: place.depth + 1,
+        frame: frame::enter(nodes, cap, x as usize, radius),
+        left,
     }
 }
 
@@ -59,40 +81,24 @@ pub fn turn(table: &[u8; 2048], nodes: &[u32], bytes: &[u8], scope: Scope, place
 {
     let cap = scope.block.nodes;
     let depth = place.depth;
-    let frame = place.frame;
-    let drawn = frame::reads(frame);
-    if place.left.nodes < drawn {
+    if place.left.nodes < frame::reads(place.frame) {
         return Move::Broken;
     }
-    let left = Budget {
-        pages: place.left.pages,
-        nodes: place.left.nodes - drawn,
-    };
-    match frame::next_step(table, nodes, cap, scope.b, frame, bytes[depth]) {
-        Step::Stay(at, link) => {
-            let frame = at_link(frame, at, link);
-            Move::Stay(Place { depth, frame, left })
-        }
-        Step::Leaf(first, link) => {
-            let frame = at_link(frame, frame.at, link);
-            Move::Leaf(descent::ended(first), Place { depth, frame, left })
-        }
+    match frame::next_step(table, nodes, cap, scope.b, place.frame, bytes[depth]) {
+        Step::Stay(at, link) => Move::Stay(at, link),
+        Step::Leaf(first, link) => Move::Leaf(descent::ended(first), link),
         Step::Exact(child, link) => {
             let last = (bytes.len() - 1) as u32;
             let c = descent::arrive(nodes, cap, bytes, child as usize, (depth + 1) as u32, last);
-            let frame = at_link(frame, frame.at, link);
-            Move::Leaf(c, Place { depth, frame, left })
+            Move::Leaf(c, link)
         }
         Step::Down(child, radius, link) => {
-            let depth = depth + 1;
-            if depth >= bytes.len() {
+            if depth + 1 >= bytes.len() {
                 return Move::Broken;
             }
-            let back = at_link(frame, frame.at, link);
-            let frame = frame::enter(nodes, cap, child as usize, radius);
-            Move::Down(back, Place { depth, frame, left })
+            Move::Down(child, radius, link)
         }
-        Step::Up => Move::Up(left),
+        Step::Up => Move::Up,
         Step::Broken => Move::Broken,
     }
 }

@@ -15,6 +15,8 @@ use crate::frame;
 use crate::turn;
 use crate::turn::Move;
 use crate::turn::Place;
+use crate::turn::enter_child;
+use crate::turn::onward;
 use descent::Cursor;
 use descent::Left;
 use marking::Scope;
@@ -95,35 +97,37 @@ fn walk_below(
     while steps > 0 {
         steps -= 1;
         match turn::turn(table, nodes, bytes, scope, place) {
-            Move::Stay(next) => {
-                place = next;
+            Move::Stay(at, link) => {
+                place = onward(place, at, link);
             }
-            Move::Leaf(c, next) => {
+            Move::Leaf(c, link) => {
+                place = onward(place, place.frame.at, link);
                 waiting[n] = c;
                 n += 1;
-                place = next;
                 if n < 16 {
                     continue;
                 }
-                let marked = mark_waiting(nodes, pages, map, bytes, scope, waiting, n, next.left);
+                let marked = mark_waiting(nodes, pages, map, bytes, scope, waiting, n, place.left);
                 let Budgets::Some(left) = marked else {
                     return Left::Broken;
                 };
                 place.left = left;
                 n = 0;
             }
-            Move::Down(back, next) => {
+            Move::Down(child, radius, link) => {
                 let depth = place.depth;
+                let above = onward(place, place.frame.at, link);
+                let back = above.frame;
                 stack[depth] = back;
-                place = next;
+                place = enter_child(nodes, scope.block.nodes, above, child, radius);
             }
-            Move::Up(left) => {
+            Move::Up => {
                 if place.depth == 0 {
-                    return finish(nodes, pages, map, bytes, scope, waiting, n, left);
+                    return finish(nodes, pages, map, bytes, scope, waiting, n, place.left);
                 }
                 let depth = place.depth - 1;
-                let frame = stack[depth];
-                place = Place { depth, frame, left };
+                place.depth = depth;
+                place.frame = stack[depth];
             }
             Move::Broken => return Left::Broken,
         }

@@ -8,7 +8,6 @@ use lib.ListN.{getD}
 use Rattle.meaning.specs.Lists.{count, from, upto}
 use Rattle.meaning.specs.Sketch.{perByte, group, byteDistance}
 use Rattle.meaning.specs.Trie.{met, metIn}
-use Rattle.layout.specs.declared.Block.{Block}
 use Rattle.trie.specs.Heap.{Holds}
 use Rattle.trie.specs.Phys.{Phys, leafP, innerP, end, bucket, stop, link, tree, cells, noHeads, Sound}
 use Rattle.walk.specs.declared.frame.Step.the-variants.{Exact, Down}
@@ -22,6 +21,7 @@ use Rattle.walk_laws.specs.Trail.{trailFrom}
 use Rattle.walk_laws.proofs.Fit.{Fit}
 use Rattle.walk_laws.proofs.Leads.{steps-below}
 use Rattle.walk_laws.proofs.Right.{WalkRight, right, right-trail}
+use Rattle.walk_laws.proofs.Example.{pageTable, block}
 
 -- node 1 has byte 180, and node 2 below it byte 27 and page 7
 abbrev nodeTable : List ℕ
@@ -30,12 +30,6 @@ nodeTable =
     0 ∷ 0 ∷ 0 ∷ 0 ∷ 0 ∷ 2 ∷ 0 ∷ 0 ∷
     3 ∷ 0 ∷ 0 ∷ 0 ∷ 0 ∷ 0 ∷ 0 ∷ 0 ∷
     0 ∷ 0 ∷ 0 ∷ 0 ∷ 0 ∷ 0 ∷ 0 ∷ 0 ∷ []
-
-abbrev pageTable : List ℕ
-pageTable = 0 ∷ 0 ∷ 0 ∷ 0 ∷ 0 ∷ 0 ∷ 0 ∷ 0 ∷ 0 ∷ 0 ∷ 0 ∷ 0 ∷ 0 ∷ 0 ∷ 0 ∷ 0 ∷ 0 ∷ 0 ∷ 0 ∷ 0 ∷ 0 ∷ 0 ∷ 0 ∷ 0 ∷ []
-
-abbrev block : Block
-block = record { nodes = 3; pages = 8; base = 16 }
 
 -- for a query of the bytes 181 and y
 abbrev w : ℕ → Given

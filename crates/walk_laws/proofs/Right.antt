@@ -17,6 +17,8 @@ use Rattle.meaning.specs.Trie.{Children, none, met, metIn, nodes, nodesIn}
 use Rattle.layout.specs.Nodes.{linkOf, chainWord, headAt, stateAt, stepsFor, mostNodes, nodeSteps}
 use Rattle.trie.specs.Heap.{Holds}
 use Rattle.trie.specs.Phys.{Phys, leafP, innerP, Buckets, end, bucket, Chain, stop, link, root, first, tree, childrenB, childrenC, cells, cellsB, cellsC, Sound, SoundB, SoundC}
+use Rattle.trie.proofs.Fresh.{linkC, link-below}
+use Rattle.trie.proofs.Spot.{root-below}
 use Rattle.walk.specs.declared.frame.Frame.{Frame}
 use Rattle.marking.specs.Mark.{marks, markAll, onMarks}
 use Rattle.walk.specs.Frame.{atLink, entered, stepTo, stepIn}
@@ -27,7 +29,7 @@ use Rattle.walk_laws.specs.Near.{near, nearB, nearC}
 use Rattle.walk_laws.specs.Trail.{exactBelow, trail, trailFrom}
 use Rattle.walk_laws.proofs.Marks.{mark-append}
 use Rattle.walk_laws.proofs.Ran.{leaf-marks, exact-paid, reads-one, reads-none, Ran, ran-none, ran-then, ran-within, ran-to, ran-went, step-stay, step-leaf, step-exact, step-down, step-up, step-end, trail-end, trail-exact, trail-leaf, trail-inner}
-use Rattle.walk_laws.proofs.Chains.{firstLink, slot-word, root-below, first-below, link-in, step-chain, step-next, step-last, to-far, to-leaf, to-exact, to-inner, met-chain}
+use Rattle.walk_laws.proofs.Chains.{slot-word, link-in, step-chain, step-next, step-last, to-far, to-leaf, to-exact, to-inner, met-chain}
 use Rattle.walk_laws.proofs.Fit.{Fit, FitB, FitC, byte-small}
 use Rattle.walk_laws.proofs.Leads.{stepsBelow, stepsAmong, stepsAlong, steps-below}
 use Rattle.walk_laws.proofs.Exact.{sub-marks, sub-near, sub-drew}
@@ -78,7 +80,7 @@ module _ (w : Given) where
   -- a chain is gone through
   abbrev Through : Chain → List Frame → Type 0
   Through ch stack =
-      (f n : ℕ) (map : List ℕ) (left : ℕ) (frame : Frame) → frame .link ≡ firstLink ch → stepsC ch ≤ f → stepsAlong ch ≤ n
+      (f n : ℕ) (map : List ℕ) (left : ℕ) (frame : Frame) → frame .link ≡ linkC ch → stepsC ch ≤ f → stepsAlong ch ≤ n
       → length (metC ch (frame .radius) stack) ≤ left
       → Ran w f n (state map left frame stack) (after map left (metC ch (frame .radius) stack) (atLink frame (frame .at) 0) stack) (stepsC ch)
       (stepsAlong ch) (nearIn ch (frame .radius) stack)
@@ -87,7 +89,7 @@ module _ (w : Given) where
   link-through : (ch : Chain) (t : Phys) (stack : List Frame) → Through ch stack
       → (f n : ℕ) (map : List ℕ) (left : ℕ) (frame : Frame) (ps xs : List ℕ) → steps t + stepsC ch ≤ f → stepsAlong (link 0 t ch) ≤ n
       → length (ps ++ metC ch (frame .radius) stack) ≤ left
-      → Ran w f n (state map left frame stack) (after map left ps (atLink frame (frame .at) (firstLink ch)) stack) (steps t) (suc (stepsBelow t)) xs
+      → Ran w f n (state map left frame stack) (after map left ps (atLink frame (frame .at) (linkC ch)) stack) (steps t) (suc (stepsBelow t)) xs
       → Ran w f n (state map left frame stack)
       (after map left (ps ++ metC ch (frame .radius) stack) (atLink frame (frame .at) 0) stack) (steps t + stepsC ch) (stepsAlong (link 0 t ch))
       (xs ++ nearIn ch (frame .radius) stack)
@@ -95,7 +97,7 @@ module _ (w : Given) where
       let qs : List ℕ = metC ch (frame .radius) stack in
       ran-to (after-join map left ps qs (atLink frame (frame .at) 0) stack)
       (ran-then one
-      (through (one .rest) (one .over) (markAll map (w .words) ps) (left - length ps) (atLink frame (frame .at) (firstLink ch)) refl
+      (through (one .rest) (one .over) (markAll map (w .words) ps) (left - length ps) (atLink frame (frame .at) (linkC ch)) refl
       (omega (arith, one .enough)) (omega (arith, one .lasts)) (omega (arith, length-append ps qs))))
 
   -- the frames of an inner node are exhausted
@@ -108,7 +110,7 @@ module _ (w : Given) where
   -- a frame that stands at the chains of node x from g on
   abbrev From : Buckets → ℕ → ℕ → Frame → Type 0
   From end x g frame = (frame .link ≡ 0) × (frame .last ≤ frame .at)
-  From (bucket ch bs) x g frame = (frame .at ≡ headAt (w .block .nodes) x g) × (frame .last ≡ headAt (w .block .nodes) x 7) × (frame .link ≡ firstLink ch)
+  From (bucket ch bs) x g frame = (frame .at ≡ headAt (w .block .nodes) x g) × (frame .last ≡ headAt (w .block .nodes) x 7) × (frame .link ≡ linkC ch)
 
   record Onward (f n : ℕ) (map : List ℕ) (left : ℕ) (frame : Frame) (stack : List Frame) (bs : Buckets) (x g : ℕ) : Type 0 where
     next : Frame
@@ -134,10 +136,10 @@ module _ (w : Given) where
   onward small (bucket ch bs) x g stack h s f n map left frame z a b e =
       let top : suc g < 8 + 0 = omega (arith, chains-left bs (suc (suc g)) (s .1)) in
       let at : frame .at + 1 ≡ headAt (w .block .nodes) x (suc g) = omega arith in
-      let word : getD (w .nodes) (headAt (w .block .nodes) x (suc g)) 0 ≡ chainWord 0 (firstLink ch) = slot-word (w .block .nodes) (w .block .base) (w .nodes) (w .pages) ch (headAt (w .block .nodes) x (suc g)) 0 (h .0) in
-      let link-there : linkOf (getD (w .nodes) (frame .at + 1) 0) ≡ firstLink ch =
+      let word : getD (w .nodes) (headAt (w .block .nodes) x (suc g)) 0 ≡ chainWord 0 (linkC ch) = slot-word (w .block .nodes) (w .block .base) (w .nodes) (w .pages) ch (headAt (w .block .nodes) x (suc g)) 0 (h .0) in
+      let link-there : linkOf (getD (w .nodes) (frame .at + 1) 0) ≡ linkC ch =
       ap (λ n. linkOf (getD (w .nodes) n 0)) at ∙ ap linkOf word
-      ∙ link-in 0 (firstLink ch) (omega (arith, first-below (w .block .nodes) (w .block .pages) ch (32 * suc g) (32 * suc g + 32) (s .0))) in
+      ∙ link-in 0 (linkC ch) (omega (arith, link-below (w .block .nodes) (w .block .pages) (w .block .base) small ch (32 * suc g) (32 * suc g + 32) (s .0))) in
       record {
         next = atLink frame (frame .at + 1) (linkOf (getD (w .nodes) (frame .at + 1) 0));
         radius = refl;
@@ -241,7 +243,7 @@ module _ (w : Given) (small : w .block .nodes ≤ mostNodes) (query : (k : ℕ) 
     refl,
     refl,
     ap linkOf (slot-word (w .block .nodes) (w .block .base) N P ch (headAt (w .block .nodes) x 0) 0 (h .0))
-        ∙ link-in 0 (firstLink ch) (omega (arith, first-below (w .block .nodes) (w .block .pages) ch 0 32 (s .0))),
+        ∙ link-in 0 (linkC ch) (omega (arith, link-below (w .block .nodes) (w .block .pages) (w .block .base) small ch 0 32 (s .0))),
   )
 
   -- a child, near or far, and the rest of its chain
@@ -249,9 +251,9 @@ module _ (w : Given) (small : w .block .nodes ≤ mostNodes) (query : (k : ℕ) 
       → SoundC (w .block .nodes) (w .block .pages) (link c t ch) lo hi → FitC (w .b) len (link c t ch) (length stack)
       → (f n : ℕ) (map : List ℕ) (left : ℕ) (frame : Frame) → frame .link ≡ root t + 1 → steps t + stepsC ch ≤ f → stepsAlong (link c t ch) ≤ n
       → length (metC w (link c t ch) (frame .radius) stack) ≤ left → Through w ch stack
-      → ((d : ℕ) → stepIn N (w .block .nodes) (w .b) frame (here w stack) ≡ stepTo N (w .block .nodes) (root t) d (frame .radius) (frame .at) (firstLink ch)
+      → ((d : ℕ) → stepIn N (w .block .nodes) (w .b) frame (here w stack) ≡ stepTo N (w .block .nodes) (root t) d (frame .radius) (frame .at) (linkC ch)
       → d ≤ frame .radius → steps t ≤ f → stepsBelow t < n → length (metT t (frame .radius - d) stack) ≤ left
-      → Ran w f n (state map left frame stack) (after w map left (metT t (frame .radius - d) stack) (atLink frame (frame .at) (firstLink ch)) stack)
+      → Ran w f n (state map left frame stack) (after w map left (metT t (frame .radius - d) stack) (atLink frame (frame .at) (linkC ch)) stack)
       (steps t) (suc (stepsBelow t)) (nearT t (frame .radius - d) stack))
       → Ran w f n (state map left frame stack) (after w map left (metC w (link c t ch) (frame .radius) stack) (atLink frame (frame .at) 0) stack)
       (steps t + stepsC ch) (stepsAlong (link c t ch)) (nearIn w (link c t ch) (frame .radius) stack)
@@ -265,13 +267,13 @@ module _ (w : Given) (small : w .block .nodes ≤ mostNodes) (query : (k : ℕ) 
       d = byteDistance (w .b) (bitXor c (here w stack))
 
       l : ℕ
-      l = firstLink ch
+      l = linkC ch
 
       found : stepIn N (w .block .nodes) (w .b) frame (here w stack) ≡ stepTo N (w .block .nodes) (root t) d r (frame .at) l
       found =
-          step-chain N (w .block .nodes) (w .b) frame (here w stack) (root t) c (firstLink ch) e (root-below (w .block .nodes) (w .block .pages) t (s .2))
+          step-chain N (w .block .nodes) (w .b) frame (here w stack) (root t) c (linkC ch) e (root-below (w .block .nodes) (w .block .pages) (w .block .base) small t (s .2))
           (slot-word (w .block .nodes) (w .block .base) N P ch (root t) c (h .1 .1))
-          (omega (arith, first-below (w .block .nodes) (w .block .pages) ch (suc c) hi (s .3)))
+          (omega (arith, link-below (w .block .nodes) (w .block .pages) (w .block .base) small ch (suc c) hi (s .3)))
           (omega (arith, u .0, byte-small (w .b)))
 
       go : (q : Bool) → leb d r ≡ q → length (cond q (metT t (r - d) stack) [] ++ metC w ch r stack) ≤ left
@@ -395,7 +397,7 @@ module _ (w : Given) (small : w .block .nodes ≤ mostNodes) (query : (k : ℕ) 
         child-through t ch stack b at y lo hi h s u f n map left frame e c k m
         (λ f′ n′ map′ left′ frame′ e′ c′ k′ m′.
         chain-through ch stack (root t) b (suc b) hi (h .1 .1) (s .3) (u .2) v (omega arith) f′ n′ map′ left′ frame′ e′ c′ k′ m′)
-        (λ d q r c′ k′ m′. tree-through t stack (h .1 .0) (s .2) (u .1) (omega arith) f n map left frame d (firstLink ch) e q r c′ k′ m′)
+        (λ d q r c′ k′ m′. tree-through t stack (h .1 .0) (s .2) (u .1) (omega arith) f n map left frame d (linkC ch) e q r c′ k′ m′)
 
   -- below an inner root
   root-through : (x : ℕ) (bs : Buckets) (radius n : ℕ) (map : List ℕ) → Holds (cells (w .block .nodes) (w .block .base) (innerP x bs)) N P

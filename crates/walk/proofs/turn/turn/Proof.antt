@@ -1,14 +1,13 @@
--- `turn` is `turned`: the step's nodes are drawn, then the step says where it leads.
+-- `turn` is `turned`: the step's nodes are counted, then the step says where it leads.
 use native.Mathlib.Omega.{arith}
 use mathlib.Core.Path.{_≡_, ap, sym, _∙_}
 use lib.ListN.{length}
 use borrow.Author.Tests.{lt-ltb, le-ltb}
 use Rattle.walk.specs.declared.frame.Step.{Step}
-use Rattle.walk.specs.declared.frame.Step.the-variants as step
 use Rattle.walk.specs.declared.turn.Move.the-variants as move
-use Rattle.walk.specs.Turn.{drawnOf, moved, turned}
+use Rattle.walk.specs.Turn.{moved, turned}
 use Rattle.walk.proofs.Steps.{within-by}
-use Rattle.walk.proofs.Moves.{at-same, leaf-same, down-same, turned-short, turned-by}
+use Rattle.walk.proofs.Moves.{turned-short, turned-by}
 use borrow.Author.Needs.{needs}
 use Rattle.walk.proofs.turn.turn.Statement.{statement}
 use Rattle.walk.proofs.turn.turn.Tie as tie
@@ -24,13 +23,13 @@ abbrev Found : Type 0
 Found = tie.After-next-step
 
 abbrev start : Found → tie.Start
-start t = t .before .before .before .before .before .before .before .before .before
+start t = t .before .before .before .before .before .before .before
 
 led : (t : Found) (s : Step) → t .next-step .result ≡ s
     → let a = start t .args in
-    moved (a .nodes .now) (a .scope .block .nodes) (a .scope .b) (a .bytes .now) (a .place .depth) (a .place .frame) (drawnOf (a .place .left) (t .before .before .before .before .before .reads .result)) s
+    moved (a .nodes .now) (a .scope .block .nodes) (a .scope .b) (a .bytes .now) (a .place .depth) s
     ≡ turned (a .nodes .now) (a .scope .block .nodes) (a .scope .b) (a .bytes .now) (a .place)
-led t s q = sym (turned-by _ _ _ _ _ _ (t .before .before .before .before .before .reads .ensures) (t .before .before .before .if1 .left) _ (t .next-step .ensures) s q)
+led t s q = sym (turned-by _ _ _ _ _ _ (t .before .before .before .before .reads .ensures) (t .before .before .if1 .left) _ (t .next-step .ensures) s q)
 
 shared-slice-read-next-step : tie.Need-shared-slice-read-next-step
 shared-slice-read-next-step c = search needs
@@ -41,14 +40,8 @@ next-step-requires c κs = search needs
 enum-known-at : tie.Need-enum-known-at
 enum-known-at c = search needs
 
-at-link-requires : tie.Need-at-link-requires
-at-link-requires c κs = search needs
-
 enum-known-first : tie.Need-enum-known-first
 enum-known-first c = search needs
-
-at-link-requires-2 : tie.Need-at-link-requires-2
-at-link-requires-2 c κs = search needs
 
 ended-requires : tie.Need-ended-requires
 ended-requires c κs = search needs
@@ -79,28 +72,14 @@ arrive-requires c κs =
       (within-by _ _ _ _ _ _ (t .next-step .ensures) _ (c .before .child .given .1), omega (arith, pre .1 .1 .1 .0 .0)),
     )
 
-at-link-requires-3 : tie.Need-at-link-requires-3
-at-link-requires-3 c κs = search needs
-
 enum-known-child-2 : tie.Need-enum-known-child-2
 enum-known-child-2 c = search needs
 
-add-depth : tie.Need-add-depth
-add-depth c = search needs
+add-if2 : tie.Need-add-if2
+add-if2 c = search needs
 
 returns-2 : tie.Need-returns-2
 returns-2 c = rw (le-ltb _ _ (c .if2 .taken)) at (led (c .before .before .before .before) _ (c .before .before .child2 .given .1))
-
-at-link-requires-4 : tie.Need-at-link-requires-4
-at-link-requires-4 c κs = search needs
-
-cast-enter : tie.Need-cast-enter
-cast-enter c = search needs
-
-enter-requires : tie.Need-enter-requires
-enter-requires c κs =
-    let t = c .before .before .before .before .before in
-    (start t .pre .1 .0, within-by _ _ _ _ _ _ (t .next-step .ensures) _ (c .before .before .before .child2 .given .1))
 
 enum-told : tie.Need-enum-told
 enum-told c = search needs
@@ -109,16 +88,16 @@ enum-told-2 : tie.Need-enum-told-2
 enum-told-2 c = search needs
 
 returns-3 : tie.Need-returns-3
-returns-3 c = ap move.Stay (at-same (c .at-link .ensures)) ∙ led (c .before .before .before .before) _ (c .before .before .at .given .1)
+returns-3 c = led (c .before .before .before) _ (c .before .at .given .1)
 
 returns-4 : tie.Need-returns-4
-returns-4 c = leaf-same (c .ended .ensures) (c .before .at-link2 .ensures) ∙ led (c .before .before .before .before .before) _ (c .before .before .before .first .given .1)
+returns-4 c = ap (λ d. move.Leaf d (c .before .before .first .given .0 .1 .0)) (c .ended .ensures) ∙ led (c .before .before .before .before) _ (c .before .before .first .given .1)
 
 returns-5 : tie.Need-returns-5
-returns-5 c = leaf-same (c .before .arrive .ensures) (c .at-link3 .ensures) ∙ led (c .before .before .before .before .before) _ (c .before .before .before .child .given .1)
+returns-5 c = ap (λ d. move.Leaf d (c .before .before .child .given .0 .1 .0)) (c .arrive .ensures) ∙ led (c .before .before .before .before) _ (c .before .before .child .given .1)
 
 returns-6 : tie.Need-returns-6
-returns-6 c = down-same (c .before .at-link4 .ensures) (c .enter .ensures) ∙ rw (lt-ltb _ _ (c .before .before .if2 .left)) at (led (c .before .before .before .before .before .before) _ (c .before .before .before .before .child2 .given .1))
+returns-6 c = rw (lt-ltb _ _ (c .if2 .left)) at (led (c .before .before .before .before) _ (c .before .before .child2 .given .1))
 
 returns-7 : tie.Need-returns-7
 returns-7 c = led (c .before .before) _ (c .enum-told .given .1)
@@ -135,9 +114,7 @@ turn-spec =
     shared-slice-read-next-step
     next-step-requires
     enum-known-at
-    at-link-requires
     enum-known-first
-    at-link-requires-2
     ended-requires
     enum-known-child
     sub-last
@@ -146,13 +123,9 @@ turn-spec =
     add-arrive
     cast-arrive-2
     arrive-requires
-    at-link-requires-3
     enum-known-child-2
-    add-depth
+    add-if2
     returns-2
-    at-link-requires-4
-    cast-enter
-    enter-requires
     enum-told
     enum-told-2
     returns-3

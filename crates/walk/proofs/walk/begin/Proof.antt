@@ -1,5 +1,4 @@
 -- `begin` is at the root.
-use Rattle.walk.proofs.Moves.{at-same}
 use borrow.Author.Needs.{needs}
 use Rattle.walk.proofs.walk.begin.Statement.{statement}
 use Rattle.walk.proofs.walk.begin.Tie as tie
@@ -11,7 +10,7 @@ cast-t6 : tie.Need-cast-t6
 cast-t6 c = search needs
 
 returns : tie.Need-returns
-returns c = at-same (c .before .enter .ensures)
+returns c = cc
 
 pub begin-spec : {M : Type 1} → statement M
 begin-spec = tie.close (tie.spec enter-requires cast-t6 returns)
