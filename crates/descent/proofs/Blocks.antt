@@ -6,7 +6,7 @@ use native.Mathlib.Nat.{add-zero}
 use mathlib.Core.Path.{_≡_, refl, sym, ap, ap₂, subst, _∙_}
 use mathlib.Core.List.{List, _++_}
 use lib.ListN.{length, getD, set, take, drop, length-append, length-drop, length-set, List·getD-append}
-use lib.Seq.{length-take-le, getD-take, getD-append-add, getD-set-same, getD-set-other, take-all, drop-cons}
+use lib.Seq.{length-take-le, getD-take, getD-append-add, take-all, drop-cons}
 use Rattle.meaning.specs.Lists.{onto}
 use Rattle.meaning.specs.Sketch.{pack, block}
 use Rattle.meaning.specs.Forest.{bytesOfSketch}
@@ -16,6 +16,7 @@ use Rattle.layout.specs.Limits.{HeaderLimits}
 use Rattle.descent.specs.declared.Cursor.{Cursor}
 use Rattle.descent.specs.declared.Descents.{Descents}
 use Rattle.descent.specs.Cursor.{Inside, AllInside, ended, arrive, descended, drawn, drawnAll, leftOf, Descended, leafOf}
+use Rattle.descent.proofs.Each.{each-put}
 use Rattle.descent.proofs.Steps.{inside-arrive}
 use Rattle.descent.specs.Leaves.{blockSize, Packed, Started, leafIn, drawnIn, drawnFrom, Leaves}
 use Rattle.descent.proofs.Sizes.{bytes-length, size-most, size-some}
@@ -127,14 +128,11 @@ module _ (h : Header) (N bytes : List ℕ) where
   started-none cs e = record { most = omega arith; long = e; each = λ i l. absurd (omega arith) }
 
   pub started-next : {cs : List Cursor} {j : ℕ} → StartedTo cs j → j < h .q → h .q ≤ 8 → (c : Cursor) → c ≡ startOf j → StartedTo (set cs j c) (j + 1)
-  started-next {cs} {j} s more few c e = record { most = omega arith; long = length-set cs j c ∙ s .long; each = each }
-    where
-      each : (i : ℕ) → i < j + 1 → getD (set cs j c) i (ended 0) ≡ startOf i
-      each i l = go (ℕ-discrete i j)
-        where
-          go : Dec (i ≡ j) → getD (set cs j c) i (ended 0) ≡ startOf i
-          go (yes f) = rw f (getD-set-same cs j c (ended 0) (omega (arith, s .long)) ∙ e)
-          go (no f) = getD-set-other cs j i c (ended 0) f ∙ s .each i (omega arith)
+  started-next {cs} {j} s more few c e = record {
+    most = omega arith;
+    long = length-set cs j c ∙ s .long;
+    each = each-put (λ i d. d ≡ startOf i) (ended 0) cs j c (omega (arith, s .long)) e (s .each);
+  }
 
   pub started-all : {cs : List Cursor} {j : ℕ} → StartedTo cs j → h .q ≤ j → Started h N bytes cs
   started-all s end = record { long = s .long; each = λ i l. s .each i (omega (arith, s .most)) }
@@ -161,14 +159,11 @@ module _ (h : Header) (ends : List Cursor) where
 
   pub leaves-next : {firsts : List ℕ} {j : ℕ} → LeavesTo firsts j → j < h .q → h .q ≤ 8 → (first : ℕ) → first ≡ leafOf (getD ends j (ended 0))
       → LeavesTo (set firsts j first) (j + 1)
-  leaves-next {firsts} {j} t more few first e = record { most = omega arith; long = length-set firsts j first ∙ t .long; each = each }
-    where
-      each : (i : ℕ) → i < j + 1 → getD (set firsts j first) i 0 ≡ leafOf (getD ends i (ended 0))
-      each i l = go (ℕ-discrete i j)
-        where
-          go : Dec (i ≡ j) → getD (set firsts j first) i 0 ≡ leafOf (getD ends i (ended 0))
-          go (yes f) = rw f (getD-set-same firsts j first 0 (omega (arith, t .long)) ∙ e)
-          go (no f) = getD-set-other firsts j i first 0 f ∙ t .each i (omega arith)
+  leaves-next {firsts} {j} t more few first e = record {
+    most = omega arith;
+    long = length-set firsts j first ∙ t .long;
+    each = each-put (λ i f. f ≡ leafOf (getD ends i (ended 0))) 0 firsts j first (omega (arith, t .long)) e (t .each);
+  }
 
 -- ---- led to their leaves
 module _ (h : Header) (N x bytes : List ℕ) (limits : HeaderLimits h) (count : length x ≡ h .m) (p : Packed h x bytes)

@@ -14,6 +14,7 @@ use lib.Seq.{getD-set-same, getD-set-other, take-suc}
 use Rattle.descent.specs.declared.Cursor.{Cursor}
 use Rattle.descent.specs.declared.Left.the-variants.{Some, Broken}
 use Rattle.descent.specs.Cursor.{Inside, AllInside, ended, going, advance, descended, drawn, drawnAll, leftOf, Descended}
+use Rattle.descent.proofs.Each.{each-put}
 use Rattle.descent.proofs.Steps.{inside-advance, descended-next, descended-done, drawn-ended, drawn-more, drawn-one-more}
 
 abbrev pub at : List Cursor → ℕ → Cursor
@@ -94,20 +95,12 @@ module _ (nodes : List ℕ) (cap : ℕ) (bytes : List ℕ) (n : ℕ) where
   round-next {before} {now} {j} {more} r inside c e =
       record {
         long = length-set now j c ∙ r .long;
-        made = made;
+        made =
+            each-put (λ i d. d ≡ advance nodes cap bytes (at before i)) (ended 0) now j c (omega (arith, r .long))
+            (e ∙ ap (advance nodes cap bytes) (r .rest j (omega arith))) (r .made);
         rest = λ i h. getD-set-other now j i c (ended 0) (λ g. absurd (omega arith)) ∙ r .rest i (omega arith);
         on = ap₂ _+_ (r .on) (goes-byte c) ∙ sym (going-put now j c (omega (arith, r .long)));
       }
-    where
-      here : at (set now j c) j ≡ c
-      here = getD-set-same now j c (ended 0) (omega (arith, r .long))
-
-      made : (i : ℕ) → i < j + 1 → at (set now j c) i ≡ advance nodes cap bytes (at before i)
-      made i h = go (ℕ-discrete i j)
-        where
-          go : Dec (i ≡ j) → at (set now j c) i ≡ advance nodes cap bytes (at before i)
-          go (yes g) = rw g (here ∙ e ∙ ap (advance nodes cap bytes) (r .rest j (omega arith)))
-          go (no g) = getD-set-other now j i c (ended 0) g ∙ r .made i (omega arith)
 
   -- between rounds: k steps each
   pub record Rounds (start now : List Cursor) (k : ℕ) : Type 0 where

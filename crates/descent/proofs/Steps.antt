@@ -13,7 +13,7 @@ use Rattle.descent.specs.declared.Cursor.{Cursor}
 use Rattle.descent.specs.Cursor.{Inside, ended, outside, ahead, arrive, pass, advance, descended, drawn, drawnAll}
 
 module _ (nodes : List ℕ) (cap : ℕ) (bytes : List ℕ) where
-  inside-ended : (first : ℕ) → 0 < length bytes → Inside bytes (ended first)
+  pub inside-ended : (first : ℕ) → 0 < length bytes → Inside bytes (ended first)
   inside-ended first some = record { at = some; last = some }
 
   pub inside-arrive : (x at last : ℕ) → last < length bytes → Inside bytes (arrive nodes cap bytes x at last)

@@ -1,11 +1,12 @@
 -- Exact descents: the leaf of a trie that the bytes of a block lead to, a step at a time.
-use Prim.Native.Nat.{ℕ, zero, suc, _+_, _-_, _*_, _/_, _<_, _≤_}
+use Prim.Native.Nat.{ℕ, zero, suc, _+_, _-_, _/_, _<_, _≤_}
 use mathlib.Core.Path.{_≡_}
 use mathlib.Core.Bool.{cond}
 use mathlib.Core.List.{List, [], _∷_}
 use lib.Dec.{ltb, eqb}
 use lib.ListN.{length, getD, take}
-use Rattle.layout.specs.Nodes.{linkOf, byteOf, stateAt, headAt, freeState, innerState, nodeWords, mostNodes}
+use Rattle.layout.specs.Nodes.{linkOf, byteOf, stateAt, headAt, freeState, innerState}
+use Rattle.layout.specs.Tables.{NodeTable}
 use Rattle.descent.specs.declared.Cursor.{Cursor}
 use Rattle.descent.specs.declared.Left.{Left}
 use Rattle.descent.specs.declared.Left.the-variants.{Some, Broken}
@@ -13,8 +14,7 @@ use Rattle.descent.specs.declared.Descents.{Descents}
 
 -- the node table is long enough for its capacity, and the bytes are at most those of eight blocks
 pub record Fits (nodes : List ℕ) (cap : ℕ) (bytes : List ℕ) : Type 0 where
-  pub long : nodeWords cap ≤ length nodes
-  pub most : cap ≤ mostNodes
+  pub table : NodeTable cap nodes
   pub few : length bytes ≤ 512
 
 -- the bytes that a descent is at lie in the table of bytes

@@ -14,16 +14,19 @@ use Rattle.layout.specs.Nodes.{nodeWords}
 use Rattle.layout.specs.declared.Header.{Header}
 use Rattle.layout.specs.Header.{bare}
 use Rattle.layout.specs.Lengths.{nodesLength, pagesLength, workingLength}
-use Rattle.layout.specs.Pages.{nextAt, mostPages}
+use Rattle.layout.specs.Pages.{nextAt}
 use Rattle.layout.specs.Working.{mapWords, summaryWords}
 use Rattle.layout.proofs.Sizes.{map-most, pages-mapped}
 use Rattle.descent.proofs.Sizes.{bytes-length, size-most, size-some}
+use Rattle.layout.specs.Tables.{PageTable}
 use Rattle.descent.specs.declared.Left.{Left}
 use Rattle.descent.specs.declared.Left.the-variants.{Some, Broken}
-use Rattle.walk.specs.Mark.{Marks, marks, broken, marksOf}
-use Rattle.walk.specs.Walk.{given, Fitting, walkFrom}
+use Rattle.marking.specs.declared.Scope.{Scope}
+use Rattle.marking.specs.Mark.{Bitmap, Marks, marks, broken, marksOf}
+use Rattle.marking.specs.Given.{within, Fitting}
+use Rattle.walk.specs.Walk.{walkFrom}
 use Rattle.walk_laws.proofs.Left.{walk-left}
-use Rattle.search_laws.specs.Marks.{walkOf, markBlock, markFrom, markBlocks}
+use Rattle.search_laws.specs.Marks.{scopeOf, walkOf, markBlock, markFrom, markBlocks}
 use Rattle.search.specs.Ready.{Fits, Lent}
 
 module _ (h : Header) (x : List ℕ) (fits : Fits h x) (j : ℕ) (l : j < h .q) where
@@ -45,30 +48,27 @@ module _ (h : Header) (N P M : List ℕ) (lent : Lent h N P M) (j : ℕ) (l : j 
       let behind : 2 + j < 2 + h .q = omega arith in
       omega (arith, rw suc-mul at (mul-le-mul-right (h .pages) behind), lent .pages-long)
 
+  links-there : PageTable (h .pages) (nextAt (h .pages) j) P
+  links-there = record { long = links-inside; small = lent .limits .pages-most }
+
+  bitmap-there : Bitmap (h .pages) (mapWords (bare h)) M
+  unfolding workingLength summaryWords
+  bitmap-there = record { most = map-most (bare h) (lent .limits); bits = pages-mapped (bare h); long = lent .working-long }
+
   -- what the walk of block j asks
   pub fitting : (x : List ℕ) → Fits h x → Fitting (walkOf h N P x j) M
-  unfolding workingLength summaryWords
   fitting x fits = record {
-    nodes = nodes-there lent;
-    cap = lent .limits .nodes-most;
-    pages = links-inside;
-    pcap = lent .limits .pages-most;
-    words = map-most (bare h) (lent .limits);
-    bits = pages-mapped (bare h);
-    summary = lent .working-long;
+    nodes = record { long = nodes-there lent; small = lent .limits .nodes-most };
+    pages = links-there;
+    bitmap = bitmap-there;
     b = (lent .limits .bits-least, lent .limits .bits-most);
     some = rw (bytes-length h x (fits .count) j l) (size-some h (lent .limits) j l);
     bytes = omega (arith, bytes-length h x (fits .count) j l, size-most h (lent .limits) j l);
   }
 
   -- what marking a leaf of block j asks
-  pub leaf-call : (next words : ℕ) → next ≡ nextAt (h .pages) j → words ≡ mapWords (bare h)
-      → (next + h .pages ≤ length P)
-      × (((h .pages ≤ mostPages) × (words ≤ 2048) × (h .pages ≤ 32 * words)) × (words + (words + 31) / 32 ≤ length M))
-  unfolding workingLength summaryWords
-  leaf-call next words e f =
-      rw (e, f)
-      (links-inside, ((lent .limits .pages-most, map-most (bare h) (lent .limits), pages-mapped (bare h)), lent .working-long))
+  pub leaf-call : (s : Scope) → s ≡ scopeOf h j → PageTable (s .block .pages) (s .block .base) P × Bitmap (s .block .pages) (s .words) M
+  leaf-call s e = rw e (links-there, bitmap-there)
 
 -- ---- the loop over the blocks, each within the block radius r
 module _ (h : Header) (N P x : List ℕ) (r : ℕ) where
@@ -116,11 +116,10 @@ lent-kept h N P M M′ lent e = record {
 }
 
 -- as the code calls the walk
-module _ (h : Header) (N P M x : List ℕ) (j : ℕ) (next words : ℕ) (ys : List ℕ)
-    (e : next ≡ nextAt (h .pages) j) (f : words ≡ mapWords (bare h)) (g : ys ≡ bytesOfSketch (bare h) j x) where
-  pub fitting-call : Lent h N P M → Fits h x → j < h .q → Fitting (given N P (h .nodes) (h .pages) next words (h .b) ys) M
-  fitting-call lent fits l = rw (e, f, g) (fitting h N P M lent j l x fits)
+module _ (h : Header) (N P M x : List ℕ) (j : ℕ) (s : Scope) (ys : List ℕ) (e : s ≡ scopeOf h j) (g : ys ≡ bytesOfSketch (bare h) j x) where
+  pub fitting-call : Lent h N P M → Fits h x → j < h .q → Fitting (within N P ys s) M
+  fitting-call lent fits l = rw (e, g) (fitting h N P M lent j l x fits)
 
-  pub walk-call : (r nodes : ℕ) → walkFrom (given N P (h .nodes) (h .pages) next words (h .b) ys) j r nodes M ≡ markBlock h N P x r j nodes M
+  pub walk-call : (r nodes : ℕ) → walkFrom (within N P ys s) j r nodes M ≡ markBlock h N P x r j nodes M
   unfolding markBlock
-  walk-call r nodes = rw (e, f, g) refl
+  walk-call r nodes = rw (e, g) refl

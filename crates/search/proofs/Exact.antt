@@ -9,18 +9,16 @@ use lib.Dec.{ltb}
 use lib.ListN.{getD}
 use borrow.Author.Tests.{ltb-true, ltb-false}
 use Rattle.layout.specs.declared.Header.{Header}
-use Rattle.layout.specs.Header.{bare}
-use Rattle.layout.specs.Pages.{nextAt}
-use Rattle.layout.specs.Working.{mapWords}
 use Rattle.descent.specs.declared.Left.{Left}
 use Rattle.descent.specs.declared.Left.the-variants.{Some, Broken}
 use Rattle.descent.specs.Cursor.{leftOf}
 use Rattle.descent.specs.declared.leaves.Ends.{Ends}
 use Rattle.descent.specs.Leaves.{leafIn, drawnIn, drawnFrom, Leaves}
-use Rattle.walk.specs.Mark.{Marks, marks, broken, marksOf, onMarks, spend, markLeaf}
-use Rattle.walk.proofs.Spend.{onMarks-same, spend-paid, spend-short, spend-same, spend-marks, spend-both}
+use Rattle.marking.specs.declared.Scope.{Scope}
+use Rattle.marking.specs.Mark.{Marks, marks, broken, marksOf, onMarks, spend, markLeaf}
+use Rattle.marking.proofs.Spend.{onMarks-same, spend-paid, spend-short, spend-same, spend-marks, spend-both}
 use Rattle.walk.proofs.Turns.{from-exact}
-use Rattle.search_laws.specs.Marks.{walkOf, markBlock, markFrom}
+use Rattle.search_laws.specs.Marks.{scopeOf, walkOf, markBlock, markFrom}
 
 -- ---- what is left of a budget, by the code's answer
 pub left-some : (n d k : ℕ) → leftOf n d ≡ Some k → (d ≤ n) × (n - d ≡ k)
@@ -54,7 +52,7 @@ on-on go f broken = refl
 module _ (h : Header) (N P x : List ℕ) where
   -- the leaf of block j
   abbrev leafMarks : ℕ → List ℕ → Marks
-  leafMarks j map = markLeaf P (mapWords (bare h)) (h .pages) (nextAt (h .pages) j) map (leafIn h N x j) (h .pages)
+  leafMarks j map = markLeaf P (scopeOf h j .block) (scopeOf h j .words) map (leafIn h N x j) (h .pages)
 
   -- the leaves of k blocks from j on
   unfoldable pub leavesFrom : ℕ → ℕ → List ℕ → Marks
@@ -118,13 +116,13 @@ module _ (h : Header) (N P x : List ℕ) where
       unfolding leavesFrom
       exact-done l = let z : h .q - j ≡ 0 = omega arith in rw (← inv, z) refl
 
-      module _ (l : j < h .q) (next words : ℕ) (f : next ≡ nextAt (h .pages) j) (g : words ≡ mapWords (bare h)) (after : List ℕ) (a : Left)
-          (m : marksOf after a ≡ markLeaf P words (h .pages) next now (getD (ends .firsts) j 0) (h .pages)) where
+      module _ (l : j < h .q) (s : Scope) (f : s ≡ scopeOf h j) (after : List ℕ) (a : Left)
+          (m : marksOf after a ≡ markLeaf P (s .block) (s .words) now (getD (ends .firsts) j 0) (h .pages)) where
         left : h .q - j ≡ suc (h .q - (j + 1))
         left = omega arith
 
         leaf : leafMarks j now ≡ marksOf after a
-        leaf = sym (m ∙ rw (f, g, found .each over e j l) refl)
+        leaf = sym (m ∙ rw (f, found .each over e j l) refl)
 
         pub exact-more : (k : ℕ) → a ≡ Some k → withNodes over (leavesFrom (h .q - (j + 1)) (j + 1) after) ≡ R
         unfolding leavesFrom

@@ -32,7 +32,7 @@ use Rattle.hits.specs.Marks.{summaryOf, Room}
 use Rattle.hits.proofs.Listed.{testOf}
 use Rattle.promises.specs.Sound.{Sound}
 use Rattle.promises.specs.Readings.{workingLeft, listedOf, Lists, earlyNumber, SearchPromise}
-use Rattle.walk.specs.Mark.{Marks, marks, broken}
+use Rattle.marking.specs.Mark.{Marks, marks, broken}
 use Rattle.search_laws.specs.Marks.{markBlocks}
 use Rattle.search_laws.specs.Answer.{Answered, words, cleared as blank, walks, AnsweredBy}
 use Rattle.search_laws.proofs.Marks.{zeroed-onto}

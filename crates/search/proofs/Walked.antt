@@ -19,7 +19,7 @@ use Rattle.hits.specs.Marks.{summaryOf, Room, Summarised, listOf, keptMap}
 use Rattle.promises.specs.Readings.{Lists}
 use Rattle.descent.specs.declared.Left.{Left}
 use Rattle.descent.specs.declared.Left.the-variants.{Some, Broken}
-use Rattle.walk.specs.Mark.{Marks, marks, broken, marksOf}
+use Rattle.marking.specs.Mark.{Marks, marks, broken, marksOf}
 use Rattle.walk_laws.proofs.Anywhere.{Marking}
 use Rattle.search_laws.specs.Marks.{markBlocks}
 use Rattle.search_laws.specs.Answer.{Answered}

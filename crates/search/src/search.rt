@@ -53,7 +53,7 @@ fn find(
     ensures { λ r. ⌜ Answered (markBlocks h (now (nodes .entry)) (now (pages .entry)) (now (sketch .entry)) radius (now (working .entry))) (isHit (test (now (pages .entry)) (now (sketches .entry)) h (openClasses (now (settings .entry)) reader) (now (sketch .entry)) radius)) words (now (output .entry)) (r .number) (r .count) (now (output .exit)) ⌝ }
     ensures { λ r. ⌜ now (working .exit) ≡ zeroed (now (working .entry)) 0 (words + summaryOf words) ⌝ }
 {
-    let marked = marks::mark_blocks(nodes, pages, working, h, words, sketch, radius);
+    let marked = marks::mark_blocks(nodes, pages, working, h, sketch, radius);
     let Left::Some(_) = marked else {
         hits::clear_marks(working, words);
         return Found {

@@ -25,7 +25,7 @@ use Rattle.hits.specs.Marks.{summaryOf, Room, listOf, keptMap}
 use Rattle.hits.proofs.Listed.{testOf, wanted, list-wanted, list-scan}
 use Rattle.promises.specs.Sound.{Sound, livePage, pageBytes}
 use Rattle.promises.specs.Readings.{listedOf}
-use Rattle.walk.specs.Mark.{Marks, marks, markAll}
+use Rattle.marking.specs.Mark.{Marks, marks, markAll}
 use Rattle.walk_laws.proofs.Marks.{flag-marks}
 use Rattle.search_laws.specs.Answer.{words as wordsOf, cleared as clearedOf, walks as walksOf}
 use Rattle.search_laws.proofs.Marks.{blocks-marking, marking-length}

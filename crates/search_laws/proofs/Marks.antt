@@ -18,7 +18,7 @@ use Rattle.layout.specs.Working.{mapWords}
 use Rattle.hits.specs.Marks.{summaryOf, Room, Summarised}
 use Rattle.meaning.proofs.Lists.{and-first, and-second}
 use Rattle.trie_laws.proofs.Lists.{all-more}
-use Rattle.walk.specs.Mark.{Marks, marks, marked, markAll}
+use Rattle.marking.specs.Mark.{Marks, marks, marked, markAll}
 use Rattle.walk_laws.proofs.Marks.{mark-length, summarised-marks}
 use Rattle.walk_laws.proofs.Anywhere.{Marking, none-marked, Marked, marked-same, marked-on, walk-marked}
 use Rattle.search_laws.specs.Marks.{walkOf, markBlock, markFrom, markBlocks}

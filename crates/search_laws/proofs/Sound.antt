@@ -27,7 +27,7 @@ use Rattle.meaning.proofs.Lists.{and-intro, all-append, count-upto}
 use Rattle.trie_laws.proofs.Nodes.{nodes-some}
 use Rattle.trie_laws.proofs.Pages.{stands-length}
 use Rattle.promises.specs.Sound.{triesCells, Rooted}
-use Rattle.walk.specs.Mark.{Marks, marks, markAll, onMarks}
+use Rattle.marking.specs.Mark.{Marks, marks, markAll, onMarks}
 use Rattle.walk_laws.proofs.Marks.{mark-append}
 use Rattle.walk_laws.proofs.Walk.{walk-right, met-small}
 use Rattle.search_laws.specs.Marks.{walkOf, markBlock, markFrom, markBlocks}

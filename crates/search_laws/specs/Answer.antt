@@ -10,7 +10,7 @@ use Rattle.rights.specs.Open.{openClasses}
 use Rattle.promises.specs.Tables.{Tables, given}
 use Rattle.hits.specs.Hit.{test, isHit}
 use Rattle.hits.specs.Marks.{summaryOf, listOf, keptMap}
-use Rattle.walk.specs.Mark.{Marks, marks, broken}
+use Rattle.marking.specs.Mark.{Marks, marks, broken}
 use Rattle.promises.specs.Readings.{Lists, earlyNumber}
 use Rattle.search_laws.specs.Marks.{markBlocks}
 

@@ -6,13 +6,22 @@ use Rattle.layout.specs.declared.Header.{Header}
 use Rattle.layout.specs.Header.{bare}
 use Rattle.layout.specs.Pages.{nextAt}
 use Rattle.layout.specs.Working.{mapWords}
-use Rattle.walk.specs.Mark.{Marks, marks, onMarks}
-use Rattle.walk.specs.Walk.{Given, given, walkFrom}
+use Rattle.marking.specs.declared.Scope.{Scope}
+use Rattle.marking.specs.Mark.{Marks, marks, onMarks}
+use Rattle.marking.specs.Given.{Given, within}
+use Rattle.walk.specs.Walk.{walkFrom}
+
+-- what the walk of block j goes by
+abbrev pub scopeOf : Header → ℕ → Scope
+scopeOf h j = record {
+  block = record { nodes = h .nodes; pages = h .pages; base = nextAt (h .pages) j };
+  words = mapWords (bare h);
+  b = h .b;
+}
 
 module _ (h : Header) (N P x : List ℕ) where
-  -- what the walk of block j goes by
   abbrev pub walkOf : ℕ → Given
-  walkOf j = given N P (h .nodes) (h .pages) (nextAt (h .pages) j) (mapWords (bare h)) (h .b) (bytesOfSketch (bare h) j x)
+  walkOf j = within N P (bytesOfSketch (bare h) j x) (scopeOf h j)
 
   module _ (blockRadius : ℕ) where
     -- block j, with so many nodes to read; node j is its root

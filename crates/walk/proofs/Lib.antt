@@ -1,10 +1,6 @@
-pub mod Spend
-pub mod LeafSteps
 pub mod Steps
 pub mod Stack
 pub mod Turns
-pub mod Flush
-pub mod Pending
-pub mod Marking
+pub mod Moves
 pub mod Behind
-pub mod Ready
+pub mod Standing

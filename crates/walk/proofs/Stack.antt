@@ -1,7 +1,6 @@
 -- The frames of a walk: all heads of frames lie in the node table.
 use Prim.Native.Nat.{ℕ, _*_, _<_}
 use native.Mathlib.Omega.{arith}
-use mathlib.Core.Path.{_≡_, sym, subst}
 use mathlib.Core.List.{List}
 use Rattle.layout.specs.Nodes.{nodeWords}
 use Rattle.walk.specs.declared.frame.Frame.{Frame}
@@ -15,9 +14,6 @@ noFrame = record { at = 0; last = 0; link = 0; radius = 0 }
 abbrev pub Inside : ℕ → Frame → Type 0
 Inside cap frame = frame .last < nodeWords cap
 
-entered-inside : (nodes : List ℕ) (cap x radius : ℕ) → x < cap → Inside cap (entered nodes cap x radius)
+pub entered-inside : (nodes : List ℕ) (cap x radius : ℕ) → x < cap → Inside cap (entered nodes cap x radius)
 unfolding entered
 entered-inside nodes cap x radius l = omega arith
-
-pub inside-entered : (nodes : List ℕ) (cap x radius : ℕ) (frame : Frame) → frame ≡ entered nodes cap x radius → x < cap → Inside cap frame
-inside-entered nodes cap x radius frame e l = subst (Inside cap) (sym e) (entered-inside nodes cap x radius l)

@@ -10,19 +10,16 @@ use Rattle.layout.specs.Nodes.{stateAt}
 use Rattle.walk.specs.declared.frame.Frame.{Frame}
 use Rattle.walk.specs.declared.frame.Step.{Step}
 use Rattle.walk.specs.declared.frame.Step.the-variants as step
-use Rattle.walk.specs.Mark.{Marks, marks, broken, onMarks, spend}
-use Rattle.walk.specs.Frame.{entered, stepIn, reads}
-use Rattle.walk.specs.Walk.{Given, Fitting, state, atLink, mark, exactFrom, markExact, above, follow, run, walkBelow, markedLeaf, walkFrom}
+use Rattle.marking.specs.Mark.{Marks, marks, broken, onMarks, spend}
+use Rattle.walk.specs.Frame.{atLink, entered, stepIn, reads}
+use Rattle.marking.specs.Given.{Given, Fitting, mark, exactFrom, markExact}
+use Rattle.walk.specs.Walk.{state, above, follow, run, walkBelow, markedLeaf, walkFrom}
 
 pub fitting-kept : (w : Given) (map after : List ℕ) → length after ≡ length map → Fitting w map → Fitting w after
 fitting-kept w map after e h = record {
   nodes = h .nodes;
-  cap = h .cap;
   pages = h .pages;
-  pcap = h .pcap;
-  words = h .words;
-  bits = h .bits;
-  summary = omega (arith, h .summary);
+  bitmap = record { most = h .bitmap .most; bits = h .bitmap .bits; long = omega (arith, h .bitmap .long) };
   b = h .b;
   some = h .some;
   bytes = h .bytes;
@@ -35,13 +32,13 @@ module _ (w : Given) (f nodes : ℕ) (map : List ℕ) (left : ℕ) (frame : Fram
   run-spent e = rw e refl
 
   module _ (some : 0 < f) (depth : ℕ) (level : length stack ≡ depth) (found : Step)
-      (e : found ≡ stepIn (w .nodes) (w .cap) (w .b) frame (getD (w .bytes) depth 0)) where
+      (e : found ≡ stepIn (w .nodes) (w .block .nodes) (w .b) frame (getD (w .bytes) depth 0)) where
     pub run-by : (s : Step) → found ≡ s
         → run w f nodes (state map left frame stack) ≡ spend nodes (reads frame) (λ k. follow w (run w (f - 1)) k map left frame stack s)
     unfolding run
     run-by s q =
         ap (λ n. run w n nodes (state map left frame stack)) (suc-pred f some)
-        ∙ ap (λ n. by (stepIn (w .nodes) (w .cap) (w .b) frame (getD (w .bytes) n 0))) level
+        ∙ ap (λ n. by (stepIn (w .nodes) (w .block .nodes) (w .b) frame (getD (w .bytes) n 0))) level
         ∙ ap by (sym e ∙ q)
       where
         by : Step → Marks
@@ -69,16 +66,12 @@ module _ (w : Given) (f nodes : ℕ) (map : List ℕ) (left : ℕ) (frame : Fram
         level
 
     pub run-down : (x radius link : ℕ) (below : Frame) (stack′ : List Frame) → found ≡ step.Down x radius link → depth + 1 < length (w .bytes)
-        → below ≡ entered (w .nodes) (w .cap) x radius → stack′ ≡ atLink frame (frame .at) link ∷ stack
+        → below ≡ entered (w .nodes) (w .block .nodes) x radius → stack′ ≡ atLink frame (frame .at) link ∷ stack
         → run w f nodes (state map left frame stack) ≡ spend nodes (reads frame) (λ k. run w (f - 1) k (state map left below stack′))
     run-down x radius link below stack′ q l b s =
         run-by (step.Down x radius link) q
         ∙ rw (level, lt-ltb (depth + 1) (length (w .bytes)) l)
         (ap₂ (λ g fs. spend nodes (reads frame) (λ k. run w (f - 1) k (state map left g fs))) (sym b) (sym s))
-
-    pub run-deep : (x radius link : ℕ) → found ≡ step.Down x radius link → length (w .bytes) ≤ depth + 1
-        → run w f nodes (state map left frame stack) ≡ spend nodes (reads frame) (λ k. broken)
-    run-deep x radius link q l = run-by (step.Down x radius link) q ∙ rw (level, le-ltb (depth + 1) (length (w .bytes)) l)
 
     pub run-up : (back : Frame) (stack′ : List Frame) → found ≡ step.Up → stack ≡ back ∷ stack′
         → run w f nodes (state map left frame stack) ≡ spend nodes (reads frame) (λ k. run w (f - 1) k (state map left back stack′))
@@ -90,17 +83,14 @@ module _ (w : Given) (f nodes : ℕ) (map : List ℕ) (left : ℕ) (frame : Fram
         run-by step.Up q
         ∙ ap (λ fs. spend nodes (reads frame) (λ k. above w (run w (f - 1)) k map left frame stack fs)) (length-none stack (level ∙ z))
 
-    pub run-broken : found ≡ step.Broken → run w f nodes (state map left frame stack) ≡ spend nodes (reads frame) (λ k. broken)
-    run-broken q = run-by step.Broken q
-
 -- ---- from a root
 module _ (w : Given) (root radius nodes : ℕ) (map : List ℕ) where
-  pub from-exact : radius ≡ 0 → markExact w (λ m l k. marks m k) map (w .pcap) nodes (exactFrom w root 0) ≡ walkFrom w root radius nodes map
+  pub from-exact : radius ≡ 0 → markExact w (λ m l k. marks m k) map (w .block .pages) nodes (exactFrom w root 0) ≡ walkFrom w root radius nodes map
   unfolding walkFrom
   from-exact z = rw (eq-eqb radius 0 z)
 
   -- whose state stands at `at`
-  module _ (some : 0 < radius) (at : ℕ) (e : at ≡ stateAt (w .cap) root) where
+  module _ (some : 0 < radius) (at : ℕ) (e : at ≡ stateAt (w .block .nodes) root) where
     pub from-free : getD (w .nodes) at 0 ≡ 0 → broken ≡ walkFrom w root radius nodes map
     unfolding walkFrom
     from-free z = rw (ne-eqb radius 0 (omega arith), ← e, eq-eqb (getD (w .nodes) at 0) 0 z)

@@ -16,6 +16,10 @@ unfoldable pub entered : List ℕ → ℕ → ℕ → ℕ → Frame
 entered nodes cap x radius =
     record { at = headAt cap x 0; last = headAt cap x 7; link = linkOf (getD nodes (headAt cap x 0) 0); radius = radius }
 
+-- a frame to go on from
+abbrev pub atLink : Frame → ℕ → ℕ → Frame
+atLink frame at link = record { at = at; last = frame .last; link = link; radius = frame .radius }
+
 -- the step to node x, at distance d, in the chain of the head `at`; `link` is after it
 unfoldable pub stepTo : List ℕ → ℕ → ℕ → ℕ → ℕ → ℕ → ℕ → Step
 stepTo nodes cap x d radius at link =

@@ -1,4 +1,3 @@
-pub mod Mark
 pub mod Frame
+pub mod Turn
 pub mod Walk
-pub mod Waiting

@@ -1,10 +1,10 @@
 // The children of an inner node that a walk has still to go through, and the step to the next of them.
 ghost use mathlib.Core.Path.{_≡_};
-ghost use Prim.Native.Nat.{_*_, _<_, _≤_};
-ghost use lib.ListN.{length};
-ghost use Rattle.layout.specs.Nodes.{nodeWords, mostNodes};
+ghost use Prim.Native.Nat.{_<_};
+ghost use Rattle.layout.specs.Nodes.{nodeWords};
 ghost use Rattle.sketch.specs.Settings.{Bits};
 ghost use Rattle.distances.specs.Table.{distanceTable};
+ghost use Rattle.layout.specs.Tables.{NodeTable};
 ghost use Rattle.walk.specs.Frame.{entered, stepTo, stepAlong, stepIn, reads};
 
 // The children from `link` on in the chain whose head is at `at`, and those in the chains of the next heads, up to `last`.
@@ -34,7 +34,8 @@ pub enum Step {
 
 // All chains of a node.
 pub fn enter(nodes: &[u32], cap: usize, node: usize, radius: u32) -> Frame
-    requires { ⌜ (nodeWords cap ≤ length (now nodes)) × (cap ≤ mostNodes) × (node < cap) ⌝ }
+    requires { ⌜ NodeTable cap (now nodes) ⌝ }
+    requires { ⌜ node < cap ⌝ }
     ensures { λ r. ⌜ r ≡ entered (now (nodes .entry)) cap node radius ⌝ }
 {
     let first = layout::nodes::head_at(cap, node, 0);
@@ -49,7 +50,8 @@ pub fn enter(nodes: &[u32], cap: usize, node: usize, radius: u32) -> Frame
 
 // The step to node x, at distance d from the query's byte, in the chain of the head `at`; `link` is after it.
 fn step_to(nodes: &[u32], cap: usize, x: usize, d: u32, radius: u32, at: u32, link: u32) -> Step
-    requires { ⌜ (nodeWords cap ≤ length (now nodes)) × (cap ≤ mostNodes) × (x < cap) ⌝ }
+    requires { ⌜ NodeTable cap (now nodes) ⌝ }
+    requires { ⌜ x < cap ⌝ }
     ensures { λ r. ⌜ r ≡ stepTo (now (nodes .entry)) cap x d radius at link ⌝ }
 {
     if radius < d {
@@ -74,7 +76,8 @@ fn step_to(nodes: &[u32], cap: usize, x: usize, d: u32, radius: u32, at: u32, li
 fn step_along(table: &[u8; 2048], nodes: &[u32], cap: usize, b: u32, frame: Frame, y: u8) -> Step
     requires { ⌜ now table ≡ distanceTable ⌝ }
     requires { ⌜ Bits b ⌝ }
-    requires { ⌜ (nodeWords cap ≤ length (now nodes)) × (cap ≤ mostNodes) × (0 < frame .link) ⌝ }
+    requires { ⌜ NodeTable cap (now nodes) ⌝ }
+    requires { ⌜ 0 < frame .link ⌝ }
     ensures { λ r. ⌜ r ≡ stepAlong (now (nodes .entry)) cap b frame y ⌝ }
 {
     let x = frame.link as usize - 1;
@@ -92,7 +95,8 @@ fn step_along(table: &[u8; 2048], nodes: &[u32], cap: usize, b: u32, frame: Fram
 pub fn next_step(table: &[u8; 2048], nodes: &[u32], cap: usize, b: u32, frame: Frame, y: u8) -> Step
     requires { ⌜ now table ≡ distanceTable ⌝ }
     requires { ⌜ Bits b ⌝ }
-    requires { ⌜ (nodeWords cap ≤ length (now nodes)) × (cap ≤ mostNodes) × (frame .last < nodeWords cap) ⌝ }
+    requires { ⌜ NodeTable cap (now nodes) ⌝ }
+    requires { ⌜ frame .last < nodeWords cap ⌝ }
     ensures { λ r. ⌜ r ≡ stepIn (now (nodes .entry)) cap b frame y ⌝ }
 {
     if frame.link != 0 {

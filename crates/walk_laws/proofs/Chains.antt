@@ -13,26 +13,14 @@ use Rattle.meaning.specs.Trie.{Children, none, met, metIn}
 use Rattle.layout.specs.Nodes.{linkOf, byteOf, chainWord, stateAt, innerState, leafState, linkBase}
 use Rattle.children.specs.Heap.{Holds}
 use Rattle.children.specs.Phys.{Phys, leafP, innerP, Chain, stop, link, root, tree, childrenC, cellsC, Sound, SoundC}
-use Rattle.children.proofs.Chains.{root-below}
+use Rattle.trie.proofs.Fresh.{chain-head}
+use Rattle.children.proofs.Chains.{linkC}
 use Rattle.walk.specs.declared.frame.Frame.{Frame}
 use Rattle.walk.specs.declared.frame.Step.the-variants.{Stay, Leaf, Exact, Down, Up}
 use Rattle.walk.specs.Frame.{stepTo, stepIn}
 use Rattle.walk.proofs.Steps.{along-inside}
 
 -- ---- what the tables hold
-
--- the link to the first node of a chain
-abbrev pub firstLink : Chain → ℕ
-firstLink stop = 0
-firstLink (link c t ch) = root t + 1
-
-pub slot-word : (cap base : ℕ) (N P : List ℕ) (ch : Chain) (s y : ℕ) → Holds (cellsC cap base ch s y) N P → getD N s 0 ≡ chainWord y (firstLink ch)
-slot-word cap base N P stop s y h = h
-slot-word cap base N P (link c t ch) s y h = h .0
-
-pub first-below : (cap pcap : ℕ) (ch : Chain) (lo hi : ℕ) → SoundC cap pcap ch lo hi → firstLink ch ≤ cap
-first-below cap pcap stop lo hi s = omega arith
-first-below cap pcap (link c t ch) lo hi s = omega (arith, root-below cap pcap t (s .2))
 
 pub link-in : (y l : ℕ) → l < linkBase → linkOf (chainWord y l) ≡ l
 link-in y l h = omega arith

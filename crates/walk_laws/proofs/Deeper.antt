@@ -11,15 +11,17 @@ use Rattle.meaning.specs.Trie.{met, metIn}
 use Rattle.children.specs.Heap.{Holds}
 use Rattle.children.specs.Phys.{Phys, leafP, innerP, end, bucket, stop, link, tree, cells, noHeads, Sound}
 use Rattle.walk.specs.declared.frame.Step.the-variants.{Exact, Down}
-use Rattle.walk.specs.Mark.{marks, broken, markAll, markLeaf}
+use Rattle.marking.specs.Mark.{marks, broken, markAll, markLeaf}
 use Rattle.walk.specs.Frame.{entered, stepTo, stepAlong, stepIn, reads}
-use Rattle.walk.specs.Walk.{Given, given, run, walkBelow, walkFrom}
+use Rattle.marking.specs.Given.{Given, given}
+use Rattle.walk.specs.Walk.{run, walkBelow, walkFrom}
 use Rattle.descent.specs.Cursor.{arrive, pass, advance, descended, drawn, leafOf}
 use Rattle.walk_laws.specs.Near.{near, nearB, nearC}
 use Rattle.walk_laws.specs.Trail.{trailFrom}
 use Rattle.walk_laws.proofs.Fit.{Fit}
 use Rattle.walk_laws.proofs.Leads.{steps-below}
 use Rattle.walk_laws.proofs.Right.{WalkRight, right, right-trail}
+use Rattle.walk_laws.proofs.Example.{pageTable, block}
 
 -- node 1 has byte 180, and node 2 below it byte 27 and page 7
 abbrev nodeTable : List ℕ
@@ -29,12 +31,9 @@ nodeTable =
     3 ∷ 0 ∷ 0 ∷ 0 ∷ 0 ∷ 0 ∷ 0 ∷ 0 ∷
     0 ∷ 0 ∷ 0 ∷ 0 ∷ 0 ∷ 0 ∷ 0 ∷ 0 ∷ []
 
-abbrev pageTable : List ℕ
-pageTable = 0 ∷ 0 ∷ 0 ∷ 0 ∷ 0 ∷ 0 ∷ 0 ∷ 0 ∷ 0 ∷ 0 ∷ 0 ∷ 0 ∷ 0 ∷ 0 ∷ 0 ∷ 0 ∷ 0 ∷ 0 ∷ 0 ∷ 0 ∷ 0 ∷ 0 ∷ 0 ∷ 0 ∷ []
-
 -- for a query of the bytes 181 and y
 abbrev w : ℕ → Given
-w y = given nodeTable pageTable 3 8 16 1 2 (181 ∷ y ∷ [])
+w y = given nodeTable pageTable block 1 2 (181 ∷ y ∷ [])
 
 abbrev t₁ : Phys
 t₁ =

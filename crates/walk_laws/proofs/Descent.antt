@@ -11,7 +11,7 @@ use borrow.Author.Tests.{eq-eqb, ne-eqb, le-ltb}
 use Rattle.layout.specs.Nodes.{linkOf, byteOf, chainWord, stateAt, headAt, innerState, leafState, linkBase}
 use Rattle.descent.specs.declared.Cursor.{Cursor}
 use Rattle.descent.specs.Cursor.{ended, ahead, arrive, advance, descended, drawn, leafOf}
-use Rattle.descent.proofs.Steps.{descended-ended, advance-along, advance-past, advance-down}
+use Rattle.descent.proofs.Steps.{descended-ended, drawn-ended, advance-along, advance-past, advance-down}
 use Rattle.walk_laws.specs.Trail.{reached, exactTrail}
 use Rattle.walk_laws.proofs.Chains.{link-in, byte-in}
 
@@ -34,17 +34,12 @@ module _ (nodes : List ℕ) (cap : ℕ) (bytes : List ℕ) where
   stays-none c e zero = refl
   stays-none c e (suc f) = rw (eq-eqb (c .link) 0 e) (stays-none c e f)
 
-  draws-none : (c : Cursor) → c .link ≡ 0 → (f : ℕ) → drawn nodes cap bytes f c ≤ 0
-  unfolding drawn
-  draws-none c e zero = omega arith
-  draws-none c e (suc f) = rw (eq-eqb (c .link) 0 e) (omega arith)
-
   pub led-end : (c : Cursor) → c .link ≡ 0 → Led c (c .first) 0 []
   led-end c e = record {
     over = λ f l. ap (λ d. d .link) (descended-ended nodes cap bytes f c e) ∙ e;
     first = λ f l. ap (λ d. d .first) (descended-ended nodes cap bytes f c e);
     went = λ f l. stays-none c e f;
-    drew = draws-none c e;
+    drew = λ f. omega (arith, drawn-ended nodes cap bytes f c e);
   }
 
   step-over : (c : Cursor) (leaf cost : ℕ) (went : List ℕ) → Led (advance nodes cap bytes c) leaf cost went

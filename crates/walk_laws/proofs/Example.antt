@@ -7,11 +7,13 @@ use lib.ListN.{length, getD}
 use Rattle.meaning.specs.Lists.{count, from, upto}
 use Rattle.meaning.specs.Sketch.{perByte, group, byteDistance}
 use Rattle.meaning.specs.Trie.{met, metIn}
+use Rattle.layout.specs.declared.Block.{Block}
 use Rattle.children.specs.Heap.{Holds}
 use Rattle.children.specs.Phys.{Phys, leafP, innerP, end, bucket, stop, link, tree, cells, noHeads, Sound}
-use Rattle.walk.specs.Mark.{marks, broken, markAll, markLeaf}
+use Rattle.marking.specs.Mark.{marks, broken, markAll, markLeaf}
 use Rattle.walk.specs.Frame.{entered, stepTo, stepAlong, stepIn, reads}
-use Rattle.walk.specs.Walk.{Given, given, run, walkBelow, walkFrom}
+use Rattle.marking.specs.Given.{Given, given}
+use Rattle.walk.specs.Walk.{run, walkBelow, walkFrom}
 use Rattle.descent.specs.Cursor.{arrive, pass, advance, descended, drawn, leafOf}
 use Rattle.walk_laws.specs.Near.{near, nearB, nearC, nearNodes, nearNodesIn, pathsIn, pathsAmong}
 use Rattle.walk_laws.specs.Trail.{trailFrom, exactTrail}
@@ -27,11 +29,15 @@ nodeTable =
     0 ∷ 0 ∷ 0 ∷ 0 ∷ 0 ∷ 0 ∷ 0 ∷ 0 ∷
     0 ∷ 0 ∷ 0 ∷ 0 ∷ 0 ∷ 0 ∷ 0 ∷ 0 ∷ []
 
-abbrev pageTable : List ℕ
+-- no page has a next
+abbrev pub pageTable : List ℕ
 pageTable = 0 ∷ 0 ∷ 0 ∷ 0 ∷ 0 ∷ 0 ∷ 0 ∷ 0 ∷ 0 ∷ 0 ∷ 0 ∷ 0 ∷ 0 ∷ 0 ∷ 0 ∷ 0 ∷ 0 ∷ 0 ∷ 0 ∷ 0 ∷ 0 ∷ 0 ∷ 0 ∷ 0 ∷ []
 
+abbrev pub block : Block
+block = record { nodes = 3; pages = 8; base = 16 }
+
 abbrev w : Given
-w = given nodeTable pageTable 3 8 16 1 2 (228 ∷ [])
+w = given nodeTable pageTable block 1 2 (228 ∷ [])
 
 abbrev t : Phys
 t =
@@ -138,7 +144,7 @@ near-none : near 2 0 t (228 ∷ []) ≡ 0 ∷ 2 ∷ []
 unfolding near nearB nearC byteDistance count upto from perByte group
 near-none = refl
 
-pub example-exact : (map : List ℕ) → markLeaf pageTable 1 8 16 map (leafLink 228) 8 ≡ marks (markAll map 1 (7 ∷ [])) 7
+pub example-exact : (map : List ℕ) → markLeaf pageTable block 1 map (leafLink 228) 8 ≡ marks (markAll map 1 (7 ∷ [])) 7
 example-exact map =
     sub-marks w (omega arith) query t 0 holds sound fits (omega arith) map 8 (rw met-none (omega arith))
     ∙ ap (λ (ps : List ℕ). marks (markAll map 1 ps) (8 - length ps)) met-none

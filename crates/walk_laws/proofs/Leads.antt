@@ -14,13 +14,13 @@ use Rattle.sketch_laws.proofs.ByteDistance.{byte-distance-zero}
 use Rattle.layout.specs.Nodes.{linkOf, chainWord, headAt, linkBase, mostNodes}
 use Rattle.children.specs.Heap.{Holds}
 use Rattle.children.specs.Phys.{Phys, leafP, innerP, Buckets, end, bucket, Chain, stop, link, root, first, tree, childrenB, childrenC, pageCells, cells, cellsB, cellsC, Below, Sound, SoundB, SoundC}
+use Rattle.children.proofs.Chains.{linkC, link-below, root-below, slot-word}
 use Rattle.trie_laws.proofs.Lists.{less, same, more, compared}
-use Rattle.children.proofs.Chains.{root-below}
 use Rattle.descent.specs.declared.Cursor.{Cursor}
 use Rattle.descent.specs.Cursor.{ended, ahead, arrive}
 use Rattle.walk_laws.specs.Near.{near, nearB, nearC}
 use Rattle.walk_laws.proofs.Apart.{apart}
-use Rattle.walk_laws.proofs.Chains.{firstLink, slot-word, first-below, link-in, met-chain}
+use Rattle.walk_laws.proofs.Chains.{link-in, met-chain}
 use Rattle.walk_laws.proofs.Descent.{Led, led-end, led-within, arrive-leaf, arrive-inner, led-less, led-more, led-same}
 use Rattle.walk_laws.proofs.Spelt.{Spelt}
 use Rattle.walk_laws.proofs.Fit.{Fit, FitB, FitC, byte-small, unmet, unmet-past, none-near, none-near-past}
@@ -110,16 +110,16 @@ module _ (N P : List ℕ) (cap pcap next b len : ℕ) (bytes : List ℕ) (last :
   -- a child and the rest of its chain
   child-leads : (t : Phys) (ch : Chain) (c y s z lo hi k at : ℕ) (ys : List ℕ) → Holds (cellsC cap next (link c t ch) s z) N P
       → SoundC cap pcap (link c t ch) lo hi → FitC b len (link c t ch) k → Spelt b bytes last (y ∷ ys) at
-      → Leads (ahead (firstLink ch) at last) (metIn b 0 (childrenC ch none) (y ∷ ys)) (nearC b 0 ch (y ∷ ys)) (stepsAlong ch)
+      → Leads (ahead (linkC ch) at last) (metIn b 0 (childrenC ch none) (y ∷ ys)) (nearC b 0 ch (y ∷ ys)) (stepsAlong ch)
       → Leads (arrive N cap bytes (root t) (at + 1) last) (met b 0 (tree t) ys) (nearBelow b t ys) (stepsBelow t)
       → Leads (ahead (root t + 1) at last) (metIn b 0 (childrenC (link c t ch) none) (y ∷ ys)) (nearC b 0 (link c t ch) (y ∷ ys)) (stepsAlong (link c t ch))
   child-leads t ch c y s z lo hi k at ys h sound fits q along down = elim (compared c y) [
     | less l tests ↦
         leads-same from from ps (metIn b 0 (childrenC ch none) (y ∷ ys)) xs (nearC b 0 ch (y ∷ ys)) (suc (stepsAlong ch)) cost refl
         (apart-met b c y ys t (childrenC ch none) (fits .0) (q .2) (omega arith)) (apart-near b c y ys t ch (fits .0) (q .2) (omega arith)) (omega arith)
-        (leads-by from (ahead (firstLink ch) at last) (metIn b 0 (childrenC ch none) (y ∷ ys)) (nearC b 0 ch (y ∷ ys)) (nearC b 0 ch (y ∷ ys)) (stepsAlong ch)
+        (leads-by from (ahead (linkC ch) at last) (metIn b 0 (childrenC ch none) (y ∷ ys)) (nearC b 0 ch (y ∷ ys)) (nearC b 0 ch (y ∷ ys)) (stepsAlong ch)
         (suc (stepsAlong ch)) along
-        (led-less N cap bytes (root t) c (firstLink ch) at last y inside word low (q .0) (first (metIn b 0 (childrenC ch none) (y ∷ ys))) (stepsAlong ch)
+        (led-less N cap bytes (root t) c (linkC ch) at last y inside word low (q .0) (first (metIn b 0 (childrenC ch none) (y ∷ ys))) (stepsAlong ch)
         (nearC b 0 ch (y ∷ ys)) l (along .led)))
     | same e tests ↦
         leads-same from from ps (met b 0 (tree t) ys) xs (root t ∷ nearBelow b t ys) (suc (stepsBelow t)) cost refl
@@ -131,14 +131,14 @@ module _ (N P : List ℕ) (cap pcap next b len : ℕ) (bytes : List ℕ) (last :
         (omega arith)
         (leads-by from (arrive N cap bytes (root t) (at + 1) last) (met b 0 (tree t) ys) (nearBelow b t ys) (root t ∷ nearBelow b t ys) (stepsBelow t)
         (suc (stepsBelow t)) down
-        (led-same N cap bytes (root t) c (firstLink ch) at last y inside word low (q .0) (first (met b 0 (tree t) ys)) (stepsBelow t) (nearBelow b t ys) e
+        (led-same N cap bytes (root t) c (linkC ch) at last y inside word low (q .0) (first (met b 0 (tree t) ys)) (stepsBelow t) (nearBelow b t ys) e
         (down .led)))
     | more l tests ↦
         leads-same from from ps [] xs [] 1 cost refl
         (unmet cap pcap b len y ys (q .2) (link c t ch) c hi k past fits (λ d u v w. absurd (omega arith)))
         (none-near cap pcap b len y ys (q .2) (link c t ch) c hi k past fits (λ d u v w. absurd (omega arith)))
         (omega arith)
-        (leads-none from 1 (led-more N cap bytes (root t) c (firstLink ch) at last y inside word low (q .0) l))
+        (leads-none from 1 (led-more N cap bytes (root t) c (linkC ch) at last y inside word low (q .0) l))
   ]
     where
       from : Cursor
@@ -156,11 +156,11 @@ module _ (N P : List ℕ) (cap pcap next b len : ℕ) (bytes : List ℕ) (last :
       inside : root t < cap
       inside = root-below cap pcap t (sound .2)
 
-      word : getD N (root t) 0 ≡ chainWord c (firstLink ch)
+      word : getD N (root t) 0 ≡ chainWord c (linkC ch)
       word = slot-word cap next N P ch (root t) c (h .1 .1)
 
-      low : firstLink ch < linkBase
-      low = omega (arith, first-below cap pcap ch (suc c) hi (sound .3))
+      low : linkC ch < linkBase
+      low = omega (arith, link-below cap pcap ch (suc c) hi (sound .3))
 
       past : SoundC cap pcap (link c t ch) c hi
       past = (omega arith, sound .1, sound .2, sound .3)
@@ -169,7 +169,7 @@ module _ (N P : List ℕ) (cap pcap next b len : ℕ) (bytes : List ℕ) (last :
   bucket-leads : (ch : Chain) (bs : Buckets) (x g y k at : ℕ) (ys : List ℕ) → Holds (cellsC cap next ch (headAt cap x g) 0) N P
       → SoundC cap pcap ch (32 * g) (32 * g + 32) → SoundB cap pcap bs (suc g) → FitC b len ch k → FitB b len bs k → Spelt b bytes last (y ∷ ys) at
       → g ≤ y / 32
-      → Leads (ahead (firstLink ch) at last) (metIn b 0 (childrenC ch none) (y ∷ ys)) (nearC b 0 ch (y ∷ ys)) (stepsAlong ch)
+      → Leads (ahead (linkC ch) at last) (metIn b 0 (childrenC ch none) (y ∷ ys)) (nearC b 0 ch (y ∷ ys)) (stepsAlong ch)
       → (suc g ≤ y / 32
       → Leads (ahead (linkOf (getD N (headAt cap x (y / 32)) 0)) at last) (metIn b 0 (childrenB bs) (y ∷ ys)) (nearB b 0 bs (y ∷ ys)) (stepsAmong bs))
       → Leads (ahead (linkOf (getD N (headAt cap x (y / 32)) 0)) at last) (metIn b 0 (childrenB (bucket ch bs)) (y ∷ ys)) (nearB b 0 (bucket ch bs) (y ∷ ys))
@@ -197,12 +197,12 @@ module _ (N P : List ℕ) (cap pcap next b len : ℕ) (bytes : List ℕ) (last :
 
       go : Dec (g ≡ y / 32) → Leads from (metIn b 0 (childrenB (bucket ch bs)) (y ∷ ys)) (xs ++ zs) (stepsAlong ch + stepsAmong bs)
       go (yes e) =
-          leads-same from (ahead (firstLink ch) at last) (metIn b 0 (childrenB (bucket ch bs)) (y ∷ ys)) ps (xs ++ zs) xs (stepsAlong ch)
+          leads-same from (ahead (linkC ch) at last) (metIn b 0 (childrenB (bucket ch bs)) (y ∷ ys)) ps (xs ++ zs) xs (stepsAlong ch)
           (stepsAlong ch + stepsAmong bs)
           (ap (λ n. ahead n at last)
           (ap (λ n. linkOf (getD N (headAt cap x n) 0)) (sym e)
           ∙ ap linkOf (slot-word cap next N P ch (headAt cap x g) 0 h)
-          ∙ link-in 0 (firstLink ch) (omega (arith, first-below cap pcap ch (32 * g) (32 * g + 32) sound))))
+          ∙ link-in 0 (linkC ch) (omega (arith, link-below cap pcap ch (32 * g) (32 * g + 32) sound))))
           (split ∙ ap (λ rs. ps ++ rs) (unmet-past cap pcap b len y ys (q .2) bs (suc g) k others fits′ (omega arith)) ∙ append-nil ps)
           (ap (λ rs. xs ++ rs) (none-near-past cap pcap b len y ys (q .2) bs (suc g) k others fits′ (omega arith)) ∙ append-nil xs)
           (omega arith) here
@@ -241,7 +241,7 @@ module _ (N P : List ℕ) (cap pcap next b len : ℕ) (bytes : List ℕ) (last :
 
     chain-leads : (ch : Chain) (s z lo hi y : ℕ) (ys : List ℕ) (k at : ℕ) → Holds (cellsC cap next ch s z) N P → SoundC cap pcap ch lo hi → FitC b len ch k
         → len ≤ k + length (y ∷ ys) → Spelt b bytes last (y ∷ ys) at
-        → Leads (ahead (firstLink ch) at last) (metIn b 0 (childrenC ch none) (y ∷ ys)) (nearC b 0 ch (y ∷ ys)) (stepsAlong ch)
+        → Leads (ahead (linkC ch) at last) (metIn b 0 (childrenC ch none) (y ∷ ys)) (nearC b 0 ch (y ∷ ys)) (stepsAlong ch)
     chain-leads stop s z lo hi y ys k at h sound u l q = leads-none (ahead 0 at last) 0 (led-end N cap bytes (ahead 0 at last) refl)
     chain-leads (link c t ch) s z lo hi y ys k at h sound u l q =
         child-leads t ch c y s z lo hi k at ys h sound u q

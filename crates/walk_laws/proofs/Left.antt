@@ -11,9 +11,10 @@ use Rattle.descent.specs.declared.Cursor.{Cursor}
 use Rattle.walk.specs.declared.frame.Frame.{Frame}
 use Rattle.walk.specs.declared.frame.Step.{Step}
 use Rattle.walk.specs.declared.frame.Step.the-variants as step
-use Rattle.walk.specs.Mark.{Marks, marks, broken, onMarks, spend}
-use Rattle.walk.specs.Frame.{entered, stepIn, reads}
-use Rattle.walk.specs.Walk.{Given, State, state, atLink, mark, exactFrom, leafFrom, drawnFrom, markExact, markedLeaf, follow, run, walkBelow, walkFrom}
+use Rattle.marking.specs.Mark.{Marks, marks, broken, onMarks, spend}
+use Rattle.walk.specs.Frame.{atLink, entered, stepIn, reads}
+use Rattle.marking.specs.Given.{Given, mark, exactFrom, leafFrom, drawnFrom, markExact}
+use Rattle.walk.specs.Walk.{State, state, markedLeaf, follow, run, walkBelow, walkFrom}
 
 abbrev AtMost : ℕ → Marks → Type 0
 AtMost n (marks map k) = k ≤ n
@@ -51,7 +52,7 @@ module _ (w : Given) where
   follow-most go h n map left frame stack (step.Down x radius link) = deep (ltb (length stack + 1) (length (w .bytes)))
     where
       below : State
-      below = state map left (entered (w .nodes) (w .cap) x radius) (atLink frame (frame .at) link ∷ stack)
+      below = state map left (entered (w .nodes) (w .block .nodes) x radius) (atLink frame (frame .at) link ∷ stack)
 
       deep : (q : Bool) → AtMost n (cond q (go n below) broken)
       deep true = h n below
@@ -64,7 +65,7 @@ module _ (w : Given) where
   unfolding run
   run-most zero n s = tt
   run-most (suc f) n s =
-      let found : Step = stepIn (w .nodes) (w .cap) (w .b) (s .frame) (getD (w .bytes) (length (s .stack)) 0) in
+      let found : Step = stepIn (w .nodes) (w .block .nodes) (w .b) (s .frame) (getD (w .bytes) (length (s .stack)) 0) in
       spend-most n (reads (s .frame)) (λ k. follow w (run w f) k (s .map) (s .left) (s .frame) (s .stack) found)
       (λ k. follow-most (run w f) (run-most f) k (s .map) (s .left) (s .frame) (s .stack) found)
 
@@ -73,19 +74,19 @@ module _ (w : Given) where
   walk-most root radius n map = go (eqb radius 0) (eqb word freeState) (eqb word innerState)
     where
       word : ℕ
-      word = getD (w .nodes) (stateAt (w .cap) root) 0
+      word = getD (w .nodes) (stateAt (w .block .nodes) root) 0
 
       start : State
-      start = state map (w .pcap) (entered (w .nodes) (w .cap) root radius) []
+      start = state map (w .block .pages) (entered (w .nodes) (w .block .nodes) root radius) []
 
       go : (p q r : Bool)
           → AtMost n
-          (cond p (markExact w (λ m l k. marks m k) map (w .pcap) n (exactFrom w root 0))
-          (cond q broken (cond r (run w (stepsFor (w .cap)) n start) (markedLeaf w n map (word - 2)))))
-      go true q r = exact-most (λ m l k. marks m k) (λ m l k. omega arith) map (w .pcap) n (exactFrom w root 0)
+          (cond p (markExact w (λ m l k. marks m k) map (w .block .pages) n (exactFrom w root 0))
+          (cond q broken (cond r (run w (stepsFor (w .block .nodes)) n start) (markedLeaf w n map (word - 2)))))
+      go true q r = exact-most (λ m l k. marks m k) (λ m l k. omega arith) map (w .block .pages) n (exactFrom w root 0)
       go false true r = tt
-      go false false true = run-most (stepsFor (w .cap)) n start
-      go false false false = on-most n (λ m l. marks m n) (mark w map (w .pcap) (word - 2)) (λ m l. omega arith)
+      go false false true = run-most (stepsFor (w .block .nodes)) n start
+      go false false false = on-most n (λ m l. marks m n) (mark w map (w .block .pages) (word - 2)) (λ m l. omega arith)
 
   pub walk-left : (root radius n : ℕ) (map after : List ℕ) (k : ℕ) → walkFrom w root radius n map ≡ marks after k → k ≤ n
   walk-left root radius n map after k e = subst (AtMost n) e (walk-most root radius n map)

@@ -13,8 +13,8 @@ use Rattle.words.proofs.Flags.{flag-with, flag-with-apart}
 use Rattle.meaning.proofs.Lists.{and-first, and-second}
 use Rattle.hits.specs.Marks.{Room, Summarised}
 use Rattle.hits.proofs.Summary.{summarised-mark}
-use Rattle.walk.specs.Mark.{marked, markAll}
-use Rattle.walk.proofs.LeafSteps.{marked-length}
+use Rattle.marking.specs.Mark.{marked, markAll}
+use Rattle.marking.proofs.LeafSteps.{marked-length}
 
 or-cond : (q f : Bool) → cond q true f ≡ f || q
 or-cond true true = refl

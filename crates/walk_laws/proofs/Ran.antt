@@ -13,24 +13,26 @@ use Rattle.descent.specs.declared.Cursor.{Cursor}
 use Rattle.walk.specs.declared.frame.Frame.{Frame}
 use Rattle.walk.specs.declared.frame.Step.{Step}
 use Rattle.walk.specs.declared.frame.Step.the-variants as step
-use Rattle.walk.specs.Mark.{Marks, marks, marked, markAll, onMarks, spend, markLeaf}
-use Rattle.walk.specs.Frame.{entered, stepIn, reads}
-use Rattle.walk.specs.Walk.{Given, State, state, atLink, mark, exactFrom, leafFrom, drawnFrom, markExact, run}
-use Rattle.walk.proofs.Spend.{spend-paid}
-use Rattle.walk.proofs.LeafSteps.{leaf-end, leaf-next}
+use Rattle.layout.specs.declared.Block.{Block}
+use Rattle.marking.specs.Mark.{Marks, marks, marked, markAll, onMarks, spend, markLeaf}
+use Rattle.walk.specs.Frame.{atLink, entered, stepIn, reads}
+use Rattle.marking.specs.Given.{Given, mark, exactFrom, leafFrom, drawnFrom, markExact}
+use Rattle.walk.specs.Walk.{State, state, run}
+use Rattle.marking.proofs.Spend.{spend-paid}
+use Rattle.marking.proofs.LeafSteps.{leaf-end, leaf-next}
 use Rattle.walk.proofs.Turns.{run-stay, run-leaf, run-exact, run-down, run-up, run-done}
 use Rattle.walk_laws.specs.Trail.{exactBelow, traceMarks, goes, trace, trail, trailFrom}
 
 -- ---- the pages of a leaf
-pub leaf-marks : (P : List ℕ) (words cap next : ℕ) (N map : List ℕ) (ps : List ℕ) (f : ℕ) → Holds (pageCells next ps) N P → Below cap ps
-    → length ps ≤ f → markLeaf P words cap next map (first ps) f ≡ marks (markAll map words ps) (f - length ps)
+pub leaf-marks : (P : List ℕ) (block : Block) (words : ℕ) (N map : List ℕ) (ps : List ℕ) (f : ℕ) → Holds (pageCells (block .base) ps) N P → Below (block .pages) ps
+    → length ps ≤ f → markLeaf P block words map (first ps) f ≡ marks (markAll map words ps) (f - length ps)
 unfolding markAll
-leaf-marks P words cap next N map [] f h b l = leaf-end P words cap next map 0 f refl ∙ ap (marks map) (omega arith)
-leaf-marks P words cap next N map (p ∷ ps) f h b l =
+leaf-marks P block words N map [] f h b l = leaf-end P block words map 0 f refl ∙ ap (marks map) (omega arith)
+leaf-marks P block words N map (p ∷ ps) f h b l =
     let back : p + 1 - 1 ≡ p = omega arith in
-    leaf-next P words cap next map (marked map words p) (p + 1) f (omega arith) (omega arith) (omega arith) (ap (marked map words) (sym back))
-    ∙ ap (λ n. markLeaf P words cap next (marked map words p) n (f - 1)) (ap (λ n. getD P (next + n) 0) back ∙ h .0)
-    ∙ leaf-marks P words cap next N (marked map words p) ps (f - 1) (h .1) (b .1) (omega arith)
+    leaf-next P block words map (marked map words p) (p + 1) f (omega arith) (omega arith) (omega arith) (ap (marked map words) (sym back))
+    ∙ ap (λ n. markLeaf P block words (marked map words p) n (f - 1)) (ap (λ n. getD P (block .base + n) 0) back ∙ h .0)
+    ∙ leaf-marks P block words N (marked map words p) ps (f - 1) (h .1) (b .1) (omega arith)
     ∙ ap (marks (markAll (marked map words p) words ps)) (omega arith)
 
 -- ---- an exact descent that the nodes last for, to a leaf that is in order
@@ -52,7 +54,7 @@ module _ (frame : Frame) where
 
 -- ---- the trail of one step
 module _ (w : Given) (f : ℕ) (map : List ℕ) (left : ℕ) (frame : Frame) (stack : List Frame) (some : 0 < f) where
-  trail-by : (s : Step) → stepIn (w .nodes) (w .cap) (w .b) frame (getD (w .bytes) (length stack) 0) ≡ s
+  trail-by : (s : Step) → stepIn (w .nodes) (w .block .nodes) (w .b) frame (getD (w .bytes) (length stack) 0) ≡ s
       → trail w f (state map left frame stack)
       ≡ goes w (length stack) (frame .link - 1) s ++ trace w (trail w (f - 1)) map left frame stack s
   unfolding trail
@@ -125,7 +127,7 @@ module _ (w : Given) (f n : ℕ) (some : 0 < f) (map : List ℕ) (left : ℕ) (f
   spent go = ap (λ k. spend n k go) read ∙ spend-paid n d go paid
 
   module _ (stack : List Frame) where
-    pub step-stay : (at link : ℕ) → stepIn (w .nodes) (w .cap) (w .b) frame (getD (w .bytes) (length stack) 0) ≡ step.Stay at link
+    pub step-stay : (at link : ℕ) → stepIn (w .nodes) (w .block .nodes) (w .b) frame (getD (w .bytes) (length stack) 0) ≡ step.Stay at link
         → Ran w f n (state map left frame stack) (state map left (atLink frame at link) stack) 1 d []
     step-stay at link e =
         ran-step (n - d) d (omega arith)
@@ -139,7 +141,7 @@ module _ (w : Given) (f n : ℕ) (some : 0 < f) (map : List ℕ) (left : ℕ) (f
 
     -- to the leaf x
     pub step-leaf : (x first′ link : ℕ) (after : List ℕ) (l : ℕ) → frame .link - 1 ≡ x
-        → stepIn (w .nodes) (w .cap) (w .b) frame (getD (w .bytes) (length stack) 0) ≡ step.Leaf first′ link
+        → stepIn (w .nodes) (w .block .nodes) (w .b) frame (getD (w .bytes) (length stack) 0) ≡ step.Leaf first′ link
         → mark w map left first′ ≡ marks after l
         → Ran w f n (state map left frame stack) (state after l (atLink frame (frame .at) link) stack) 1 d (x ∷ [])
     step-leaf x first′ link after l i e m =
@@ -152,7 +154,7 @@ module _ (w : Given) (f n : ℕ) (some : 0 < f) (map : List ℕ) (left : ℕ) (f
 
     -- to the inner node x, with nothing of the radius left, by a descent that reads at most e nodes
     pub step-exact : (x link : ℕ) (after : List ℕ) (l e : ℕ) → frame .link - 1 ≡ x
-        → stepIn (w .nodes) (w .cap) (w .b) frame (getD (w .bytes) (length stack) 0) ≡ step.Exact x link
+        → stepIn (w .nodes) (w .block .nodes) (w .b) frame (getD (w .bytes) (length stack) 0) ≡ step.Exact x link
         → mark w map left (leafFrom w (exactFrom w x (length stack + 1))) ≡ marks after l
         → drawnFrom w (exactFrom w x (length stack + 1)) ≤ e → d + e ≤ n
         → Ran w f n (state map left frame stack) (state after l (atLink frame (frame .at) link) stack) 1 (d + e) (x ∷ exactBelow w x (length stack + 1))
@@ -166,12 +168,12 @@ module _ (w : Given) (f n : ℕ) (some : 0 < f) (map : List ℕ) (left : ℕ) (f
         ∙ ap₂ (λ k a. k ∷ (exactBelow w x (length stack + 1) ++ traceMarks (λ b j. trail w (f - 1) (onward link b j)) a)) i m)
 
     pub step-down : (x radius link : ℕ) → frame .link - 1 ≡ x
-        → stepIn (w .nodes) (w .cap) (w .b) frame (getD (w .bytes) (length stack) 0) ≡ step.Down x radius link
+        → stepIn (w .nodes) (w .block .nodes) (w .b) frame (getD (w .bytes) (length stack) 0) ≡ step.Down x radius link
         → length stack + 1 < length (w .bytes)
         → Ran w f n (state map left frame stack)
-        (state map left (entered (w .nodes) (w .cap) x radius) (atLink frame (frame .at) link ∷ stack)) 1 d (x ∷ [])
+        (state map left (entered (w .nodes) (w .block .nodes) x radius) (atLink frame (frame .at) link ∷ stack)) 1 d (x ∷ [])
     step-down x radius link i e l =
-        let below : Frame = entered (w .nodes) (w .cap) x radius in
+        let below : Frame = entered (w .nodes) (w .block .nodes) x radius in
         let stack′ : List Frame = atLink frame (frame .at) link ∷ stack in
         ran-step (n - d) d (omega arith)
         (run-down w f n map left frame stack some (length stack) refl (step.Down x radius link) (sym e) x radius link below stack′ refl l refl refl
@@ -180,7 +182,7 @@ module _ (w : Given) (f n : ℕ) (some : 0 < f) (map : List ℕ) (left : ℕ) (f
         ∙ rw (lt-ltb (length stack + 1) (length (w .bytes)) l) (ap (λ k. k ∷ trail w (f - 1) (state map left below stack′)) i))
 
   pub step-up : (back : Frame) (stack : List Frame)
-      → stepIn (w .nodes) (w .cap) (w .b) frame (getD (w .bytes) (length (back ∷ stack)) 0) ≡ step.Up
+      → stepIn (w .nodes) (w .block .nodes) (w .b) frame (getD (w .bytes) (length (back ∷ stack)) 0) ≡ step.Up
       → Ran w f n (state map left frame (back ∷ stack)) (state map left back stack) 1 d []
   step-up back stack e =
       ran-step (n - d) d (omega arith)
@@ -188,17 +190,17 @@ module _ (w : Given) (f n : ℕ) (some : 0 < f) (map : List ℕ) (left : ℕ) (f
       ∙ spent (λ k. run w (f - 1) k (state map left back stack)))
       (trail-by w f map left frame (back ∷ stack) some step.Up e)
 
-  pub step-end : stepIn (w .nodes) (w .cap) (w .b) frame (getD (w .bytes) 0 0) ≡ step.Up → run w f n (state map left frame []) ≡ marks map (n - d)
+  pub step-end : stepIn (w .nodes) (w .block .nodes) (w .b) frame (getD (w .bytes) 0 0) ≡ step.Up → run w f n (state map left frame []) ≡ marks map (n - d)
   step-end e = run-done w f n map left frame [] some 0 refl step.Up (sym e) refl refl ∙ spent (marks map)
 
 pub trail-end : (w : Given) (f : ℕ) → 0 < f → (map : List ℕ) (left : ℕ) (frame : Frame)
-    → stepIn (w .nodes) (w .cap) (w .b) frame (getD (w .bytes) 0 0) ≡ step.Up → trail w f (state map left frame []) ≡ []
+    → stepIn (w .nodes) (w .block .nodes) (w .b) frame (getD (w .bytes) 0 0) ≡ step.Up → trail w f (state map left frame []) ≡ []
 trail-end w f some map left frame e = trail-by w f map left frame [] some step.Up e
 
 -- ---- from a root, by its state
 module _ (w : Given) (root radius : ℕ) (map : List ℕ) where
   abbrev word : ℕ
-  word = getD (w .nodes) (stateAt (w .cap) root) 0
+  word = getD (w .nodes) (stateAt (w .block .nodes) root) 0
 
   pub trail-exact : 0 < word → radius ≡ 0 → trailFrom w root radius map ≡ root ∷ exactBelow w root 0
   unfolding trailFrom
@@ -209,6 +211,6 @@ module _ (w : Given) (root radius : ℕ) (map : List ℕ) where
   trail-leaf l r = rw (ne-eqb word 0 (omega arith), ne-eqb word 1 (omega arith), ne-eqb radius 0 (omega arith))
 
   pub trail-inner : word ≡ 1 → 0 < radius
-      → trailFrom w root radius map ≡ root ∷ trail w (stepsFor (w .cap)) (state map (w .pcap) (entered (w .nodes) (w .cap) root radius) [])
+      → trailFrom w root radius map ≡ root ∷ trail w (stepsFor (w .block .nodes)) (state map (w .block .pages) (entered (w .nodes) (w .block .nodes) root radius) [])
   unfolding trailFrom
   trail-inner o r = rw (ne-eqb word 0 (omega arith), eq-eqb word 1 o, ne-eqb radius 0 (omega arith))

@@ -17,7 +17,7 @@ use Rattle.children.specs.Heap.{Holds}
 use Rattle.children.specs.Phys.{Phys, leafP, innerP, Buckets, end, bucket, Chain, stop, link, root, tree, childrenB, childrenC, cells, Below, Sound, SoundB, SoundC}
 use Rattle.children.proofs.Claims.{below-all}
 use Rattle.trie_laws.specs.Sound.{soundTrie}
-use Rattle.walk.specs.Walk.{Given}
+use Rattle.marking.specs.Given.{Given}
 use Rattle.walk_laws.specs.Near.{near, nearNodes, pathsIn, pathNear}
 use Rattle.walk_laws.specs.Trail.{trailFrom}
 use Rattle.walk_laws.proofs.Fit.{fit}
@@ -26,27 +26,27 @@ use Rattle.walk_laws.proofs.Near.{near-count, near-le, near-path, near-
 use Rattle.walk_laws.proofs.Right.{WalkRight, right, right-trail, steps-nodes}
 
 -- ---- on tables that hold a sound trie
-pub walk-right : (w : Given) (bytesOf : ℕ → List ℕ) (n : ℕ) (t : Phys) (radius budget : ℕ) (map : List ℕ) → w .cap ≤ mostNodes
+pub walk-right : (w : Given) (bytesOf : ℕ → List ℕ) (n : ℕ) (t : Phys) (radius budget : ℕ) (map : List ℕ) → w .block .nodes ≤ mostNodes
     → ((k : ℕ) → getD (w .bytes) k 0 < 2 ^ (w .b * perByte (w .b)))
-    → Holds (cells (w .cap) (w .next) t) (w .nodes) (w .pages) → Sound (w .cap) (w .pcap) t
+    → Holds (cells (w .block .nodes) (w .block .base) t) (w .nodes) (w .pages) → Sound (w .block .nodes) (w .block .pages) t
     → soundTrie bytesOf (w .b) n (length (w .bytes)) 0 (tree t) ≡ true
-    → nodes (tree t) ≤ w .cap → length (met (w .b) radius (tree t) (w .bytes)) ≤ w .pcap → nodes (tree t) ≤ budget + 1
+    → nodes (tree t) ≤ w .block .nodes → length (met (w .b) radius (tree t) (w .bytes)) ≤ w .block .pages → nodes (tree t) ≤ budget + 1
     → WalkRight w t radius budget map
 walk-right w bytesOf n t radius budget map small query h s sound few pages lasts =
     right w small query t radius map h s (fit bytesOf (w .b) n (length (w .bytes)) t 0 sound) (omega (arith, steps-below t))
-    (omega (arith, steps-nodes (w .cap) (w .pcap) t s)) pages budget lasts
+    (omega (arith, steps-nodes (w .block .nodes) (w .block .pages) t s)) pages budget lasts
 
 -- ---- the nodes it goes through there
-module _ (w : Given) (bytesOf : ℕ → List ℕ) (n : ℕ) (t : Phys) (radius : ℕ) (map : List ℕ) (small : w .cap ≤ mostNodes)
+module _ (w : Given) (bytesOf : ℕ → List ℕ) (n : ℕ) (t : Phys) (radius : ℕ) (map : List ℕ) (small : w .block .nodes ≤ mostNodes)
     (query : (k : ℕ) → getD (w .bytes) k 0 < 2 ^ (w .b * perByte (w .b)))
-    (h : Holds (cells (w .cap) (w .next) t) (w .nodes) (w .pages)) (s : Sound (w .cap) (w .pcap) t)
+    (h : Holds (cells (w .block .nodes) (w .block .base) t) (w .nodes) (w .pages)) (s : Sound (w .block .nodes) (w .block .pages) t)
     (sound : soundTrie bytesOf (w .b) n (length (w .bytes)) 0 (tree t) ≡ true)
-    (few : nodes (tree t) ≤ w .cap) (pages : length (met (w .b) radius (tree t) (w .bytes)) ≤ w .pcap) where
+    (few : nodes (tree t) ≤ w .block .nodes) (pages : length (met (w .b) radius (tree t) (w .bytes)) ≤ w .block .pages) where
   -- those of `near`, in order
   pub walk-trail : trailFrom w (root t) radius map ≡ near (w .b) radius t (w .bytes)
   walk-trail =
       right-trail w small query t radius map h s (fit bytesOf (w .b) n (length (w .bytes)) t 0 sound) (omega (arith, steps-below t))
-      (omega (arith, steps-nodes (w .cap) (w .pcap) t s)) pages
+      (omega (arith, steps-nodes (w .block .nodes) (w .block .pages) t s)) pages
 
   pub walk-count : length (trailFrom w (root t) radius map) ≡ nearNodes (w .b) radius (tree t) (w .bytes)
   walk-count = ap length walk-trail ∙ near-count (w .b) t radius (w .bytes)
@@ -56,7 +56,7 @@ module _ (w : Given) (bytesOf : ℕ → List ℕ) (n : ℕ) (t : Phys) (radius :
   walk-paths = walk-count ∙ near-path bytesOf (w .b) n (tree t) radius (w .bytes) sound
 
   -- no more than the table has
-  pub walk-few : length (trailFrom w (root t) radius map) ≤ w .cap
+  pub walk-few : length (trailFrom w (root t) radius map) ≤ w .block .nodes
   walk-few = omega (arith, walk-count, near-le (w .b) (tree t) radius (w .bytes))
 
   -- at radius 0 at most the packed length and the root

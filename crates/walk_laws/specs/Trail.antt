@@ -10,9 +10,10 @@ use Rattle.descent.specs.Cursor.{advance}
 use Rattle.walk.specs.declared.frame.Frame.{Frame}
 use Rattle.walk.specs.declared.frame.Step.{Step}
 use Rattle.walk.specs.declared.frame.Step.the-variants as step
-use Rattle.walk.specs.Mark.{Marks, marks, broken}
-use Rattle.walk.specs.Frame.{entered, stepIn}
-use Rattle.walk.specs.Walk.{Given, State, state, atLink, mark, exactFrom, leafFrom}
+use Rattle.marking.specs.Mark.{Marks, marks, broken}
+use Rattle.walk.specs.Frame.{atLink, entered, stepIn}
+use Rattle.marking.specs.Given.{Given, mark, exactFrom, leafFrom}
+use Rattle.walk.specs.Walk.{State, state}
 
 -- ---- of an exact descent
 module _ (nodes : List ℕ) (cap : ℕ) (bytes : List ℕ) where
@@ -37,7 +38,7 @@ traceMarks go broken = []
 module _ (w : Given) where
   -- below node x, by the query's bytes from a level on
   abbrev pub exactBelow : ℕ → ℕ → List ℕ
-  exactBelow x level = exactTrail (w .nodes) (w .cap) (w .bytes) (w .cap) (exactFrom w x level)
+  exactBelow x level = exactTrail (w .nodes) (w .block .nodes) (w .bytes) (w .block .nodes) (exactFrom w x level)
 
   -- where a step at a level goes that looks at node x; one that stays in the chain, since the byte is too far, does not go there
   abbrev pub goes : ℕ → ℕ → Step → List ℕ
@@ -63,7 +64,7 @@ module _ (w : Given) where
     trace (step.Exact x link) = traceBehind link (mark w map left (leafFrom w (exactFrom w x (length stack + 1))))
     trace (step.Down x radius link) =
         cond (ltb (length stack + 1) (length (w .bytes)))
-        (trail (state map left (entered (w .nodes) (w .cap) x radius) (atLink frame (frame .at) link ∷ stack)))
+        (trail (state map left (entered (w .nodes) (w .block .nodes) x radius) (atLink frame (frame .at) link ∷ stack)))
         []
     trace step.Up = traceAbove stack
     trace step.Broken = []
@@ -72,14 +73,14 @@ module _ (w : Given) where
   unfoldable pub trail : ℕ → State → List ℕ
   trail zero s = []
   trail (suc f) s =
-      let found : Step = stepIn (w .nodes) (w .cap) (w .b) (s .frame) (getD (w .bytes) (length (s .stack)) 0) in
+      let found : Step = stepIn (w .nodes) (w .block .nodes) (w .b) (s .frame) (getD (w .bytes) (length (s .stack)) 0) in
       goes (length (s .stack)) (s .frame .link - 1) found ++ trace (trail f) (s .map) (s .left) (s .frame) (s .stack) found
 
   -- of a whole walk: the root, and the trail below it
   unfoldable pub trailFrom : ℕ → ℕ → List ℕ → List ℕ
   trailFrom root radius map =
-      let word : ℕ = getD (w .nodes) (stateAt (w .cap) root) 0 in
+      let word : ℕ = getD (w .nodes) (stateAt (w .block .nodes) root) 0 in
       let below : List ℕ =
       cond (eqb radius 0) (exactBelow root 0)
-      (cond (eqb word innerState) (trail (stepsFor (w .cap)) (state map (w .pcap) (entered (w .nodes) (w .cap) root radius) [])) []) in
+      (cond (eqb word innerState) (trail (stepsFor (w .block .nodes)) (state map (w .block .pages) (entered (w .nodes) (w .block .nodes) root radius) [])) []) in
       cond (eqb word freeState) [] (root ∷ below)

@@ -55,7 +55,7 @@ cast-head-at c = record { fits = omega (arith, c .shared-slice-known4 .given (c 
 head-at-requires : tie.Need-head-at-requires
 head-at-requires c κs =
     let start = c .before .before .before .before .before .before .before .before in
-    (start .pre .0 .most, start .pre .1 .0, omega (arith, c .shared-slice-known4 .given (start .args .at)))
+    (start .pre .0 .table .small, start .pre .1 .0, omega (arith, c .shared-slice-known4 .given (start .args .at)))
 
 -- the head stands in the table
 head-in : (c : tie.After-head-at) → c .head-at .result < nodeWords (c .before .before .before .before .before .before .before .before .before .args .cap)
@@ -67,7 +67,7 @@ mul-link-of : tie.Need-mul-link-of
 mul-link-of c = record { fits = omega (arith, head-in c) }
 
 shared-slice-read-link-of : tie.Need-shared-slice-read-link-of
-shared-slice-read-link-of c = omega (arith, head-in (c .before), c .before .before .before .before .before .before .before .before .before .before .pre .0 .long)
+shared-slice-read-link-of c = omega (arith, head-in (c .before), c .before .before .before .before .before .before .before .before .before .before .pre .0 .table .long)
 
 link-of-requires : tie.Need-link-of-requires
 link-of-requires c κs = search needs

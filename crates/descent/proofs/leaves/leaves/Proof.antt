@@ -32,7 +32,7 @@ descend-requires : tie.Need-descend-requires Inv-loop μ-loop
 descend-requires c κs =
     let pre = c .before .before .before .before .before .before .before .before .pre in
     let long = c .before .before .before .before .pack-blocks .ensures .long in (
-      record { long = pre .1 .0; most = pre .0 .nodes-most; few = omega (arith, long) },
+      record { table = record { long = pre .1 .0; small = pre .0 .nodes-most }; few = omega (arith, long) },
       (started-inside _ _ _ (c .before .start-all .ensures) (pre .0) long, pre .1 .1 .1 .1),
     )
 

@@ -76,7 +76,7 @@ cast-arrive-2 c = record { fits = omega (arith, size c, few c) }
 arrive-requires : tie.Need-arrive-requires Inv-loop μ-loop
 arrive-requires c κs =
     let pre = c .before .before .before .before .before .before .before .before .before .pre in (
-      record { long = pre .1 .0; most = pre .0 .nodes-most; few = omega (arith, pre .1 .1) },
+      record { table = record { long = pre .1 .0; small = pre .0 .nodes-most }; few = omega (arith, pre .1 .1) },
       (omega (arith, c .before .before .if1 .taken, pre .0 .nodes-least), omega (arith, size c, size-least c, few c, pre .1 .1)),
     )
 

@@ -10,14 +10,14 @@ use Rattle.search.proofs.marks.mark_blocks.Statement.{statement}
 use Rattle.search.proofs.marks.mark_blocks.Tie as tie
 
 abbrev Inv-loop : tie.InvT-loop
-Inv-loop nodes pages map₀ h words sketch radius q budget block-radius table left₀ j₀ map left j =
+Inv-loop nodes pages map₀ h sketch radius q budget block-radius table left₀ j₀ map left j =
     (markFrom h nodes pages sketch block-radius (h .q - j) j left map ≡ markBlocks h nodes pages sketch radius map₀)
     × (j ≤ h .q)
     × (length map ≡ length map₀)
     × (left ≤ h .nodes - h .q)
 
 abbrev μ-loop : tie.MeasureT-loop
-μ-loop nodes pages map₀ h words sketch radius q budget block-radius table left₀ j₀ map left j = h .q - j
+μ-loop nodes pages map₀ h sketch radius q budget block-radius table left₀ j₀ map left j = h .q - j
 
 sub-budget : tie.Need-sub-budget Inv-loop μ-loop
 sub-budget c = omega (arith, c .before .before .before .before .before .pre .0 .limits .nodes-least)
@@ -34,7 +34,7 @@ div-block-radius c = search needs
 mark-exact-requires : tie.Need-mark-exact-requires Inv-loop μ-loop
 mark-exact-requires c κs =
     let pre = c .before .before .before .before .before .before .before .pre in
-    (pre .0, (pre .1 .0, (pre .1 .1, omega (arith, pre .0 .limits .blocks-least, pre .0 .limits .nodes-least))))
+    (pre .0, (pre .1, omega (arith, pre .0 .limits .blocks-least, pre .0 .limits .nodes-least)))
 
 same-length : tie.Need-same-length Inv-loop μ-loop
 same-length c = c .before .before .mark-exact .kept .1 .1 .0
@@ -56,14 +56,11 @@ mark-block-requires c κs =
       (
         lent-kept _ _ _ _ _ (start .pre .0) (loop .loop .inv .2),
         (
-          start .pre .1 .0,
+          start .pre .1,
           (
-            start .pre .1 .1,
-            (
-              c .before .before .loop-test .taken,
-              omega (arith, c .before .before .before .before .before .if1 .left),
-              omega (arith, loop .loop .inv .3, start .pre .0 .limits .blocks-least, start .pre .0 .limits .nodes-least),
-            ),
+            c .before .before .loop-test .taken,
+            omega (arith, c .before .before .before .before .before .if1 .left),
+            omega (arith, loop .loop .inv .3, start .pre .0 .limits .blocks-least, start .pre .0 .limits .nodes-least),
           ),
         ),
       ),

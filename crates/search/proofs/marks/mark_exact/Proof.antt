@@ -11,18 +11,18 @@ use Rattle.search.proofs.marks.mark_exact.Statement.{statement}
 use Rattle.search.proofs.marks.mark_exact.Tie as tie
 
 abbrev Inv-loop : tie.InvT-loop
-Inv-loop nodes pages map₀ h words sketch budget firsts over blocks most j₀ map j =
+Inv-loop nodes pages map₀ h sketch budget firsts over blocks most j₀ map j =
     (withNodes h nodes pages sketch over (leavesFrom h nodes pages sketch (h .q - j) j map) ≡ markFrom h nodes pages sketch 0 (h .q) 0 budget map₀)
     × (j ≤ h .q)
     × (length map ≡ length map₀)
 
 abbrev μ-loop : tie.MeasureT-loop
-μ-loop nodes pages map₀ h words sketch budget firsts over blocks most j₀ map j = h .q - j
+μ-loop nodes pages map₀ h sketch budget firsts over blocks most j₀ map j = h .q - j
 
 leaves-requires : tie.Need-leaves-requires Inv-loop μ-loop
 leaves-requires c κs =
     let pre = c .before .before .before .before .pre in
-    (pre .0 .limits, (nodes-there (pre .0), (pre .1 .0 .count, (pre .1 .0 .range, pre .1 .1 .1))))
+    (pre .0 .limits, (nodes-there (pre .0), (pre .1 .0 .count, (pre .1 .0 .range, pre .1 .1))))
 
 enum-known-unread : tie.Need-enum-known-unread Inv-loop μ-loop
 enum-known-unread c = search needs
@@ -39,8 +39,8 @@ cast-most c = record { fits = omega (arith, c .before .before .before .before .b
 loop-holds : tie.Need-loop-holds Inv-loop μ-loop
 loop-holds c = (exact-lasts _ _ _ _ _ _ (c .before .before .before .before .before .leaves .ensures) _ _ (c .before .before .unread .given .1), omega arith, refl)
 
-next-at-requires : tie.Need-next-at-requires Inv-loop μ-loop
-next-at-requires c κs = search needs
+scope-of-requires : tie.Need-scope-of-requires Inv-loop μ-loop
+scope-of-requires c κs = (c .before .before .before .before .before .before .before .before .before .before .before .before .before .pre .0 .limits, c .before .loop-test .taken)
 
 mul-mark-leaf : tie.Need-mul-mark-leaf Inv-loop μ-loop
 mul-mark-leaf c = search needs
@@ -52,7 +52,7 @@ mark-leaf-requires : tie.Need-mark-leaf-requires Inv-loop μ-loop
 mark-leaf-requires c κs =
     let start = c .before .before .before .before .before .before .before .before .before .before .before .before .before .before in
     let at = c .before .before .before .loop in
-    leaf-call _ _ _ _ (lent-kept _ _ _ _ (at .map) (start .pre .0) (at .inv .2)) _ (c .before .before .loop-test .taken) _ _ (c .before .next-at .ensures) (start .pre .1 .1 .0)
+    leaf-call _ _ _ _ (lent-kept _ _ _ _ (at .map) (start .pre .0) (at .inv .2)) _ (c .before .before .loop-test .taken) _ (c .scope-of .ensures)
 
 enum-told-2 : tie.Need-enum-told-2 Inv-loop μ-loop
 enum-told-2 c = search needs
@@ -66,7 +66,7 @@ loop-less c = omega (arith, c .before .before .before .before .before .before .b
 loop-again : tie.Need-loop-again Inv-loop μ-loop
 loop-again c =
     let at = c .before .before .before .before .before .before .before .before .loop in (
-      exact-more _ _ _ _ _ _ (c .before .before .before .before .before .before .before .before .before .before .before .before .before .before .leaves .ensures) _ _ (c .before .before .before .before .before .before .before .before .before .before .before .unread .given .1) _ _ (at .inv .0) (c .before .before .before .before .before .before .before .loop-test .taken) _ _ (c .before .before .before .before .before .before .next-at .ensures) (c .before .before .before .before .before .before .before .before .before .before .before .before .before .before .before .before .before .before .before .pre .1 .1 .0) _ _ (c .before .before .before .before .mark-leaf .ensures) _ (c .enum-told2 .given .1),
+      exact-more _ _ _ _ _ _ (c .before .before .before .before .before .before .before .before .before .before .before .before .before .before .leaves .ensures) _ _ (c .before .before .before .before .before .before .before .before .before .before .before .unread .given .1) _ _ (at .inv .0) (c .before .before .before .before .before .before .before .loop-test .taken) _ (c .before .before .before .before .before .scope-of .ensures) _ _ (c .before .before .before .before .mark-leaf .ensures) _ (c .enum-told2 .given .1),
       omega (arith, c .before .before .before .before .before .before .before .loop-test .taken),
       c .before .before .before .before .mark-leaf .kept .1 .0 ∙ at .inv .2,
     )
@@ -79,7 +79,7 @@ same-length c = c .before .before .before .before .mark-leaf .kept .1 .0 ∙ c .
 
 returns-2 : tie.Need-returns-2 Inv-loop μ-loop
 returns-2 c =
-    exact-stop _ _ _ _ _ _ (c .before .before .before .before .before .before .before .before .before .before .before .before .before .before .leaves .ensures) _ _ (c .before .before .before .before .before .before .before .before .before .before .before .unread .given .1) _ _ (c .before .before .before .before .before .before .before .before .loop .inv .0) (c .before .before .before .before .before .before .before .loop-test .taken) _ _ (c .before .before .before .before .before .before .next-at .ensures) (c .before .before .before .before .before .before .before .before .before .before .before .before .before .before .before .before .before .before .before .pre .1 .1 .0) _ _ (c .before .before .before .before .mark-leaf .ensures) (c .enum-told3 .given .1)
+    exact-stop _ _ _ _ _ _ (c .before .before .before .before .before .before .before .before .before .before .before .before .before .before .leaves .ensures) _ _ (c .before .before .before .before .before .before .before .before .before .before .before .unread .given .1) _ _ (c .before .before .before .before .before .before .before .before .loop .inv .0) (c .before .before .before .before .before .before .before .loop-test .taken) _ (c .before .before .before .before .before .scope-of .ensures) _ _ (c .before .before .before .before .mark-leaf .ensures) (c .enum-told3 .given .1)
 
 same-length-2 : tie.Need-same-length-2 Inv-loop μ-loop
 same-length-2 c = c .before .loop .inv .2
@@ -99,7 +99,7 @@ mark-exact-spec =
     returns
     cast-most
     loop-holds
-    next-at-requires
+    scope-of-requires
     mul-mark-leaf
     array-read-mark-leaf
     mark-leaf-requires

@@ -1,4 +1,5 @@
 -- `next_step` is `stepIn`, a test at a time.
+use native.Mathlib.Omega.{arith}
 use borrow.Author.Tests.{lt-ltb, le-ltb, eq-eqb, ne-eqb}
 use Rattle.walk.specs.Frame.{stepIn}
 use borrow.Author.Needs.{needs}
@@ -6,7 +7,9 @@ use Rattle.walk.proofs.frame.next_step.Statement.{statement}
 use Rattle.walk.proofs.frame.next_step.Tie as tie
 
 step-along-requires : tie.Need-step-along-requires
-step-along-requires c κs = search needs
+step-along-requires c κs =
+    let pre = c .before .before .before .pre in
+    (pre .0, (pre .1 .0, (pre .1 .1 .0, omega (arith, c .if1 .taken))))
 
 returns : tie.Need-returns
 unfolding stepIn

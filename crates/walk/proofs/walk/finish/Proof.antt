@@ -1,5 +1,5 @@
 -- `finish` is the end of a walk.
-use Rattle.walk.proofs.Flush.{finished-by}
+use Rattle.marking.proofs.Flush.{finished-by}
 use borrow.Author.Needs.{needs}
 use Rattle.walk.proofs.walk.finish.Statement.{statement}
 use Rattle.walk.proofs.walk.finish.Tie as tie

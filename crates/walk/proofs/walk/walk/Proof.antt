@@ -1,8 +1,8 @@
 -- `walk` is `walkFrom`, by the state of the root.
 use native.Mathlib.Omega.{arith}
 use mathlib.Core.Path.{sym, _∙_}
-use Rattle.walk.specs.Mark.{marks}
-use Rattle.walk.proofs.Spend.{onMarks-by}
+use Rattle.marking.specs.Mark.{marks}
+use Rattle.marking.proofs.Spend.{onMarks-by}
 use Rattle.walk.proofs.Turns.{from-free, from-inner, from-leaf}
 use borrow.Author.Needs.{needs}
 use Rattle.walk.proofs.walk.walk.Statement.{statement}
@@ -51,16 +51,16 @@ same-length-2 c = search needs
 
 returns-3 : tie.Need-returns-3
 returns-3 c =
-    sym (onMarks-by (λ m l. marks m (c .before .before .before .before .before .before .before .before .before .before .before .before .before .before .args .budget)) _ _ (c .before .before .before .before .mark-leaf .ensures) _ (c .enum-told .given .1))
-    ∙ from-leaf _ _ _ _ _ (c .before .before .before .before .before .before .before .before .before .before .before .before .before .before .pre .1 .1 .2) _ (c .before .before .before .before .before .before .before .before .before .state-at .ensures) (omega arith)
+    sym (onMarks-by (λ m l. marks m (c .before .before .before .before .before .before .before .before .before .before .before .before .before .before .before .args .start .nodes)) _ _ (c .before .before .before .before .mark-leaf .ensures) _ (c .enum-told .given .1))
+    ∙ from-leaf _ _ _ _ _ (c .before .before .before .before .before .before .before .before .before .before .before .before .before .before .before .pre .1 .1 .2) _ (c .before .before .before .before .before .before .before .before .before .before .state-at .ensures) (omega arith)
 
 same-length-3 : tie.Need-same-length-3
 same-length-3 c = search needs
 
 returns-4 : tie.Need-returns-4
 returns-4 c =
-    sym (onMarks-by (λ m l. marks m (c .before .before .before .before .before .before .before .before .before .before .before .before .before .before .args .budget)) _ _ (c .before .before .before .before .mark-leaf .ensures) _ (c .enum-told2 .given .1))
-    ∙ from-leaf _ _ _ _ _ (c .before .before .before .before .before .before .before .before .before .before .before .before .before .before .pre .1 .1 .2) _ (c .before .before .before .before .before .before .before .before .before .state-at .ensures) (omega arith)
+    sym (onMarks-by (λ m l. marks m (c .before .before .before .before .before .before .before .before .before .before .before .before .before .before .before .args .start .nodes)) _ _ (c .before .before .before .before .mark-leaf .ensures) _ (c .enum-told2 .given .1))
+    ∙ from-leaf _ _ _ _ _ (c .before .before .before .before .before .before .before .before .before .before .before .before .before .before .before .pre .1 .1 .2) _ (c .before .before .before .before .before .before .before .before .before .before .state-at .ensures) (omega arith)
 
 pub walk-spec : {M : Type 1} → statement M
 walk-spec =

@@ -2,21 +2,21 @@
 use Prim.Native.Nat.{ℕ, _+_, _-_, _<_}
 use native.Mathlib.Omega.{arith}
 use native.Mathlib.Numerals.{add-one}
-use native.Mathlib.Decide.{ℕ-discrete}
-use mathlib.Core.Path.{_≡_, refl, sym, ap, subst, _∙_}
+use mathlib.Core.Path.{_≡_, refl, sym, ap, _∙_}
 use mathlib.Core.Bool.{Bool, true, false, cond}
 use mathlib.Core.List.{List, [], _∷_, _++_}
 use lib.Dec.{ltb}
-use lib.ListN.{length, getD, set, take, length-set}
-use lib.Seq.{getD-set-same, getD-set-other, take-suc-set}
+use lib.ListN.{length, set, take, length-set}
+use lib.Seq.{take-suc-set}
 use Rattle.descent.specs.declared.Cursor.{Cursor}
-use Rattle.descent.specs.Cursor.{Inside, AllInside, ended, arrive, drawnAll, leafOf}
-use Rattle.descent.proofs.Steps.{inside-arrive, descended-ended, drawn-ended, drawn-one-more}
-use Rattle.walk.specs.Mark.{Marks, marks, broken, onMarks, spend}
-use Rattle.walk.specs.Walk.{Given, mark, leafFrom, drawnFrom, markExact}
-use Rattle.walk.specs.Waiting.{markWaiting, drawnBy, stopped, onLeaves, flush}
-use Rattle.walk.proofs.Spend.{onMarks-same, onMarks-then, onMarks-broken, spend-none, spend-same, spend-marks, spend-both, spend-swap, spend-broken}
-use Rattle.walk.proofs.Flush.{onFlushed}
+use Rattle.descent.specs.Cursor.{Inside, AllInside, ended, drawnAll, leafOf}
+use Rattle.descent.proofs.Each.{each-put}
+use Rattle.descent.proofs.Steps.{descended-ended, drawn-ended, drawn-one-more}
+use Rattle.marking.specs.Mark.{Marks, marks, broken, onMarks, spend}
+use Rattle.marking.specs.Given.{Given, mark, leafFrom, drawnFrom, markExact}
+use Rattle.marking.specs.Waiting.{markWaiting, drawnBy, stopped, onLeaves, flush}
+use Rattle.marking.proofs.Spend.{onMarks-same, onMarks-then, onMarks-broken, spend-none, spend-same, spend-marks, spend-both, spend-swap, spend-broken}
+use Rattle.marking.proofs.Flush.{onFlushed}
 
 -- ---- marked
 
@@ -32,16 +32,16 @@ waiting-more go w (d ∷ cs) c map left =
     ∙ sym (onMarks-then (λ m l. markWaiting w m l cs) one (mark w map left (leafFrom w d)))
 
 -- a descent that has ended reads no node
-pub exact-ended : (w : Given) (go : List ℕ → ℕ → ℕ → Marks) (map : List ℕ) (left nodes first : ℕ) (c : Cursor) → c ≡ ended first
-    → onMarks (λ m l. go m l nodes) (mark w map left first) ≡ markExact w go map left nodes c
+pub exact-ended : (w : Given) (go : List ℕ → ℕ → ℕ → Marks) (map : List ℕ) (left nodes first : ℕ)
+    → onMarks (λ m l. go m l nodes) (mark w map left first) ≡ markExact w go map left nodes (ended first)
 unfolding leafOf
-exact-ended w go map left nodes first c e =
+exact-ended w go map left nodes first =
     sym
-    (ap (markExact w go map left nodes) e
-    ∙ ap (λ d. spend nodes d (λ k. onMarks (λ m l. go m l k) (mark w map left (leafFrom w (ended first)))))
-    (drawn-ended (w .nodes) (w .cap) (w .bytes) (w .cap) (ended first) refl)
+    (ap (λ d. spend nodes d (λ k. onMarks (λ m l. go m l k) (mark w map left (leafFrom w (ended first)))))
+    (drawn-ended (w .nodes) (w .block .nodes) (w .bytes) (w .block .nodes) (ended first) refl)
     ∙ spend-none nodes (λ k. onMarks (λ m l. go m l k) (mark w map left (leafFrom w (ended first))))
-    ∙ ap (λ d. onMarks (λ m l. go m l nodes) (mark w map left (leafOf d))) (descended-ended (w .nodes) (w .cap) (w .bytes) (w .cap) (ended first) refl))
+    ∙ ap (λ d. onMarks (λ m l. go m l nodes) (mark w map left (leafOf d)))
+    (descended-ended (w .nodes) (w .block .nodes) (w .bytes) (w .block .nodes) (ended first) refl))
 
 -- ---- on past them, when their descents have drawn on the nodes
 module _ (w : Given) where
@@ -86,7 +86,7 @@ module _ (w : Given) where
         (λ k. spend-marks k (drawnFrom w c) (λ m l i. onMarks (λ n j. go n j i) (mark w m l (leafFrom w c))) (markWaiting w map left cs))
         ∙ spend-both nodes (drawnBy w cs) (drawnFrom w c) both
         ∙ spend-same nodes (drawnBy w cs + drawnFrom w c) both more (λ k. sym (waiting-more (λ m l. go m l k) w cs c map left))
-        ∙ ap (λ d. spend nodes d more) (sym (drawn-one-more (w .nodes) (w .cap) (w .bytes) cs c))
+        ∙ ap (λ d. spend nodes d more) (sym (drawn-one-more (w .nodes) (w .block .nodes) (w .bytes) cs c))
 
     -- all are marked
     pub past-flush : (nodes : ℕ) (cs : List Cursor) → past go map left nodes cs ≡ onFlushed go (flush w map left nodes cs)
@@ -109,25 +109,13 @@ module _ (w : Given) where
 pub take-put : (cs : List Cursor) (n : ℕ) (c : Cursor) → n < length cs → take (n + 1) (set cs n c) ≡ take n cs ++ (c ∷ [])
 take-put cs n c h = rw add-one (take-suc-set cs n c h)
 
-pub none-yet : (cs : List Cursor) {n : ℕ} → n ≡ 0 → take n cs ≡ []
-none-yet cs e = ap (λ k. take k cs) e
-
 module _ (bytes : List ℕ) where
   pub inside-put : (cs : List Cursor) (n : ℕ) (c : Cursor) → AllInside bytes cs n → n < 16 → Inside bytes c → AllInside bytes (set cs n c) (n + 1)
-  inside-put cs n c h l i = record { long = simp length-set (h .long); few = omega arith; each = each }
-    where
-      go : (j : ℕ) → j < n + 1 → Dec (j ≡ n) → Inside bytes (getD (set cs n c) j (ended 0))
-      go j m (yes e) = subst (Inside bytes) (sym (ap (λ k. getD (set cs n c) k (ended 0)) e ∙ getD-set-same cs n c (ended 0) (omega (arith, h .long)))) i
-      go j m (no e) = subst (Inside bytes) (sym (getD-set-other cs n j c (ended 0) (omega arith))) (h .each j (omega arith))
-
-      each : (j : ℕ) → j < n + 1 → Inside bytes (getD (set cs n c) j (ended 0))
-      each j m = go j m (ℕ-discrete j n)
+  inside-put cs n c h l i = record {
+    long = simp length-set (h .long);
+    few = omega arith;
+    each = each-put (λ j. Inside bytes) (ended 0) cs n c (omega (arith, h .long)) i (h .each);
+  }
 
   pub inside-none : (cs : List Cursor) → length cs ≡ 16 → AllInside bytes cs 0
   inside-none cs e = record { long = e; few = omega arith; each = λ j h. absurd (omega arith) }
-
-  pub inside-ended : (first : ℕ) (c : Cursor) → c ≡ ended first → 0 < length bytes → Inside bytes c
-  inside-ended first c e some = subst (Inside bytes) (sym e) record { at = some; last = some }
-
-  pub inside-arrived : (nodes : List ℕ) (cap x at last : ℕ) (c : Cursor) → c ≡ arrive nodes cap bytes x at last → last < length bytes → Inside bytes c
-  inside-arrived nodes cap x at last c e h = subst (Inside bytes) (sym e) (inside-arrive nodes cap bytes x at last h)

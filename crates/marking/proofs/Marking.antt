@@ -10,11 +10,11 @@ use Rattle.descent.specs.declared.Left.{Left}
 use Rattle.descent.specs.declared.Left.the-variants.{Some, Broken}
 use Rattle.descent.specs.declared.Descents.{Descents}
 use Rattle.descent.specs.Cursor.{AllInside, ended, Descended, leafOf}
-use Rattle.walk.specs.Mark.{Marks, marks, broken, marksOf, onMarks}
-use Rattle.walk.specs.Walk.{Given, mark, leafFrom}
-use Rattle.walk.specs.Waiting.{markWaiting, onLeaves, flush}
-use Rattle.walk.proofs.Spend.{onMarks-same, onMarks-by}
-use Rattle.walk.proofs.Flush.{flush-by}
+use Rattle.marking.specs.Mark.{Marks, marks, broken, marksOf, onMarks}
+use Rattle.marking.specs.Given.{Given, mark, leafFrom}
+use Rattle.marking.specs.Waiting.{markWaiting, onLeaves, flush}
+use Rattle.marking.proofs.Spend.{onMarks-same, onMarks-by}
+use Rattle.marking.proofs.Flush.{flush-by}
 
 module _ (w : Given) (cs : List Cursor) where
   -- k leaves from place i on
@@ -45,7 +45,7 @@ module _ (w : Given) (cs : List Cursor) where
 
 -- the descents of an array, when they are over, with so many of the nodes left
 module _ (w : Given) (start : List Cursor) (n : ℕ) (inside : AllInside (w .bytes) start n) (nodes : ℕ) (found : Descents)
-    (d : Descended (w .nodes) (w .cap) (w .bytes) start n nodes found) (over : ℕ) (q : found .left ≡ Some over) where
+    (d : Descended (w .nodes) (w .block .nodes) (w .bytes) start n nodes found) (over : ℕ) (q : found .left ≡ Some over) where
   over-from : (k i : ℕ) (map : List ℕ) (left : ℕ) → i + k ≡ n → markFrom w (found .cursors) map left i k ≡ markWaiting w map left (take k (drop i start))
   unfolding markFrom markWaiting
   over-from zero i map left e = refl

@@ -9,11 +9,12 @@ use Rattle.descent.specs.declared.Cursor.{Cursor}
 use Rattle.descent.specs.declared.Left.{Left}
 use Rattle.descent.specs.declared.Left.the-variants as left
 use Rattle.descent.specs.Cursor.{leftOf}
-use Rattle.walk.specs.declared.waiting.Budgets.{Budgets}
-use Rattle.walk.specs.declared.waiting.Budgets.the-variants.{Some, Broken}
-use Rattle.walk.specs.Mark.{Marks, marks, broken}
-use Rattle.walk.specs.Walk.{Given}
-use Rattle.walk.specs.Waiting.{markWaiting, drawnBy, Flushed, flushed, stopped, flushedOf, onLeaves, flush, finished}
+use Rattle.marking.specs.declared.waiting.Budget.{Budget}
+use Rattle.marking.specs.declared.waiting.Budgets.{Budgets}
+use Rattle.marking.specs.declared.waiting.Budgets.the-variants.{Some, Broken}
+use Rattle.marking.specs.Mark.{Marks, marks, broken}
+use Rattle.marking.specs.Given.{Given}
+use Rattle.marking.specs.Waiting.{markWaiting, drawnBy, Flushed, flushed, stopped, flushedOf, onLeaves, flush, finished}
 
 -- on with the map and what is left of the pages and of the nodes
 abbrev pub onFlushed : (List ℕ → ℕ → ℕ → Marks) → Flushed → Marks
@@ -62,5 +63,5 @@ module _ (w : Given) (map : List ℕ) (pages nodes : ℕ) (cs : List Cursor) whe
       by false (marks m l) = omega arith
       by false broken = tt
 
-  pub flush-less : (after : List ℕ) (found : Budgets) → flushedOf after found ≡ flush w map pages nodes cs → (l k : ℕ) → found ≡ Some l k → k ≤ nodes
-  flush-less after found e l k q = subst Less (sym e ∙ ap (flushedOf after) q) flush-least
+  pub flush-less : (after : List ℕ) (found : Budgets) → flushedOf after found ≡ flush w map pages nodes cs → (b : Budget) → found ≡ Some b → b .nodes ≤ nodes
+  flush-less after found e b q = subst Less (sym e ∙ ap (flushedOf after) q) flush-least

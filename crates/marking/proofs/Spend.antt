@@ -8,7 +8,7 @@ use mathlib.Core.List.{List}
 use lib.Dec.{ltb}
 use borrow.Author.Tests.{ltb-true, ltb-false, lt-ltb, le-ltb}
 use Rattle.descent.specs.declared.Left.{Left}
-use Rattle.walk.specs.Mark.{Marks, marks, broken, marksOf, onMarks, spend}
+use Rattle.marking.specs.Mark.{Marks, marks, broken, marksOf, onMarks, spend}
 
 -- ---- on behind a leaf
 pub onMarks-same : (go go′ : List ℕ → ℕ → Marks) (x : Marks) → ((m : List ℕ) (l : ℕ) → go m l ≡ go′ m l) → onMarks go x ≡ onMarks go′ x

@@ -5,10 +5,10 @@ use mathlib.Core.List.{List, [], _∷_}
 use lib.Dec.{ltb}
 use Rattle.descent.specs.declared.Cursor.{Cursor}
 use Rattle.descent.specs.Cursor.{drawnAll}
-use Rattle.walk.specs.declared.waiting.Budgets.{Budgets}
-use Rattle.walk.specs.declared.waiting.Budgets.the-variants.{Some, Broken}
-use Rattle.walk.specs.Mark.{Marks, marks, broken, onMarks}
-use Rattle.walk.specs.Walk.{Given, mark, leafFrom}
+use Rattle.marking.specs.declared.waiting.Budgets.{Budgets}
+use Rattle.marking.specs.declared.waiting.Budgets.the-variants.{Some, Broken}
+use Rattle.marking.specs.Mark.{Marks, marks, broken, onMarks}
+use Rattle.marking.specs.Given.{Given, mark, leafFrom}
 
 -- the leaf of each descent in turn
 unfoldable pub markWaiting : Given → List ℕ → ℕ → List Cursor → Marks
@@ -17,7 +17,7 @@ markWaiting w map left (c ∷ cs) = onMarks (λ after n. markWaiting w after n c
 
 -- the nodes that the descents read
 abbrev pub drawnBy : Given → List Cursor → ℕ
-drawnBy w cs = drawnAll (w .nodes) (w .cap) (w .bytes) cs
+drawnBy w cs = drawnAll (w .nodes) (w .block .nodes) (w .bytes) cs
 
 -- a map, and what is left of the pages and of the nodes
 pub data Flushed : Type 0 where
@@ -25,7 +25,7 @@ pub data Flushed : Type 0 where
   stopped : Flushed
 
 abbrev pub flushedOf : List ℕ → Budgets → Flushed
-flushedOf map (Some left nodes) = flushed map left nodes
+flushedOf map (Some b) = flushed map (b .pages) (b .nodes)
 flushedOf map Broken = stopped
 
 abbrev pub onLeaves : ℕ → Marks → Flushed

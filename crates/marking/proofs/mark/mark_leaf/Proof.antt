@@ -4,20 +4,20 @@ use mathlib.Core.Path.{_≡_, refl, _∙_, sym}
 use native.Mathlib.Omega.{arith}
 use lib.ListN.{length}
 use borrow.Author.Needs.{needs}
-use Rattle.walk.specs.Mark.{markLeaf}
-use Rattle.walk.proofs.LeafSteps.{leaf-end, leaf-spent, leaf-outside, leaf-next}
-use Rattle.walk.proofs.mark.mark_leaf.Statement.{statement}
-use Rattle.walk.proofs.mark.mark_leaf.Tie as tie
+use Rattle.marking.specs.Mark.{markLeaf}
+use Rattle.marking.proofs.LeafSteps.{leaf-end, leaf-spent, leaf-outside, leaf-next}
+use Rattle.marking.proofs.mark.mark_leaf.Statement.{statement}
+use Rattle.marking.proofs.mark.mark_leaf.Tie as tie
 
 abbrev Inv-loop : tie.InvT-loop
-Inv-loop pages map₀ words cap next first budget link₀ left₀ map link left =
-    (markLeaf pages words cap next map link left ≡ markLeaf pages words cap next map₀ first budget)
+Inv-loop pages map₀ scope first budget link₀ left₀ map link left =
+    (markLeaf pages (scope .block) (scope .words) map link left ≡ markLeaf pages (scope .block) (scope .words) map₀ first budget)
     × (length map ≡ length map₀)
     × (link < 2 ^ 32)
     × (left ≤ budget)
 
 abbrev μ-loop : tie.MeasureT-loop
-μ-loop pages map₀ words cap next first budget link₀ left₀ map link left = left
+μ-loop pages map₀ scope first budget link₀ left₀ map link left = left
 
 loop-holds : tie.Need-loop-holds Inv-loop μ-loop
 loop-holds c = (refl, refl, search needs, search needs)
@@ -26,13 +26,13 @@ same-length : tie.Need-same-length Inv-loop μ-loop
 same-length c = search needs
 
 returns : tie.Need-returns Inv-loop μ-loop
-returns c = sym (leaf-end _ _ _ _ _ _ _ (c .if1 .taken)) ∙ c .before .loop .inv .0
+returns c = sym (leaf-end _ _ _ _ _ _ (c .if1 .taken)) ∙ c .before .loop .inv .0
 
 same-length-2 : tie.Need-same-length-2 Inv-loop μ-loop
 same-length-2 c = search needs
 
 returns-2 : tie.Need-returns-2 Inv-loop μ-loop
-returns-2 c = sym (leaf-spent _ _ _ _ _ _ _ (omega arith) (c .if2 .taken)) ∙ c .before .before .loop .inv .0
+returns-2 c = sym (leaf-spent _ _ _ _ _ _ (omega arith) (c .if2 .taken)) ∙ c .before .before .loop .inv .0
 
 cast-p : tie.Need-cast-p Inv-loop μ-loop
 cast-p c = search needs
@@ -44,7 +44,7 @@ same-length-3 : tie.Need-same-length-3 Inv-loop μ-loop
 same-length-3 c = search needs
 
 returns-3 : tie.Need-returns-3 Inv-loop μ-loop
-returns-3 c = sym (leaf-outside _ _ _ _ _ _ _ (omega arith)) ∙ c .before .before .before .loop .inv .0
+returns-3 c = sym (leaf-outside _ _ _ _ _ _ (omega arith)) ∙ c .before .before .before .before .loop .inv .0
 
 mark-requires : tie.Need-mark-requires Inv-loop μ-loop
 mark-requires c κs = search needs
@@ -66,11 +66,10 @@ loop-less c = search needs
 
 loop-again : tie.Need-loop-again Inv-loop μ-loop
 loop-again c =
-    let at = c .before .before .before .before .before .before .before .before in
-    let after = c .before .before .before .mark in (
-      sym (leaf-next _ _ _ _ _ _ _ _ (omega arith) (omega arith) (omega arith) (after .ensures)) ∙ at .loop .inv .0,
+    let at = c .before .before .before .before .before .before .before .before .before .before .loop in (
+      sym (leaf-next _ _ _ _ _ _ _ (omega arith) (omega arith) (omega arith) (c .before .before .before .before .mark .ensures)) ∙ at .inv .0,
       search needs,
-      omega (arith, c .shared-slice-known2 .given (at .before .before .before .args .next + (at .loop .link - 1))),
+      omega (arith, c .shared-slice-known2 .given (c .before .before .before .before .before .before .before .before .before .before .before .before .before .args .scope .block .base + (at .link - 1))),
       omega arith,
     )
 

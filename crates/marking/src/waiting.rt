@@ -3,14 +3,22 @@ ghost use mathlib.Core.Path.{_≡_};
 ghost use Prim.Native.Nat.{_<_};
 ghost use lib.ListN.{take};
 ghost use Rattle.descent.specs.Cursor.{AllInside};
-ghost use Rattle.walk.specs.Walk.{given, Fitting};
-ghost use Rattle.walk.specs.Waiting.{flushedOf, flush};
+ghost use Rattle.marking.specs.Given.{within, Fitting};
+ghost use Rattle.marking.specs.Waiting.{flushedOf, flush};
+use crate::Scope;
+use crate::mark;
 use descent::Cursor;
 use descent::Left;
 
-// What is left of the pages and of the nodes; or one of them was spent, or a link led outside.
+// What is left of the pages that may be marked, and of the nodes that may be read.
+pub struct Budget {
+    pub pages: u32,
+    pub nodes: u32,
+}
+
+// What is left; or a budget was spent, or a link led outside.
 pub enum Budgets {
-    Some(u32, u32),
+    Some(Budget),
     Broken,
 }
 
@@ -19,33 +27,28 @@ pub fn mark_waiting(
     nodes: &[u32],
     pages: &[u32],
     map: &mut [u32],
-    cap: usize,
-    pcap: usize,
-    next: usize,
-    words: usize,
-    b: u32,
     bytes: &[u8],
+    scope: Scope,
     waiting: [Cursor; 16],
     n: usize,
-    budget: u32,
-    reads: u32,
+    budget: Budget,
 ) -> Budgets
-    requires { ⌜ Fitting (given (now nodes) (now pages) cap pcap next words b (now bytes)) (now map) ⌝ }
+    requires { ⌜ Fitting (within (now nodes) (now pages) (now bytes) scope) (now map) ⌝ }
     requires { ⌜ AllInside (now bytes) waiting n ⌝ }
-    requires { ⌜ reads < cap ⌝ }
-    ensures { λ r. ⌜ flushedOf (now (map .exit)) r ≡ flush (given (now (nodes .entry)) (now (pages .entry)) cap pcap next words b (now (bytes .entry))) (now (map .entry)) budget reads (take n waiting) ⌝ }
+    requires { ⌜ budget .nodes < scope .block .nodes ⌝ }
+    ensures { λ r. ⌜ flushedOf (now (map .exit)) r ≡ flush (within (now (nodes .entry)) (now (pages .entry)) (now (bytes .entry)) scope) (now (map .entry)) (budget .pages) (budget .nodes) (take n waiting) ⌝ }
 {
-    let found = descent::descend(nodes, cap, bytes, waiting, n, reads);
+    let found = descent::descend(nodes, scope.block.nodes, bytes, waiting, n, budget.nodes);
     let cursors = found.cursors;
     let unread = found.left;
     let Left::Some(over) = unread else {
         return Budgets::Broken;
     };
-    let mut left = budget;
+    let mut left = budget.pages;
     let mut i = 0;
     while i < n {
         let first = descent::leaf_of(cursors[i]);
-        match crate::mark::mark_leaf(pages, map, words, pcap, next, first, left) {
+        match mark::mark_leaf(pages, map, scope, first, left) {
             Left::Some(k) => {
                 left = k;
             }
@@ -55,5 +58,8 @@ pub fn mark_waiting(
         }
         i += 1;
     }
-    Budgets::Some(left, over)
+    Budgets::Some(Budget {
+        pages: left,
+        nodes: over,
+    })
 }

@@ -1,8 +1,8 @@
 -- `mark` sets a page's bit, and that of its word.
 use borrow.Author.Needs.{needs}
-use Rattle.walk.specs.Mark.{marked}
-use Rattle.walk.proofs.mark.mark.Statement.{statement}
-use Rattle.walk.proofs.mark.mark.Tie as tie
+use Rattle.marking.specs.Mark.{marked}
+use Rattle.marking.proofs.mark.mark.Statement.{statement}
+use Rattle.marking.proofs.mark.mark.Tie as tie
 
 set-requires : tie.Need-set-requires
 set-requires c κs = search needs

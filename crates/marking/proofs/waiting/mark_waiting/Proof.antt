@@ -5,21 +5,21 @@ use native.Mathlib.Omega.{arith}
 use mathlib.Core.Path.{_≡_, refl, sym, _∙_}
 use lib.ListN.{length}
 use borrow.Author.Needs.{needs}
-use Rattle.walk.specs.Walk.{given}
-use Rattle.walk.proofs.Flush.{flush-by}
-use Rattle.walk.proofs.Marking.{markFrom, from-next, from-broken, from-end, flush-from}
-use Rattle.walk.proofs.waiting.mark_waiting.Statement.{statement}
-use Rattle.walk.proofs.waiting.mark_waiting.Tie as tie
+use Rattle.marking.specs.Given.{within}
+use Rattle.marking.proofs.Flush.{flush-by}
+use Rattle.marking.proofs.Marking.{markFrom, from-next, from-broken, from-end, flush-from}
+use Rattle.marking.proofs.waiting.mark_waiting.Statement.{statement}
+use Rattle.marking.proofs.waiting.mark_waiting.Tie as tie
 
 abbrev Inv-loop : tie.InvT-loop
-Inv-loop nodes pages map₀ cap pcap next words b bytes n budget reads cursors over left₀ i₀ map left i =
-    (markFrom (given nodes pages cap pcap next words b bytes) cursors map left i (n - i)
-    ≡ markFrom (given nodes pages cap pcap next words b bytes) cursors map₀ budget 0 n)
+Inv-loop nodes pages map₀ bytes scope n cursors over left₀ i₀ map left i =
+    (markFrom (within nodes pages bytes scope) cursors map left i (n - i)
+    ≡ markFrom (within nodes pages bytes scope) cursors map₀ left₀ 0 n)
     × (length map ≡ length map₀)
     × (i ≤ n)
 
 abbrev μ-loop : tie.MeasureT-loop
-μ-loop nodes pages map₀ cap pcap next words b bytes n budget reads cursors over left₀ i₀ map left i = n - i
+μ-loop nodes pages map₀ bytes scope n cursors over left₀ i₀ map left i = n - i
 
 descend-requires : tie.Need-descend-requires Inv-loop μ-loop
 descend-requires c κs = search needs
