@@ -13,7 +13,6 @@ use Rattle.meaning.specs.Trie.{Children, none, met, metIn}
 use Rattle.layout.specs.Nodes.{linkOf, byteOf, chainWord, stateAt, innerState, leafState, linkBase}
 use Rattle.children.specs.Heap.{Holds}
 use Rattle.children.specs.Phys.{Phys, leafP, innerP, Chain, stop, link, root, tree, childrenC, cellsC, Sound, SoundC}
-use Rattle.trie.proofs.Fresh.{chain-head}
 use Rattle.children.proofs.Chains.{linkC}
 use Rattle.walk.specs.declared.frame.Frame.{Frame}
 use Rattle.walk.specs.declared.frame.Step.the-variants.{Stay, Leaf, Exact, Down, Up}
