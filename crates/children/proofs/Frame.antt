@@ -4,7 +4,7 @@ use mathlib.Core.Path.{_≡_, refl, _∙_, sym}
 use mathlib.Core.List.{List}
 use native.Mathlib.Omega.{arith}
 use borrow.Author.Tests.{eq-eqb, ne-eqb}
-use lib.ListN.{length, set, length-set}
+use lib.ListN.{length, set}
 use lib.Seq.{getD-set-same, getD-set-other}
 use Rattle.meaning.specs.Trie.{nodes}
 use Rattle.children.specs.Heap.{Cells, hit, nodeClaims, pageClaims, Holds, Heap, nil, node, page, _⊕_}
@@ -113,17 +113,6 @@ page-write {N} {P} {a} {v} {r} w h l =
       nodes = h .nodes;
       pages = h .pages;
     }
-
--- three words of the node table, one after the other
-rotate : (x y z r : Cells) → Less (x ⊕ y ⊕ z ⊕ r) (y ⊕ z ⊕ x ⊕ r)
-rotate x y z r = record { holds = λ N P h. search; nodes = λ a. omega arith; pages = λ a. omega arith }
-
-pub node-write3 : {N P : List ℕ} {a b c u v w : ℕ} {r : Cells} (x y z : ℕ) → Heap N P (node a u ⊕ node b v ⊕ node c w ⊕ r) →
-    a < length N → b < length N → c < length N → Heap (set (set (set N a x) b y) c z) P (node a x ⊕ node b y ⊕ node c z ⊕ r)
-node-write3 {a} {b} {c} {v} {w} {r} x y z h la lb lc =
-    let h1 = less (rotate (node a x) (node b v) (node c w) r) (node-write x h la) in
-    let h2 = less (rotate (node b y) (node c w) (node a x) r) (node-write y h1 (simp length-set lb)) in
-    less (rotate (node c z) (node a x) (node b y) r) (node-write z h2 (simp length-set lc))
 
 -- a table keeps its length
 pub nodes-kept : {cap : ℕ} {N N' : List ℕ} → length N' ≡ length N → NodeTable cap N → NodeTable cap N'

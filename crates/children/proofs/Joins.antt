@@ -1,4 +1,5 @@
--- What the tables hold after a subtree was put among the children of a node at the place of its byte, and after one was taken out.
+-- A subtree among the children of a node at the place of its byte: what stands beside it, and what the tables hold after it was put there
+-- and after it was taken out.
 use Prim.Native.Nat.{ℕ, suc, _+_, _<_, _≤_}
 use mathlib.Core.Path.{_≡_, sym, subst}
 use mathlib.Core.List.{List}
@@ -9,10 +10,31 @@ use Rattle.layout.specs.Tables.{NodeTable}
 use Rattle.children.specs.Heap.{Cells, Heap, node, _⊕_}
 use Rattle.children.specs.Places.{linkAt}
 use Rattle.children.specs.Links.{putIn, takeOut}
-use Rattle.children.specs.Phys.{Phys, Buckets, Chain, root, cells, cellsB, SoundC, link, chainEnd}
-use Rattle.children.proofs.Frame.{Less, less, same-swap, node-write}
+use Rattle.children.specs.Phys.{Phys, Buckets, Chain, root, cells, cellsB, cellsC, SoundC, link, chainEnd}
+use Rattle.children.proofs.Frame.{Less, less, Same, same-swap, node-write}
 use Rattle.children.proofs.Spot.{SpotB}
 use Rattle.children.proofs.Chains.{linkC, afterC, chain-head, root-below, link-below}
+
+-- a child and what stands beside it in its node: the slot that links to it, the children after it, and the other chains
+module _ (cap pcap base : ℕ) (small : cap ≤ mostNodes) {bs : Buckets} {n b : ℕ} (s : SpotB cap pcap base small bs n 0 b) where
+  abbrev pub siblings : ℕ → Chain → Cells
+  siblings m after = node (s .slot) (chainWord (s .byte) (m + 1)) ⊕ cellsC cap base after m b ⊕ s .rest
+
+  pub child-same : (u : Phys) (after : Chain) → Same (cellsB cap base (s .put (link b u after)) n 0) (cells cap base u ⊕ siblings (root u) after)
+  child-same u after =
+      let q = s .same (link b u after) in
+      record {
+        to = record {
+          holds = λ N P h. let o = q .to .holds N P h in (o .0 .1 .0, (o .0 .0, (o .0 .1 .1, o .1)));
+          nodes = λ a. omega (arith, q .to .nodes a);
+          pages = λ a. omega (arith, q .to .pages a);
+        };
+        back = record {
+          holds = λ N P h. q .back .holds N P ((h .1 .0, (h .0, h .1 .1 .0)), h .1 .1 .1);
+          nodes = λ a. omega (arith, q .back .nodes a);
+          pages = λ a. omega (arith, q .back .pages a);
+        };
+      }
 
 module _ (cap pcap base : ℕ) (small : cap ≤ mostNodes) {bs : Buckets} {n b : ℕ} (s : SpotB cap pcap base small bs n 0 b) (R : Cells) where
   abbrev slotWord : ℕ → Cells

@@ -13,7 +13,7 @@ use Rattle.children.specs.declared.place.Place.{Place}
 use Rattle.children.specs.declared.place.Place.the-variants.{Found, Missing}
 use Rattle.children.specs.Heap.{Cells, Holds, nil, node, _⊕_}
 use Rattle.children.specs.Places.{linkAt, placeFrom, findPlace}
-use Rattle.children.specs.Phys.{Phys, Buckets, Chain, root, tree, childrenB, childrenC, cells, cellsB, cellsC, Sound, SoundB, SoundC, leafP, innerP, end, bucket, stop, link, chainEnd}
+use Rattle.children.specs.Phys.{Phys, Buckets, Chain, root, tree, childrenB, childrenC, cells, cellsB, cellsC, Sound, SoundB, SoundC, innerP, end, bucket, stop, link, chainEnd}
 use Rattle.children.proofs.Frame.{Same, same-trans, same-right, same-left, same-assoc, same-swap}
 use Rattle.children.proofs.Abstract.{Skips, Above, Leaves, leaves-next}
 use Rattle.children.proofs.Chains.{root-below, slot-link, slot-byte}

@@ -1,4 +1,4 @@
-// The children of a node one after the other, in rising byte, as the words lead. What stands in sound tables is tested by `order`.
+// The children of a node one after the other, as the words lead: in sound tables in rising byte. `order` tests that they are.
 ghost use mathlib.Core.Path.{_≡_};
 ghost use Prim.Native.Nat.{_<_};
 ghost use Rattle.layout.specs.Nodes.{nodeWords};

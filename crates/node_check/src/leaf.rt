@@ -1,7 +1,6 @@
 // What a node is, and the test of a leaf's pages: each is live, and its bytes are those that led to the leaf.
 ghost use mathlib.Core.Path.{_≡_};
 ghost use Prim.Native.Nat.{_≤_, _<_};
-ghost use lib.ListN.{length};
 ghost use Rattle.layout.specs.Tables.{NodeTable, PageTable};
 ghost use Rattle.blocks.specs.Tables.{RowTable};
 ghost use Rattle.node_check.specs.Leaf.{kindOf, onPath, testLeaf};

@@ -4,12 +4,13 @@ use mathlib.Core.Path.{_≡_, refl, ap, _∙_, sym}
 use mathlib.Core.List.{List}
 use native.Mathlib.Omega.{arith}
 use Rattle.meaning.specs.Trie.{Tree, inner, Children, child, nodes}
-use Rattle.layout.specs.Nodes.{chainWord, stateAt, innerState, mostNodes}
+use Rattle.layout.specs.Nodes.{stateAt, innerState, mostNodes}
 use Rattle.children.specs.Heap.{Cells, nil, node, _⊕_}
-use Rattle.children.specs.Phys.{Phys, Buckets, Chain, root, tree, childrenB, childrenC, freeCells, cells, cellsC, Sound, SoundC, State, innerP, link, chainEnd}
+use Rattle.children.specs.Phys.{Phys, Buckets, Chain, root, tree, childrenB, childrenC, freeCells, cells, Sound, SoundC, State, innerP, link, chainEnd}
 use Rattle.children.proofs.Frame.{Less, less, less-right, Same}
 use Rattle.trie.proofs.Abstract.{Kept, Walks}
 use Rattle.children.proofs.Spot.{SpotB}
+use Rattle.children.proofs.Joins.{siblings, child-same}
 
 module _ (cap pcap base : ℕ) (small : cap ≤ mostNodes) (byte : ℕ → ℕ) where
   -- from level k, where the root is node top, to level j, where the hole is for a subtree with the root hole
@@ -47,24 +48,20 @@ module _ (cap pcap base : ℕ) (small : cap ≤ mostNodes) (byte : ℕ → ℕ) 
     below u = innerP n (s .put (link (byte j) u after))
 
     abbrev pub rest : Cells
-    rest = node (s .slot) (chainWord (s .byte) (m + 1)) ⊕ cellsC cap base after m (byte j) ⊕ node (stateAt cap n) innerState ⊕ s .rest ⊕ C .rest
+    rest = siblings cap pcap base small s m after ⊕ node (stateAt cap n) innerState ⊕ C .rest
 
     pub below-same : (u : Phys) → root u ≡ m → Same (cells cap base (C .put (below u))) (cells cap base u ⊕ rest)
     below-same u e =
-        let x : Chain = link (byte j) u after in
-        let p = C .same (innerP n (s .put x)) refl in
-        let q = s .same x in
+        let p = C .same (innerP n (s .put (link (byte j) u after))) refl in
+        let q = child-same cap pcap base small s u after in
         record {
           to = record {
-            holds = λ N P h.
-                let i = p .to .holds N P h in
-                let o = q .to .holds N P (i .0 .1) in
-                (o .0 .1 .0, (rw e at (o .0 .0), (rw e at (o .0 .1 .1), (i .0 .0, (o .1, i .1)))));
+            holds = λ N P h. let i = p .to .holds N P h in let o = q .to .holds N P (i .0 .1) in (o .0, (rw e at (o .1), (i .0 .0, i .1)));
             nodes = λ a. rw (← e) (omega (arith, p .to .nodes a, q .to .nodes a));
             pages = λ a. rw (← e) (omega (arith, p .to .pages a, q .to .pages a));
           };
           back = record {
-            holds = λ N P h. p .back .holds N P ((h .1 .1 .1 .0, q .back .holds N P ((rw (← e) at (h .1 .0), (h .0, rw (← e) at (h .1 .1 .0))), h .1 .1 .1 .1 .0)), h .1 .1 .1 .1 .1);
+            holds = λ N P h. p .back .holds N P ((h .1 .1 .0, q .back .holds N P (h .0, rw (← e) at (h .1 .0))), h .1 .1 .1);
             nodes = λ a. rw (← e) (omega (arith, p .back .nodes a, q .back .nodes a));
             pages = λ a. rw (← e) (omega (arith, p .back .pages a, q .back .pages a));
           };

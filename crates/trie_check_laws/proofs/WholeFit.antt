@@ -10,7 +10,7 @@ use borrow.Author.Tests.{ltb-true}
 use Rattle.meaning.specs.Lists.{all}
 use Rattle.meaning.specs.Sketch.{packable}
 use Rattle.meaning.specs.Trie.{Children, child, nodes, nodesIn, pagesIn, pagesAmong}
-use Rattle.children.specs.Phys.{Phys, leafP, innerP, Buckets, end, bucket, Chain, stop, link, tree, childrenB, childrenC, SoundB}
+use Rattle.children.specs.Phys.{Phys, leafP, innerP, Buckets, end, bucket, Chain, stop, link, tree, childrenB, childrenC}
 use Rattle.trie_laws.specs.Sound.{filled}
 use Rattle.trie_laws.specs.Path.{follows}
 use Rattle.trie_laws.specs.Walk.{soundWalk, walkFrom}

@@ -9,7 +9,7 @@ use lib.ListN.{length, getD, set}
 use borrow.Author.Tests.{ne-eqb}
 use Rattle.children.proofs.StepWords as words
 use Rattle.meaning.specs.Sketch.{packable}
-use Rattle.layout.specs.Nodes.{linkOf, byteOf, chainWord, headAt, linkBase}
+use Rattle.layout.specs.Nodes.{chainWord, headAt, linkBase}
 use Rattle.children.specs.declared.order.Frame.{Frame}
 use Rattle.children.specs.declared.order.Step.{Step}
 use Rattle.children.specs.declared.order.Step.the-variants as step
@@ -17,7 +17,7 @@ use Rattle.node_check.specs.declared.leaf.Kind.{Kind}
 use Rattle.trie_visit.specs.declared.Move.the-variants as move
 use Rattle.node_check.specs.Mark.{noted, markOnce}
 use Rattle.node_check.specs.Leaf.{kindOf}
-use Rattle.children.specs.Order.{entered, pastChild, nextChain, stepAlong}
+use Rattle.children.specs.Order.{entered, pastChild, nextChain}
 use Rattle.node_check.specs.Frame.{stepIn}
 use Rattle.trie_visit.specs.Visit.{Given, Visited, visited, childMove, onMark, visitChild, onChild, visitStep, visit}
 use Rattle.trie_check.specs.Trie.{State, state, Tested, tested, leftIf, follow, run}

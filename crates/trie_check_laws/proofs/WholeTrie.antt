@@ -10,7 +10,7 @@ use lib.ListN.{length, getD, set, replicate, length-append}
 use borrow.Author.Tests.{ne-eqb, lt-ltb}
 use Rattle.meaning.specs.Trie.{nodes}
 use Rattle.words.specs.Bits.{flag}
-use Rattle.layout.specs.Nodes.{chainWord, chainAt, headAt, stepsFor, mostNodes, nodeSteps}
+use Rattle.layout.specs.Nodes.{chainAt, headAt, stepsFor, mostNodes, nodeSteps}
 use Rattle.layout.specs.Pages.{isLive}
 use Rattle.children.specs.Heap.{Holds, hit}
 use Rattle.children.specs.Phys.{Phys, leafP, innerP, Buckets, end, bucket, Chain, stop, link, root, first, tree, cells, cellsB, cellsC, Below, SoundB, SoundC}
