@@ -16,7 +16,7 @@ use Rattle.meaning.specs.Trie.{Tree, leaf, inner, none, child, byteAt, nodes, p
 use Rattle.meaning.specs.Ledger.{Settings, settingsGiven, drop}
 use Rattle.meaning.specs.Forest.{blockBytes, bytesOfSketch, totalNodes, forestAfter}
 use Rattle.meaning.specs.Questions.{inLimits, asked}
-use Rattle.layout.specs.Settings.{settingsOf, header, showsOpening}
+use Rattle.layout.specs.Settings.{settingsOf, header, showsOpening, registerLength}
 use Rattle.layout.specs.Lengths.{nodesLength, pagesLength, sketchesLength}
 use Rattle.layout.specs.Pages.{isLive, classOf, rowOf}
 use Rattle.children.specs.Heap.{Cells, nil, _⊕_}
@@ -46,7 +46,7 @@ abbrev N : List ℕ
 N = 0 ∷ 0 ∷ 0 ∷ 1 ∷ 3 ∷ 3 ∷ 3 ∷ replicate 23 0
 
 unfoldable settings : List ℕ
-settings = header given₁ ++ (replicate 320 0 ++ 0 ∷ [])
+settings = header given₁ ++ (replicate registerLength 0 ++ 0 ∷ [])
 
 abbrev T : Tables
 T = tables settings N (1 ∷ 0 ∷ 0 ∷ 0 ∷ []) (0 ∷ 1 ∷ []) []

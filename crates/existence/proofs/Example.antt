@@ -3,6 +3,7 @@ use Prim.Native.Nat.{ℕ}
 use mathlib.Core.Path.{_≡_, refl}
 use mathlib.Core.List.{List, [], _∷_}
 use lib.ListN.{replicate}
+use Rattle.layout.specs.Settings.{settingsLength}
 use Rattle.meaning.specs.Lists.{all, any, sum}
 use Rattle.meaning.specs.Refusal.{firstNo}
 use Rattle.meaning.specs.Sketch.{inRange, perByte, packedLength, blockLength}
@@ -23,7 +24,7 @@ s : Settings
 s = settingsGiven 2 4 1 1 1 (replicate 64 1)
 
 held : Tables
-held = record { settings = replicate 391 9; nodes = replicate 10 8; pages = replicate 3 1; sketches = replicate 4 3; working = replicate 2 7 }
+held = record { settings = replicate settingsLength 9; nodes = replicate 10 8; pages = replicate 3 1; sketches = replicate 4 3; working = replicate 2 7 }
 
 x : List ℕ
 x = 0 ∷ 1 ∷ 2 ∷ 3 ∷ []

@@ -13,7 +13,7 @@ use Rattle.meaning.specs.Trie.{Tree, fresh}
 use Rattle.meaning.specs.Ledger.{Settings, opening}
 use Rattle.meaning.specs.Questions.{inLimits}
 use Rattle.meaning.proofs.Lists.{length-from}
-use Rattle.layout.specs.Settings.{freeAt, header}
+use Rattle.layout.specs.Settings.{freeAt, header, registerLength}
 use Rattle.layout.specs.Nodes.{nodeWords, headAt, stateAt, freeState}
 use Rattle.layout.specs.Pages.{isLive}
 use Rattle.layout.specs.Lengths.{nodesLength}
@@ -154,7 +154,7 @@ module _ (s : Settings) (limits : inLimits s ≡ true) (T : Tables) (long : long
   unfolding opened freshSettings
   free-link =
       onto-word (freshSettings s) (T .settings) freeAt (omega (arith, settings-length s limits))
-      ∙ past-zeros (header s) 320 (freeLink (s .nodes) q) freeAt (omega (arith, header-length s limits))
+      ∙ past-zeros (header s) registerLength (freeLink (s .nodes) q) freeAt (omega (arith, header-length s limits))
       ∙ sym (first-from s limits T q (s .nodes - q) (omega (arith, fits)))
 
   held : Holding (opened s T) (roots 0 q) free

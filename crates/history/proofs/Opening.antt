@@ -14,7 +14,7 @@ use Rattle.meaning.specs.Refusal.{firstNo}
 use Rattle.meaning.specs.Ledger.{Settings, Ledger, opening, accept}
 use Rattle.meaning.specs.Questions.{inLimits, asked}
 use Rattle.meaning.proofs.Lists.{and-first, and-second, length-from, length-onto}
-use Rattle.layout.specs.Settings.{settingsLength, membersAt, freeAt, header}
+use Rattle.layout.specs.Settings.{settingsLength, membersAt, freeAt, header, registerLength}
 use Rattle.layout.specs.Pages.{isLive}
 use Rattle.layout.specs.Lengths.{nodesLength, pagesLength}
 use Rattle.layout.proofs.Limits.{bounds}
@@ -42,9 +42,9 @@ module _ (s : Settings) (limits : inLimits s ≡ true) where
   unfolding freshSettings
   settings-length = simp (length-append, header-length)
 
-  settings-word : (k : ℕ) → k < 320 → getD (freshSettings s) (membersAt + k) 0 ≡ 0
+  settings-word : (k : ℕ) → k < registerLength → getD (freshSettings s) (membersAt + k) 0 ≡ 0
   unfolding freshSettings
-  settings-word k h = rw (← header-length, getD-append-add (header s) _ k 0) (zero-word 320 (freeLink (s .nodes) (s .blocks) ∷ []) k h)
+  settings-word k h = rw (← header-length, getD-append-add (header s) _ k 0) (zero-word registerLength (freeLink (s .nodes) (s .blocks) ∷ []) k h)
 
   pub nodes-length : length (freshNodes s) ≡ nodesLength s
   unfolding freshNodes nodesLength upto

@@ -42,8 +42,12 @@ chainAt x = x
 abbrev pub stateAt : ℕ → ℕ → ℕ
 stateAt N x = N + x
 
+-- where the heads begin
+abbrev pub headsAt : ℕ → ℕ
+headsAt N = 2 * N
+
 abbrev pub headAt : ℕ → ℕ → ℕ → ℕ
-headAt N x g = 2 * N + 8 * x + g
+headAt N x g = headsAt N + 8 * x + g
 
 -- the state of a node: free, inner, or a leaf with the link to its first page
 abbrev pub freeState : ℕ

@@ -7,8 +7,12 @@ ghost use Rattle.layout.specs.Pages.{mostPages};
 ghost use Rattle.layout.specs.Tables.{NodeTable};
 ghost use Rattle.layout.specs.States.{kindOf, firstOf};
 
-// The words of a node.
+// The words of a node; of these the heads, which stand behind as many others.
 pub const WORDS: usize = 10;
+
+pub const HEADS: usize = 8;
+
+pub const OTHERS: usize = 2;
 
 // The steps of a walk for each node: to it, up, and to each of its chains.
 pub const STEPS: usize = 10;

@@ -23,6 +23,9 @@ pub const MEMBERS: usize = 70;
 
 pub const GRANTS: usize = 326;
 
+// The words of the register: a word for each of 256 readers, two for each of 32 groups.
+pub const REGISTER: usize = 320;
+
 const FREE: usize = 390;
 
 // Question 4 of an opening that is lent so many thresholds, each of 16 bits.

@@ -7,13 +7,14 @@ use mathlib.Core.List.{List, [], _∷_, _++_, map}
 use borrow.Author.Tests.{ne-eqb, leb-true, eqb-true}
 use lib.ListN.{length, getD, set, drop, replicate, length-replicate, length-append, length-drop}
 use lib.Seq.{sets, length-sets}
+use Rattle.layout.specs.Nodes.{headsAt}
 use Rattle.meaning.specs.Lists.{onto, upto}
 use Rattle.meaning.specs.Refusal.{firstNo}
 use Rattle.meaning.specs.Ledger.{Settings, opening, settingsGiven}
 use Rattle.meaning.specs.Questions.{asked}
 use Rattle.meaning.proofs.Lists.{and-first, and-second, length-map-upto}
 use Rattle.layout.specs.declared.Header.{Header}
-use Rattle.layout.specs.Settings.{settingsLength, header, withHeader}
+use Rattle.layout.specs.Settings.{settingsLength, header, withHeader, membersAt, registerLength, freeAt}
 use Rattle.layout.specs.Header.{headerOf, bare}
 use Rattle.layout.specs.Limits.{limitsOf}
 use Rattle.layout.specs.Lengths.{nodesLength, pagesLength, sketchesLength, workingLength}
@@ -46,16 +47,16 @@ length-header : (s : Settings) → length (s .thresholds) ≡ 64 → length (hea
 unfolding header
 length-header s count = rw count
 
-pub settings-written : (s : Settings) (ws : List ℕ) → length (s .thresholds) ≡ 64 → 391 ≤ length ws
-    → set (zeroed (withHeader ws s) 70 320) 390 (freeLink (s .nodes) (s .blocks)) ≡ onto (freshSettings s) ws
+pub settings-written : (s : Settings) (ws : List ℕ) → length (s .thresholds) ≡ 64 → settingsLength ≤ length ws
+    → set (zeroed (withHeader ws s) membersAt registerLength) freeAt (freeLink (s .nodes) (s .blocks)) ≡ onto (freshSettings s) ws
 unfolding freshSettings withHeader
-settings-written s ws count long = written (header s) ws 70 320 (freeLink (s .nodes) (s .blocks)) (length-header s count) (omega arith)
+settings-written s ws count long = written (header s) ws membersAt registerLength (freeLink (s .nodes) (s .blocks)) (length-header s count) (omega arith)
 
 -- ---- the node table
 pub nodes-written : (h : Header) (ns : List ℕ) → nodesLength (bare h) ≤ length ns
     → zeroed
     (sets (sets ns 0 (map (freshChain (bare h)) (upto (h .nodes)))) (h .nodes) (map (freshState (bare h)) (upto (h .nodes))))
-    (2 * h .nodes)
+    (headsAt (h .nodes))
     (8 * h .nodes)
     ≡ onto (freshNodes (bare h)) ns
 unfolding freshNodes nodesLength

@@ -71,5 +71,9 @@ pub fn write_nodes(nodes: &mut [u32], h: Header)
 {
     write_chain(nodes, h);
     write_states(nodes, h);
-    words::zero_run(nodes, 2 * h.nodes, 8 * h.nodes);
+    words::zero_run(
+        nodes,
+        layout::nodes::OTHERS * h.nodes,
+        layout::nodes::HEADS * h.nodes,
+    );
 }

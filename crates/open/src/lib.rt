@@ -18,9 +18,6 @@ pub mod lengths;
 
 use layout::Header;
 
-// The words of the register: a word for each of 256 readers, two for each of 32 groups.
-const REGISTER: usize = 320;
-
 // 5: is every table long enough?
 fn long_enough(
     h: Header,
@@ -47,7 +44,11 @@ fn write_settings(settings: &mut [u32], h: Header, thresholds: &[u16])
     ensures { λ r. ⌜ now (settings .exit) ≡ onto (freshSettings (withThresholds h (now (thresholds .entry)))) (now (settings .entry)) ⌝ }
 {
     layout::settings::write_header(settings, h, thresholds);
-    words::zero_run(settings, layout::settings::MEMBERS, REGISTER);
+    words::zero_run(
+        settings,
+        layout::settings::MEMBERS,
+        layout::settings::REGISTER,
+    );
     layout::settings::set_free_link(settings, fresh::free_link(h.nodes, h.q));
 }
 

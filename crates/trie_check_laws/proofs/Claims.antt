@@ -13,7 +13,7 @@ use borrow.Author.Tests.{ltb-true, ltb-false, lt-ltb, le-ltb, eqb-true, ne-eqb}
 use Rattle.meaning.specs.Lists.{count}
 use Rattle.meaning.specs.Trie.{nodes}
 use Rattle.meaning.proofs.Lists.{eqb-comm}
-use Rattle.layout.specs.Nodes.{chainAt, stateAt, headAt, freeState, nodeWords}
+use Rattle.layout.specs.Nodes.{chainAt, stateAt, headAt, freeState, nodeWords, headsAt}
 use Rattle.children.specs.Heap.{hit, nodeClaims, Holds}
 use Rattle.children.specs.Phys.{Phys, leafP, innerP, Buckets, end, bucket, Chain, stop, link, root, tree, noHeads, pageCells, freeCells, cells, cellsB, cellsC, Below, Sound, SoundB, SoundC}
 use Rattle.children.proofs.Frame.{hit-same, hit-other}
@@ -27,7 +27,7 @@ use Rattle.trie_check_laws.proofs.WholeFit.{size, sizeB, sizeC, size-no
 
 -- the node of cap nodes that a word belongs to; cap for a word behind them
 unfoldable pub owner : ℕ → ℕ → ℕ
-owner cap a = cond (ltb a cap) a (cond (ltb a (2 * cap)) (a - cap) (cond (ltb a (nodeWords cap)) ((a - 2 * cap) / 8) cap))
+owner cap a = cond (ltb a cap) a (cond (ltb a (headsAt cap)) (a - cap) (cond (ltb a (nodeWords cap)) ((a - headsAt cap) / 8) cap))
 
 among-in : (k n a : ℕ) → k ≤ a → a < k + n → among k n a ≡ 1
 unfolding among
@@ -47,7 +47,7 @@ module _ (cap a n : ℕ) (below : n < cap) where
   in-chain l =
       omega (arith, hit-other {a = a} {b = cap + n} (λ e. omega arith), heads cap n a, among-out (headAt cap n 0) 8 a (λ q. absurd (omega arith)))
 
-  in-state : cap ≤ a → a < 2 * cap → Owned (a - cap)
+  in-state : cap ≤ a → a < headsAt cap → Owned (a - cap)
   in-state l m = go (ℕ-discrete (a - cap) n)
     where
       others : hit (chainAt n) a + nodeClaims (noHeads cap n) a ≡ 0
@@ -57,21 +57,21 @@ module _ (cap a n : ℕ) (below : n < cap) where
       go (yes e) = omega (arith, others, hit-same {a = a - cap} {b = n} e, hit-same {a = a} {b = cap + n} (omega arith))
       go (no e) = omega (arith, others, hit-other {a = a - cap} {b = n} e, hit-other {a = a} {b = cap + n} (λ q. e (omega arith)))
 
-  not-low : 2 * cap ≤ a → hit (chainAt n) a + hit (stateAt cap n) a ≡ 0
+  not-low : headsAt cap ≤ a → hit (chainAt n) a + hit (stateAt cap n) a ≡ 0
   not-low l = omega (arith, hit-other {a = a} {b = n} (λ e. omega arith), hit-other {a = a} {b = cap + n} (λ e. omega arith))
 
-  in-head : 2 * cap ≤ a → Owned ((a - 2 * cap) / 8)
-  in-head l = go (ℕ-discrete ((a - 2 * cap) / 8) n)
+  in-head : headsAt cap ≤ a → Owned ((a - headsAt cap) / 8)
+  in-head l = go (ℕ-discrete ((a - headsAt cap) / 8) n)
     where
-      go : Dec ((a - 2 * cap) / 8 ≡ n) → Owned ((a - 2 * cap) / 8)
+      go : Dec ((a - headsAt cap) / 8 ≡ n) → Owned ((a - headsAt cap) / 8)
       go (yes e) =
-          omega (arith, not-low l, heads cap n a, among-in (headAt cap n 0) 8 a (omega arith) (omega arith), hit-same {a = (a - 2 * cap) / 8} {b = n} e)
+          omega (arith, not-low l, heads cap n a, among-in (headAt cap n 0) 8 a (omega arith) (omega arith), hit-same {a = (a - headsAt cap) / 8} {b = n} e)
       go (no e) =
           omega (
             arith,
             not-low l,
             heads cap n a,
-            hit-other {a = (a - 2 * cap) / 8} {b = n} e,
+            hit-other {a = (a - headsAt cap) / 8} {b = n} e,
             among-out (headAt cap n 0) 8 a (λ q. not-below (λ r. e (omega arith))),
           )
         where
@@ -84,13 +84,13 @@ module _ (cap a n : ℕ) (below : n < cap) where
 
   owned : Owned (owner cap a)
   unfolding owner
-  owned = go (ltb a cap) refl (ltb a (2 * cap)) refl (ltb a (nodeWords cap)) refl
+  owned = go (ltb a cap) refl (ltb a (headsAt cap)) refl (ltb a (nodeWords cap)) refl
     where
-      go : (p : Bool) → ltb a cap ≡ p → (q : Bool) → ltb a (2 * cap) ≡ q → (r : Bool) → ltb a (nodeWords cap) ≡ r
-          → Owned (cond p a (cond q (a - cap) (cond r ((a - 2 * cap) / 8) cap)))
+      go : (p : Bool) → ltb a cap ≡ p → (q : Bool) → ltb a (headsAt cap) ≡ q → (r : Bool) → ltb a (nodeWords cap) ≡ r
+          → Owned (cond p a (cond q (a - cap) (cond r ((a - headsAt cap) / 8) cap)))
       go true e q f r g = in-chain (ltb-true a cap e)
-      go false e true f r g = in-state (ltb-false a cap e) (ltb-true a (2 * cap) f)
-      go false e false f true g = in-head (ltb-false a (2 * cap) f)
+      go false e true f r g = in-state (ltb-false a cap e) (ltb-true a (headsAt cap) f)
+      go false e false f true g = in-head (ltb-false a (headsAt cap) f)
       go false e false f false g = in-none (ltb-false a (nodeWords cap) g)
 
 -- where the words of node x stand
@@ -100,21 +100,21 @@ owner-chain cap x l = rw (lt-ltb x cap l) refl
 
 pub owner-state : (cap x : ℕ) → x < cap → owner cap (stateAt cap x) ≡ x
 unfolding owner
-owner-state cap x l = rw (le-ltb (cap + x) cap (omega arith), lt-ltb (cap + x) (2 * cap) (omega arith)) (omega arith)
+owner-state cap x l = rw (le-ltb (cap + x) cap (omega arith), lt-ltb (cap + x) (headsAt cap) (omega arith)) (omega arith)
 
 pub owner-head : (cap x g : ℕ) → x < cap → g < 8 → owner cap (headAt cap x g) ≡ x
 unfolding owner
 owner-head cap x g l m =
     rw (
-      le-ltb (2 * cap + 8 * x + g) cap (omega arith),
-      le-ltb (2 * cap + 8 * x + g) (2 * cap) (omega arith),
-      lt-ltb (2 * cap + 8 * x + g) (nodeWords cap) (omega arith),
+      le-ltb (headAt cap x g) cap (omega arith),
+      le-ltb (headAt cap x g) (headsAt cap) (omega arith),
+      lt-ltb (headAt cap x g) (nodeWords cap) (omega arith),
     )
     (omega arith)
 
 pub owner-none : (cap a : ℕ) → nodeWords cap ≤ a → owner cap a ≡ cap
 unfolding owner
-owner-none cap a l = rw (le-ltb a cap (omega arith), le-ltb a (2 * cap) (omega arith), le-ltb a (nodeWords cap) l) refl
+owner-none cap a l = rw (le-ltb a cap (omega arith), le-ltb a (headsAt cap) (omega arith), le-ltb a (nodeWords cap) l) refl
 
 -- ---- claims by uses
 hit-count : (f x : ℕ) → hit f x ≡ cond (eqb x f) 1 0

@@ -104,10 +104,15 @@ impl Library {
 
 /// Tables as long as the library wants them.
 fn empty(s: &Settings) -> Tables {
-    let (number, lengths) = calls::lengths(s.b, s.m, s.q, s.pages, s.nodes);
+    let (number, n) = calls::lengths(s);
     assert_eq!(number, 0);
-    let [settings, nodes, pages, sketches, working] = lengths.map(|n| n as usize);
-    Tables { settings: vec![0; settings], nodes: vec![0; nodes], pages: vec![0; pages], sketches: vec![0; sketches], working: vec![0; working] }
+    Tables {
+        settings: vec![0; n.settings],
+        nodes: vec![0; n.nodes],
+        pages: vec![0; n.pages],
+        sketches: vec![0; n.sketches],
+        working: vec![0; n.working],
+    }
 }
 
 impl Way for Library {
