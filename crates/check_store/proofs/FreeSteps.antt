@@ -8,21 +8,28 @@ use mathlib.Core.List.{List}
 use borrow.Author.Tests.{eq-eqb, ne-eqb, lt-ltb, le-ltb, not-true, not-false}
 use lib.Dec.{ltb}
 use lib.ListN.{getD}
-use Rattle.layout.specs.Nodes.{stateAt}
+use Rattle.layout.specs.Nodes.{freeState, leafState}
+use Rattle.layout.specs.States.{kindOf, stateOf}
+use Rattle.layout.specs.declared.nodes.Kind.the-variants.{Free, Inner, Leaf}
+use Rattle.layout.proofs.States.{state-kind}
 use Rattle.node_check.specs.declared.leaf.Left.{Left}
 use Rattle.node_check.specs.declared.leaf.Left.the-variants.{Some, Failed}
 use Rattle.children.specs.Order.{bare}
 use Rattle.check_store.specs.Free.{isFree, freeFrom}
 
 -- ---- a node
-module _ (N : List ℕ) (cap x i : ℕ) (at : i ≡ stateAt cap x) where
-  pub not-free : getD N i 0 ≢ 0 → false ≡ isFree N cap x
+module _ (N : List ℕ) (cap x : ℕ) where
+  pub free-bare : kindOf N cap x ≡ Free → isFree N cap x ≡ bare N cap x
   unfolding isFree
-  not-free h = rw (← at, ne-eqb (getD N i 0) 0 h)
+  free-bare e = rw (eq-eqb _ freeState (state-kind N cap x ∙ ap stateOf e)) refl
 
-  pub free-heads : getD N i 0 ≡ 0 → (r : Bool) → r ≡ bare N cap x → r ≡ isFree N cap x
+  pub inner-used : kindOf N cap x ≡ Inner → isFree N cap x ≡ false
   unfolding isFree
-  free-heads h r e = rw (← at, eq-eqb (getD N i 0) 0 h) e
+  inner-used e = rw (state-kind N cap x ∙ ap stateOf e) refl
+
+  pub leaf-used : (first : ℕ) → kindOf N cap x ≡ Leaf first → isFree N cap x ≡ false
+  unfolding isFree
+  leaf-used first e = rw (state-kind N cap x ∙ ap stateOf e, ne-eqb (leafState first) freeState (omega arith)) refl
 
 -- ---- the loop
 module _ (N : List ℕ) (cap link f : ℕ) (R : Left) (inv : freeFrom N cap link f ≡ R) where

@@ -1,8 +1,9 @@
-// The free chain, from the free link on: its nodes have state 0 and no children, and it ends within the capacity.
+// The free chain, from the free link on: its nodes are free and have no children, and it ends within the capacity.
 ghost use mathlib.Core.Path.{_≡_};
 ghost use Prim.Native.Nat.{_<_};
 ghost use Rattle.layout.specs.Tables.{NodeTable};
 ghost use Rattle.check_store.specs.Free.{isFree, testFree};
+use layout::nodes::Kind;
 use node_check::leaf::Left;
 
 fn is_free(nodes: &[u32], cap: usize, x: usize) -> bool
@@ -10,10 +11,11 @@ fn is_free(nodes: &[u32], cap: usize, x: usize) -> bool
     requires { ⌜ x < cap ⌝ }
     ensures { λ r. ⌜ r ≡ isFree (now (nodes .entry)) cap x ⌝ }
 {
-    if nodes[layout::nodes::state_at(cap, x)] != 0 {
-        return false;
+    match layout::nodes::kind_of(nodes, cap, x) {
+        Kind::Free => children::order::is_bare(nodes, cap, x),
+        Kind::Inner => false,
+        Kind::Leaf(_) => false,
     }
-    children::order::is_bare(nodes, cap, x)
 }
 
 // How many nodes are not free, where all on the chain are.

@@ -1,5 +1,5 @@
 -- Descents over bytes that stand further on in a table go the same way.
-use Prim.Native.Nat.{ℕ, zero, suc, _+_, _-_, _/_, _<_, _≤_}
+use Prim.Native.Nat.{ℕ, zero, suc, _+_, _-_, _<_, _≤_}
 use native.Mathlib.Omega.{arith}
 use native.Mathlib.Nat.{add-assoc}
 use mathlib.Core.Path.{_≡_, refl, sym, ap, ap₂, subst}
@@ -7,10 +7,14 @@ use mathlib.Core.Bool.{Bool, true, false, cond}
 use mathlib.Core.List.{List}
 use lib.Dec.{ltb, eqb}
 use lib.ListN.{getD}
-use borrow.Author.Tests.{eqb-false, ltb-true, ltb-false}
-use Rattle.layout.specs.Nodes.{linkOf, byteOf, stateAt, headAt, freeState, innerState}
+use borrow.Author.Tests.{eqb-false, lt-ltb, le-ltb, ltb-true, ltb-false}
+use Rattle.layout.specs.Nodes.{linkOf, byteOf}
+use Rattle.layout.specs.States.{kindOf}
+use Rattle.layout.specs.declared.nodes.Kind.{Kind}
+use Rattle.layout.specs.declared.nodes.Kind.the-variants.{Free, Inner, Leaf}
+use Rattle.children.specs.Cursors.{firstFor}
 use Rattle.descent.specs.declared.Cursor.{Cursor}
-use Rattle.descent.specs.Cursor.{outside, ended, ahead, arrive, pass, advance, descended, drawn, leafOf}
+use Rattle.descent.specs.Cursor.{outside, ended, ahead, arriveAs, arrive, pass, advance, descended, drawn, leafOf}
 
 -- `bytes` has from `base` on what `ys` has up to `last`
 module _ (N : List ℕ) (cap : ℕ) (bytes ys : List ℕ) (base last : ℕ) (same : (k : ℕ) → k ≤ last → getD bytes (base + k) 0 ≡ getD ys k 0) where
@@ -28,25 +32,15 @@ module _ (N : List ℕ) (cap : ℕ) (bytes ys : List ℕ) (base last : ℕ) (sam
 
   pub alike-arrive : (x at : ℕ) → Alike (arrive N cap ys x at last) (arrive N cap bytes x (base + at) (base + last))
   unfolding arrive
-  alike-arrive x at =
-      go (eqb (getD N (stateAt cap x) 0) freeState) (eqb (getD N (stateAt cap x) 0) innerState) (ltb last at) refl (ltb (base + last) (base + at)) refl
+  alike-arrive x at = go (kindOf N cap x) (ltb last at) refl
     where
-      go : (free within : Bool) (short : Bool) → ltb last at ≡ short → (short′ : Bool) → ltb (base + last) (base + at) ≡ short′
-          → Alike
-          (cond free (ended outside)
-          (cond within (cond short (ended outside) (ahead (linkOf (getD N (headAt cap x (getD ys at 0 / 32)) 0)) at last)) (ended (getD N (stateAt cap x) 0 - 2))))
-          (cond free (ended outside)
-          (cond within
-          (cond short′ (ended outside) (ahead (linkOf (getD N (headAt cap x (getD bytes (base + at) 0 / 32)) 0)) (base + at) (base + last)))
-          (ended (getD N (stateAt cap x) 0 - 2))))
-      go true within short e short′ e′ = alike-ended outside
-      go false false short e short′ e′ = alike-ended (getD N (stateAt cap x) 0 - 2)
-      go false true true e true e′ = alike-ended outside
-      go false true true e false e′ = absurd (omega (arith, ltb-true last at e, ltb-false (base + last) (base + at) e′))
-      go false true false e true e′ = absurd (omega (arith, ltb-false last at e, ltb-true (base + last) (base + at) e′))
-      go false true false e false e′ =
+      go : (k : Kind) (short : Bool) → ltb last at ≡ short → Alike (arriveAs N cap ys x at last k) (arriveAs N cap bytes x (base + at) (base + last) k)
+      go Free short e = alike-ended outside
+      go (Leaf first) short e = alike-ended first
+      go Inner true e = rw (e, lt-ltb (base + last) (base + at) (omega (arith, ltb-true last at e))) (alike-ended outside)
+      go Inner false e =
           let inside : at ≤ last = omega (arith, ltb-false last at e) in
-          rw (same at inside) (alike-ahead (linkOf (getD N (headAt cap x (getD ys at 0 / 32)) 0)) at inside)
+          rw (e, le-ltb (base + last) (base + at) (omega arith), same at inside) (alike-ahead (firstFor N cap x (getD ys at 0)) at inside)
 
   alike-pass : (x at : ℕ) → at ≤ last → Alike (pass N cap ys x at last) (pass N cap bytes x (base + at) (base + last))
   unfolding pass

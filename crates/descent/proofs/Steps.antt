@@ -1,36 +1,56 @@
 -- Steps of a descent: they stay inside the bytes, and one that has ended stays. The nodes that they read.
-use Prim.Native.Nat.{ℕ, zero, suc, _+_, _-_, _/_, _<_, _≤_}
+use Prim.Native.Nat.{ℕ, zero, suc, _+_, _-_, _<_, _≤_}
 use native.Mathlib.Nat.{zero-add, suc-add}
 use native.Mathlib.Omega.{arith}
-use mathlib.Core.Path.{_≡_, refl, sym, ap, _∙_}
+use mathlib.Core.Path.{_≡_, refl, ap, _∙_}
 use mathlib.Core.Bool.{Bool, true, false, cond}
 use mathlib.Core.List.{List, [], _∷_, _++_}
 use lib.Dec.{ltb, eqb}
 use lib.ListN.{length, getD}
 use borrow.Author.Tests.{eq-eqb, ne-eqb, lt-ltb, le-ltb, ltb-false, eqb-true}
-use Rattle.layout.specs.Nodes.{linkOf, byteOf, stateAt, headAt, freeState, innerState}
+use Rattle.layout.specs.Nodes.{linkOf, byteOf}
+use Rattle.layout.specs.States.{kindOf}
+use Rattle.layout.specs.declared.nodes.Kind.{Kind}
+use Rattle.layout.specs.declared.nodes.Kind.the-variants.{Free, Inner, Leaf}
+use Rattle.children.specs.Cursors.{firstFor}
 use Rattle.descent.specs.declared.Cursor.{Cursor}
-use Rattle.descent.specs.Cursor.{Inside, ended, outside, ahead, arrive, pass, advance, descended, drawn, drawnAll}
+use Rattle.descent.specs.Cursor.{Inside, ended, outside, ahead, arriveAs, arrive, pass, advance, descended, drawn, drawnAll}
 
 module _ (nodes : List ℕ) (cap : ℕ) (bytes : List ℕ) where
+  -- ---- at a node, by what it is
+
+  module _ (x at last : ℕ) where
+    pub arrive-free : kindOf nodes cap x ≡ Free → arrive nodes cap bytes x at last ≡ ended outside
+    unfolding arrive
+    arrive-free e = rw e refl
+
+    pub arrive-leaf : (first : ℕ) → kindOf nodes cap x ≡ Leaf first → arrive nodes cap bytes x at last ≡ ended first
+    unfolding arrive
+    arrive-leaf first e = rw e refl
+
+    module _ (e : kindOf nodes cap x ≡ Inner) where
+      pub arrive-short : last < at → arrive nodes cap bytes x at last ≡ ended outside
+      unfolding arrive
+      arrive-short l = rw (e, lt-ltb last at l) refl
+
+      pub arrive-inner : at ≤ last → arrive nodes cap bytes x at last ≡ ahead (firstFor nodes cap x (getD bytes at 0)) at last
+      unfolding arrive
+      arrive-inner l = rw (e, le-ltb last at l) refl
+
+  -- ---- inside the bytes
+
   pub inside-ended : (first : ℕ) → 0 < length bytes → Inside bytes (ended first)
   inside-ended first some = record { at = some; last = some }
 
   pub inside-arrive : (x at last : ℕ) → last < length bytes → Inside bytes (arrive nodes cap bytes x at last)
   unfolding arrive
-  inside-arrive x at last h =
-      go (eqb (getD nodes (stateAt cap x) 0) freeState) (eqb (getD nodes (stateAt cap x) 0) innerState) (ltb last at) refl
+  inside-arrive x at last h = go (kindOf nodes cap x) (ltb last at) refl
     where
-      go : (free within short : Bool) → ltb last at ≡ short
-          → Inside bytes
-          (cond free (ended outside)
-          (cond within
-          (cond short (ended outside) (ahead (linkOf (getD nodes (headAt cap x (getD bytes at 0 / 32)) 0)) at last))
-          (ended (getD nodes (stateAt cap x) 0 - 2))))
-      go true within short e = inside-ended outside (omega arith)
-      go false true true e = inside-ended outside (omega arith)
-      go false true false e = record { at = omega (arith, ltb-false last at e); last = h }
-      go false false short e = inside-ended (getD nodes (stateAt cap x) 0 - 2) (omega arith)
+      go : (k : Kind) (short : Bool) → ltb last at ≡ short → Inside bytes (arriveAs nodes cap bytes x at last k)
+      go Free short e = inside-ended outside (omega arith)
+      go Inner true e = rw e (inside-ended outside (omega arith))
+      go Inner false e = rw e (record { at = omega (arith, ltb-false last at e); last = h })
+      go (Leaf first) short e = inside-ended first (omega arith)
 
   inside-pass : (x at last : ℕ) → at < length bytes → last < length bytes → Inside bytes (pass nodes cap bytes x at last)
   unfolding pass

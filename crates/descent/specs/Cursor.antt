@@ -1,12 +1,16 @@
 -- Exact descents: the leaf of a trie that the bytes of a block lead to, a step at a time.
-use Prim.Native.Nat.{ℕ, zero, suc, _+_, _-_, _/_, _<_, _≤_}
+use Prim.Native.Nat.{ℕ, zero, suc, _+_, _-_, _<_, _≤_}
 use mathlib.Core.Path.{_≡_}
 use mathlib.Core.Bool.{cond}
 use mathlib.Core.List.{List, [], _∷_}
 use lib.Dec.{ltb, eqb}
 use lib.ListN.{length, getD, take}
-use Rattle.layout.specs.Nodes.{linkOf, byteOf, stateAt, headAt, freeState, innerState}
+use Rattle.layout.specs.Nodes.{linkOf, byteOf}
+use Rattle.layout.specs.States.{kindOf}
 use Rattle.layout.specs.Tables.{NodeTable}
+use Rattle.layout.specs.declared.nodes.Kind.{Kind}
+use Rattle.layout.specs.declared.nodes.Kind.the-variants.{Free, Inner, Leaf}
+use Rattle.children.specs.Cursors.{firstFor}
 use Rattle.descent.specs.declared.Cursor.{Cursor}
 use Rattle.descent.specs.declared.Left.{Left}
 use Rattle.descent.specs.declared.Left.the-variants.{Some, Broken}
@@ -46,13 +50,14 @@ abbrev pub ahead : ℕ → ℕ → ℕ → Cursor
 ahead link at last = record { link = link; at = at; last = last; first = 0 }
 
 module _ (nodes : List ℕ) (cap : ℕ) (bytes : List ℕ) where
-  -- at node x, with the bytes from `at` to `last` to go: a leaf, or the chain that the next byte belongs to
+  -- at a node x of a kind, with the bytes from `at` to `last` to go: a leaf, or the chain that the next byte belongs to
+  abbrev pub arriveAs : ℕ → ℕ → ℕ → Kind → Cursor
+  arriveAs x at last Free = ended outside
+  arriveAs x at last Inner = cond (ltb last at) (ended outside) (ahead (firstFor nodes cap x (getD bytes at 0)) at last)
+  arriveAs x at last (Leaf first) = ended first
+
   unfoldable pub arrive : ℕ → ℕ → ℕ → Cursor
-  arrive x at last =
-      cond (eqb (getD nodes (stateAt cap x) 0) freeState) (ended outside)
-      (cond (eqb (getD nodes (stateAt cap x) 0) innerState)
-      (cond (ltb last at) (ended outside) (ahead (linkOf (getD nodes (headAt cap x (getD bytes at 0 / 32)) 0)) at last))
-      (ended (getD nodes (stateAt cap x) 0 - 2)))
+  arrive x at last = arriveAs x at last (kindOf nodes cap x)
 
   -- at the child x of a chain whose bytes rise
   unfoldable pub pass : ℕ → ℕ → ℕ → Cursor

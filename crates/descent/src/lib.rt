@@ -4,6 +4,7 @@ ghost use mathlib.Core.Path.{_≡_};
 ghost use Prim.Native.Nat.{_*_, _<_, _≤_};
 ghost use lib.ListN.{length};
 ghost use Rattle.descent.specs.Cursor.{Fits, Inside, AllInside, ended, arrive, advance, going, Descended, leafOf};
+use layout::nodes::Kind;
 
 pub mod leaves;
 
@@ -49,22 +50,21 @@ pub fn arrive(nodes: &[u32], cap: usize, bytes: &[u8], x: usize, at: u32, last: 
     requires { ⌜ (x < cap) × (last < length (now bytes)) ⌝ }
     ensures { λ r. ⌜ r ≡ arrive (now (nodes .entry)) cap (now (bytes .entry)) x at last ⌝ }
 {
-    let state = nodes[layout::nodes::state_at(cap, x)];
-    if state == 0 {
-        return ended(OUTSIDE);
-    }
-    if state != 1 {
-        return ended(state - 2);
-    }
-    if last < at {
-        return ended(OUTSIDE);
-    }
-    let head = layout::nodes::head_at(cap, x, (bytes[at as usize] / 32) as usize);
-    Cursor {
-        link: layout::nodes::link_of(nodes[head]),
-        at: at,
-        last: last,
-        first: 0,
+    match layout::nodes::kind_of(nodes, cap, x) {
+        Kind::Free => ended(OUTSIDE),
+        Kind::Leaf(first) => ended(first),
+        Kind::Inner => {
+            if last < at {
+                return ended(OUTSIDE);
+            }
+            let byte = bytes[at as usize] as u32;
+            Cursor {
+                link: children::cursor::first_for(nodes, cap, x, byte),
+                at: at,
+                last: last,
+                first: 0,
+            }
+        }
     }
 }
 

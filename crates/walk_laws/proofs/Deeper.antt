@@ -8,6 +8,8 @@ use lib.ListN.{getD}
 use Rattle.meaning.specs.Lists.{count, from, upto}
 use Rattle.meaning.specs.Sketch.{perByte, group, byteDistance}
 use Rattle.meaning.specs.Trie.{met, metIn}
+use Rattle.layout.specs.States.{kindOf}
+use Rattle.children.specs.Cursors.{firstFor}
 use Rattle.children.specs.Heap.{Holds}
 use Rattle.children.specs.Phys.{Phys, leafP, innerP, end, bucket, stop, link, tree, cells, noHeads, Sound}
 use Rattle.walk.specs.declared.frame.Step.the-variants.{Exact, Down}
@@ -96,11 +98,11 @@ deeper map =
     (omega (arith, steps-below t))
 
 pub deeper-one : (map : List ℕ) → walkFrom (w 27) 0 1 2 map ≡ marks (markAll map 1 (7 ∷ [])) 0
-unfolding walkFrom walkBelow run reads entered stepIn stepAlong stepTo arrive advance pass descended drawn leafOf markLeaf markAll byteDistance count upto from perByte group
+unfolding walkFrom walkBelow run reads entered stepIn stepAlong stepTo arrive kindOf firstFor advance pass descended drawn leafOf markLeaf markAll byteDistance count upto from perByte group
 deeper-one map = refl
 
 pub deeper-off : (map : List ℕ) → walkFrom (w 26) 0 1 2 map ≡ marks (markAll map 1 []) 0
-unfolding walkFrom walkBelow run reads entered stepIn stepAlong stepTo arrive advance pass descended drawn leafOf markLeaf markAll byteDistance count upto from perByte group
+unfolding walkFrom walkBelow run reads entered stepIn stepAlong stepTo arrive kindOf firstFor advance pass descended drawn leafOf markLeaf markAll byteDistance count upto from perByte group
 deeper-off map = refl
 
 pub deeper-two : (map : List ℕ) → walkFrom (w 26) 0 2 2 map ≡ marks (markAll map 1 (7 ∷ [])) 0
@@ -109,7 +111,7 @@ deeper-two map = refl
 
 -- with one node alone an exact descent below the first stops, and so does a walk through its chains
 pub deeper-short : (map : List ℕ) → (walkFrom (w 27) 0 1 1 map ≡ broken) × (walkFrom (w 27) 0 2 1 map ≡ broken)
-unfolding walkFrom walkBelow run reads entered stepIn stepAlong stepTo arrive advance pass descended drawn leafOf markLeaf markAll byteDistance count upto from perByte group
+unfolding walkFrom walkBelow run reads entered stepIn stepAlong stepTo arrive kindOf firstFor advance pass descended drawn leafOf markLeaf markAll byteDistance count upto from perByte group
 deeper-short map = (refl, refl)
 
 -- ---- the nodes

@@ -1,5 +1,5 @@
 -- An exact descent from one cursor on: that it ends, with which link, the nodes it goes to, and how many it reads; and its single steps.
-use Prim.Native.Nat.{ℕ, zero, suc, _+_, _-_, _/_, _≤_, _<_}
+use Prim.Native.Nat.{ℕ, zero, suc, _+_, _-_, _≤_, _<_}
 use native.Mathlib.Omega.{arith}
 use mathlib.Core.Path.{_≡_, refl, sym, ap, _∙_, subst}
 use mathlib.Core.Logic.{_≢_}
@@ -8,7 +8,7 @@ use mathlib.Core.List.{List, [], _∷_, _++_}
 use lib.Dec.{eqb}
 use lib.ListN.{getD}
 use borrow.Author.Tests.{eq-eqb, ne-eqb, le-ltb}
-use Rattle.layout.specs.Nodes.{linkOf, byteOf, chainWord, stateAt, headAt, innerState, leafState, linkBase}
+use Rattle.layout.specs.Nodes.{linkOf, byteOf, chainWord, linkBase}
 use Rattle.descent.specs.declared.Cursor.{Cursor}
 use Rattle.descent.specs.Cursor.{ended, ahead, arrive, advance, descended, drawn, leafOf}
 use Rattle.descent.proofs.Steps.{descended-ended, drawn-ended, advance-along, advance-past, advance-down}
@@ -90,18 +90,6 @@ module _ (nodes : List ℕ) (cap : ℕ) (bytes : List ℕ) where
     went = λ f k. led .went f (omega arith);
     drew = λ f. omega (arith, led .drew f);
   }
-
-  -- ---- at a node
-  pub arrive-leaf : (x at last first : ℕ) → getD nodes (stateAt cap x) 0 ≡ leafState first → arrive nodes cap bytes x at last ≡ ended first
-  unfolding arrive
-  arrive-leaf x at last first e =
-      let less : 2 + first - 2 ≡ first = omega arith in
-      rw (e, ne-eqb (2 + first) 0 (omega arith), ne-eqb (2 + first) 1 (omega arith)) (ap ended less)
-
-  pub arrive-inner : (x at last y : ℕ) → getD nodes (stateAt cap x) 0 ≡ innerState → at ≤ last → getD bytes at 0 ≡ y
-      → arrive nodes cap bytes x at last ≡ ahead (linkOf (getD nodes (headAt cap x (y / 32)) 0)) at last
-  unfolding arrive
-  arrive-inner x at last y e l q = rw (e, le-ltb last at l, q)
 
   -- ---- at the child x of byte c, which is followed by the link l
   module _ (x c l at last y : ℕ) (below : x < cap) (word : getD nodes x 0 ≡ chainWord c l) (small : l < linkBase) (here : getD bytes at 0 ≡ y) where

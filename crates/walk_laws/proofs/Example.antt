@@ -8,6 +8,8 @@ use Rattle.meaning.specs.Lists.{count, from, upto}
 use Rattle.meaning.specs.Sketch.{perByte, group, byteDistance}
 use Rattle.meaning.specs.Trie.{met, metIn}
 use Rattle.layout.specs.declared.Block.{Block}
+use Rattle.layout.specs.States.{kindOf}
+use Rattle.children.specs.Cursors.{firstFor}
 use Rattle.children.specs.Heap.{Holds}
 use Rattle.children.specs.Phys.{Phys, leafP, innerP, end, bucket, stop, link, tree, cells, noHeads, Sound}
 use Rattle.marking.specs.Mark.{marks, broken, markAll, markLeaf}
@@ -125,15 +127,15 @@ abbrev leafLink : ℕ → ℕ
 leafLink y = leafOf (descended nodeTable 3 (y ∷ []) 3 (arrive nodeTable 3 (y ∷ []) 0 0 0))
 
 exact-there : leafLink 228 ≡ 8
-unfolding leafOf descended advance pass arrive
+unfolding leafOf descended advance pass arrive kindOf firstFor
 exact-there = refl
 
 exact-before : leafLink 227 ≡ 0
-unfolding leafOf descended advance pass arrive
+unfolding leafOf descended advance pass arrive kindOf firstFor
 exact-before = refl
 
 exact-behind : leafLink 229 ≡ 0
-unfolding leafOf descended advance pass arrive
+unfolding leafOf descended advance pass arrive kindOf firstFor
 exact-behind = refl
 
 met-none : met 2 0 (tree t) (228 ∷ []) ≡ 7 ∷ []
@@ -154,7 +156,7 @@ example-exact-near = sub-near w (omega arith) query t 0 holds sound fits (omega 
 
 -- a walk at radius 0 reads the second node alone
 pub example-none : (map : List ℕ) → walkFrom w 0 0 2 map ≡ marks (markAll map 1 (7 ∷ [])) 1
-unfolding walkFrom arrive advance pass descended drawn leafOf markLeaf markAll
+unfolding walkFrom arrive kindOf firstFor advance pass descended drawn leafOf markLeaf markAll
 example-none map = refl
 
 pub example-trail-none : (map : List ℕ) → trailFrom w 0 0 map ≡ 0 ∷ 2 ∷ []

@@ -12,16 +12,20 @@ use Rattle.meaning.specs.Sketch.{perByte, byteDistance}
 use Rattle.meaning.specs.Trie.{Children, none, child, met, metIn, nodes, nodesIn}
 use Rattle.sketch_laws.proofs.ByteDistance.{byte-distance-zero}
 use Rattle.layout.specs.Nodes.{linkOf, chainWord, headAt, linkBase, mostNodes}
+use Rattle.layout.specs.declared.nodes.Kind.the-variants as kind
+use Rattle.layout.proofs.States.{kind-state}
+use Rattle.children.specs.Cursors.{firstFor}
 use Rattle.children.specs.Heap.{Holds}
 use Rattle.children.specs.Phys.{Phys, leafP, innerP, Buckets, end, bucket, Chain, stop, link, root, first, tree, childrenB, childrenC, pageCells, cells, cellsB, cellsC, Below, Sound, SoundB, SoundC}
 use Rattle.children.proofs.Chains.{linkC, link-below, root-below, slot-word}
 use Rattle.trie_laws.proofs.Lists.{less, same, more, compared}
 use Rattle.descent.specs.declared.Cursor.{Cursor}
 use Rattle.descent.specs.Cursor.{ended, ahead, arrive}
+use Rattle.descent.proofs.Steps.{arrive-leaf, arrive-inner}
 use Rattle.walk_laws.specs.Near.{near, nearB, nearC}
 use Rattle.walk_laws.proofs.Apart.{apart}
 use Rattle.walk_laws.proofs.Chains.{link-in, met-chain}
-use Rattle.walk_laws.proofs.Descent.{Led, led-end, led-within, arrive-leaf, arrive-inner, led-less, led-more, led-same}
+use Rattle.walk_laws.proofs.Descent.{Led, led-end, led-within, led-less, led-more, led-same}
 use Rattle.walk_laws.proofs.Spelt.{Spelt}
 use Rattle.walk_laws.proofs.Fit.{Fit, FitB, FitC, byte-small, unmet, unmet-past, none-near, none-near-past}
 
@@ -171,14 +175,13 @@ module _ (N P : List ℕ) (cap pcap next b len : ℕ) (bytes : List ℕ) (last :
       → g ≤ y / 32
       → Leads (ahead (linkC ch) at last) (metIn b 0 (childrenC ch none) (y ∷ ys)) (nearC b 0 ch (y ∷ ys)) (stepsAlong ch)
       → (suc g ≤ y / 32
-      → Leads (ahead (linkOf (getD N (headAt cap x (y / 32)) 0)) at last) (metIn b 0 (childrenB bs) (y ∷ ys)) (nearB b 0 bs (y ∷ ys)) (stepsAmong bs))
-      → Leads (ahead (linkOf (getD N (headAt cap x (y / 32)) 0)) at last) (metIn b 0 (childrenB (bucket ch bs)) (y ∷ ys)) (nearB b 0 (bucket ch bs) (y ∷ ys))
-      (stepsAmong (bucket ch bs))
-  unfolding nearB
+      → Leads (ahead (firstFor N cap x y) at last) (metIn b 0 (childrenB bs) (y ∷ ys)) (nearB b 0 bs (y ∷ ys)) (stepsAmong bs))
+      → Leads (ahead (firstFor N cap x y) at last) (metIn b 0 (childrenB (bucket ch bs)) (y ∷ ys)) (nearB b 0 (bucket ch bs) (y ∷ ys)) (stepsAmong (bucket ch bs))
+  unfolding nearB firstFor
   bucket-leads ch bs x g y k at ys h sound others fits fits′ q l here later = go (ℕ-discrete g (y / 32))
     where
       from : Cursor
-      from = ahead (linkOf (getD N (headAt cap x (y / 32)) 0)) at last
+      from = ahead (firstFor N cap x y) at last
 
       ps : List ℕ
       ps = metIn b 0 (childrenC ch none) (y ∷ ys)
@@ -219,20 +222,22 @@ module _ (N P : List ℕ) (cap pcap next b len : ℕ) (bytes : List ℕ) (last :
     pub tree-leads : (t : Phys) (ys : List ℕ) (k at : ℕ) → Holds (cells cap next t) N P → Sound cap pcap t → Fit b len t k → len ≤ k + length ys
         → Spelt b bytes last ys at → Leads (arrive N cap bytes (root t) at last) (met b 0 (tree t) ys) (nearBelow b t ys) (stepsBelow t)
     tree-leads (leafP x ps) ys k at h s u l q =
-        leads-same (arrive N cap bytes x at last) (ended (first ps)) ps ps [] [] 0 0 (arrive-leaf N cap bytes x at last (first ps) (h .0)) refl refl (omega arith)
+        leads-same (arrive N cap bytes x at last) (ended (first ps)) ps ps [] [] 0 0
+        (arrive-leaf N cap bytes x at last (first ps) (kind-state N cap x (kind.Leaf (first ps)) (h .0))) refl refl (omega arith)
         (record { led = led-end N cap bytes (ended (first ps)) refl; held = h .1 .1; below = s .1 })
     tree-leads (innerP x bs) [] k at h s u l q = absurd (omega (arith, u .0))
     tree-leads (innerP x bs) (y ∷ ys) k at h s u l q =
         let ps : List ℕ = metIn b 0 (childrenB bs) (y ∷ ys) in
         let xs : List ℕ = nearB b 0 bs (y ∷ ys) in
-        leads-same (arrive N cap bytes x at last) (ahead (linkOf (getD N (headAt cap x (y / 32)) 0)) at last) ps ps xs xs (stepsAmong bs) (stepsAmong bs)
-        (arrive-inner N cap bytes x at last y (h .0) (q .1) (q .0)) refl refl (omega arith)
+        leads-same (arrive N cap bytes x at last) (ahead (firstFor N cap x y) at last) ps ps xs xs (stepsAmong bs) (stepsAmong bs)
+        (arrive-inner N cap bytes x at last (kind-state N cap x kind.Inner (h .0)) (q .1) ∙ ap (λ c. ahead (firstFor N cap x c) at last) (q .0))
+        refl refl (omega arith)
         (buckets-lead bs x 0 y ys k at (h .1) (s .1) (u .1) l q (omega arith))
 
     -- the chains from g on
     buckets-lead : (bs : Buckets) (x g y : ℕ) (ys : List ℕ) (k at : ℕ) → Holds (cellsB cap next bs x g) N P → SoundB cap pcap bs g → FitB b len bs k
         → len ≤ k + length (y ∷ ys) → Spelt b bytes last (y ∷ ys) at → g ≤ y / 32
-        → Leads (ahead (linkOf (getD N (headAt cap x (y / 32)) 0)) at last) (metIn b 0 (childrenB bs) (y ∷ ys)) (nearB b 0 bs (y ∷ ys)) (stepsAmong bs)
+        → Leads (ahead (firstFor N cap x y) at last) (metIn b 0 (childrenB bs) (y ∷ ys)) (nearB b 0 bs (y ∷ ys)) (stepsAmong bs)
     buckets-lead end x g y ys k at h s u l q m = absurd (omega (arith, q .2, byte-small b))
     buckets-lead (bucket ch bs) x g y ys k at h s u l q m =
         bucket-leads ch bs x g y k at ys (h .0) (s .0) (s .1) (u .0) (u .1) q m
