@@ -4,7 +4,9 @@ ghost use Prim.Native.Nat.{_<_};
 ghost use lib.ListN.{take};
 ghost use Rattle.descent.specs.Cursor.{AllInside};
 ghost use Rattle.marking.specs.Given.{within, Fitting};
-ghost use Rattle.marking.specs.Waiting.{flushedOf, flush};
+ghost use Rattle.layout.specs.Tables.{PageTable};
+ghost use Rattle.marking.specs.Mark.{Bitmap, markLeaf};
+ghost use Rattle.marking.specs.Waiting.{flushedOf, onLeaves, flush};
 use crate::Scope;
 use crate::mark;
 use descent::Cursor;
@@ -22,8 +24,23 @@ pub enum Budgets {
     Broken,
 }
 
-// Marks the pages of the first n leaves, in order. Pages draw on one budget, the nodes that the descents read on the other.
-pub fn mark_waiting(
+// Marks the pages of a leaf that is known: it reads no node.
+fn mark_known(pages: &[u32], map: &mut [u32], scope: Scope, first: u32, budget: Budget) -> Budgets
+    requires { ⌜ PageTable (scope .block .pages) (scope .block .base) (now pages) ⌝ }
+    requires { ⌜ Bitmap (scope .block .pages) (scope .words) (now map) ⌝ }
+    ensures { λ r. ⌜ flushedOf (now (map .exit)) r ≡ onLeaves (budget .nodes) (markLeaf (now (pages .entry)) (scope .block) (scope .words) (now (map .entry)) first (budget .pages)) ⌝ }
+{
+    match mark::mark_leaf(pages, map, scope, first, budget.pages) {
+        Left::Some(left) => Budgets::Some(Budget {
+            pages: left,
+            nodes: budget.nodes,
+        }),
+        Left::Broken => Budgets::Broken,
+    }
+}
+
+// Marks the pages of the first n leaves, in order, when all descents are over.
+fn mark_all(
     nodes: &[u32],
     pages: &[u32],
     map: &mut [u32],
@@ -62,4 +79,30 @@ pub fn mark_waiting(
         pages: left,
         nodes: over,
     })
+}
+
+// Marks the pages of the first n leaves, in order. Pages draw on one budget, the nodes that the descents read on the other.
+// One leaf alone that is known needs no descent.
+pub fn mark_waiting(
+    nodes: &[u32],
+    pages: &[u32],
+    map: &mut [u32],
+    bytes: &[u8],
+    scope: Scope,
+    waiting: [Cursor; 16],
+    n: usize,
+    budget: Budget,
+) -> Budgets
+    requires { ⌜ Fitting (within (now nodes) (now pages) (now bytes) scope) (now map) ⌝ }
+    requires { ⌜ AllInside (now bytes) waiting n ⌝ }
+    requires { ⌜ budget .nodes < scope .block .nodes ⌝ }
+    ensures { λ r. ⌜ flushedOf (now (map .exit)) r ≡ flush (within (now (nodes .entry)) (now (pages .entry)) (now (bytes .entry)) scope) (now (map .entry)) (budget .pages) (budget .nodes) (take n waiting) ⌝ }
+{
+    if n == 1 {
+        let c = waiting[0];
+        if c.link == 0 {
+            return mark_known(pages, map, scope, descent::leaf_of(c), budget);
+        }
+    }
+    mark_all(nodes, pages, map, bytes, scope, waiting, n, budget)
 }

@@ -1,5 +1,6 @@
 // The walk over one block's trie. It ends on any tables: each node that it reads and each page that it marks draws on a budget.
 ghost use mathlib.Core.Path.{_≡_};
+ghost use mathlib.Core.Bool.{true};
 ghost use Prim.Native.Nat.{_<_, _≤_};
 ghost use lib.ListN.{take};
 ghost use Rattle.layout.specs.Pages.{mostPages};
@@ -72,6 +73,16 @@ fn finish(
     }
 }
 
+// Does the last of n leaves wait for more? A leaf alone that is known does not, and there is room for 16.
+fn waits(c: Cursor, n: usize) -> bool
+    ensures { λ r. ⌜ (r ≡ true → n < 16) ⌝ }
+{
+    if n == 1 {
+        return c.link != 0;
+    }
+    n < 16
+}
+
 // Marks the pages of each leaf below an inner root whose path is within the radius of the query's bytes.
 // What is left of the nodes that may be read, unless a link was not in order or a budget did not last?
 fn walk_below(
@@ -104,7 +115,7 @@ fn walk_below(
                 place = onward(place, place.frame.at, link);
                 waiting[n] = c;
                 n += 1;
-                if n < 16 {
+                if waits(c, n) {
                     continue;
                 }
                 let marked = mark_waiting(nodes, pages, map, bytes, scope, waiting, n, place.left);

@@ -105,16 +105,19 @@ array-set-from-waiting c = let now = c .before .before .before .before .before .
 add-n : tie.Need-add-n Inv-loop μ-loop
 add-n c = record { fits = omega (arith, c .before .before .before .before .before .before .loop .inv .1) }
 
+waits-requires : tie.Need-waits-requires Inv-loop μ-loop
+waits-requires c κs = search needs
+
 loop-less-2 : tie.Need-loop-less-2 Inv-loop μ-loop
-loop-less-2 c = omega (arith, c .before .before .before .before .before .before .loop-test .taken)
+loop-less-2 c = omega (arith, c .before .before .before .before .before .before .before .loop-test .taken)
 
 loop-again-2 : tie.Need-loop-again-2 Inv-loop μ-loop
-loop-again-2 c = (leaf (c .before), c .if1 .taken)
+loop-again-2 c = (leaf (c .before .before), c .before .waits .ensures (c .if1 .taken))
 
 mark-waiting-requires : tie.Need-mark-waiting-requires Inv-loop μ-loop
 mark-waiting-requires c κs =
-    let l = leaf (c .before .before) in
-    let a = c .before .before .before .before .before .before .before .before in
+    let l = leaf (c .before .before .before) in
+    let a = c .before .before .before .before .before .before .before .before .before in
     (fitting-kept _ _ _ (l .long) (start a .pre .1 .0), (l .waits, omega (arith, l .few, begun-few a)))
 
 enum-known-marked : tie.Need-enum-known-marked Inv-loop μ-loop
@@ -124,16 +127,16 @@ enum-told : tie.Need-enum-told Inv-loop μ-loop
 enum-told c = search needs
 
 same-length : tie.Need-same-length Inv-loop μ-loop
-same-length c = c .before .before .before .before .mark-waiting .kept .1 .1 .0 ∙ leaf (c .before .before .before .before .before .before .before) .long
+same-length c = c .before .before .before .before .mark-waiting .kept .1 .1 .0 ∙ leaf (c .before .before .before .before .before .before .before .before) .long
 
 returns : tie.Need-returns Inv-loop μ-loop
-returns c = standing-failed _ _ _ _ (leaf (c .before .before .before .before .before .before .before)) _ _ (c .before .before .before .before .mark-waiting .ensures) (c .enum-told .given .1) ∙ begun (c .before .before .before .before .before .before .before .before .before .before .before .before .before)
+returns c = standing-failed _ _ _ _ (leaf (c .before .before .before .before .before .before .before .before)) _ _ (c .before .before .before .before .mark-waiting .ensures) (c .enum-told .given .1) ∙ begun (c .before .before .before .before .before .before .before .before .before .before .before .before .before .before)
 
 loop-less-3 : tie.Need-loop-less-3 Inv-loop μ-loop
-loop-less-3 c = omega (arith, c .before .before .before .before .before .before .before .before .before .before .before .before .before .loop-test .taken)
+loop-less-3 c = omega (arith, c .before .before .before .before .before .before .before .before .before .before .before .before .before .before .loop-test .taken)
 
 loop-again-3 : tie.Need-loop-again-3 Inv-loop μ-loop
-loop-again-3 c = (standing-marked _ _ _ _ (leaf (c .before .before .before .before .before .before .before .before)) _ _ (c .before .before .before .before .before .mark-waiting .ensures) (c .before .before .before .before .before .mark-waiting .kept .1 .1 .0) _ (c .before .marked .given .1), omega arith)
+loop-again-3 c = (standing-marked _ _ _ _ (leaf (c .before .before .before .before .before .before .before .before .before)) _ _ (c .before .before .before .before .before .mark-waiting .ensures) (c .before .before .before .before .before .mark-waiting .kept .1 .1 .0) _ (c .before .marked .given .1), omega arith)
 
 enum-known-child : tie.Need-enum-known-child Inv-loop μ-loop
 enum-known-child c = search needs
@@ -239,6 +242,7 @@ walk-below-spec =
     mul-waiting
     array-set-from-waiting
     add-n
+    waits-requires
     loop-less-2
     loop-again-2
     mark-waiting-requires
