@@ -10,7 +10,6 @@ use Rattle.meaning.specs.Forest.{blockBytes, eachFrom, forestAfter, totalNodes}
 use Rattle.layout.specs.Settings.{freeAt}
 use Rattle.layout.specs.Lengths.{sketchesLength}
 use Rattle.layout.specs.Pages.{linksAt}
-use Rattle.layout.specs.Signature.{signature}
 use Rattle.layout.proofs.Rows.{row-inside, length-with-row}
 use Rattle.children.specs.Heap.{Heap, _⊕_}
 use Rattle.blocks.specs.Tables.{RowTable}
@@ -114,7 +113,7 @@ module _ (T : Tables) (F : List Tree) (sound : Sound T F) (p c : ℕ) (x : List 
         is =
             ap (λ (k : ℕ). insertFrom s S′ x p k 0 (T .nodes) (T .pages) (getD (T .settings) freeAt 0)) (sym (sound .holding .blocks)) ∙ E .is;
         words =
-            written-heap (s .pages) p c (signature (s .bits) x) (a .page) (E .nodesTo) (E .pagesTo) long
+            written-heap (s .pages) p c _ (a .page) (E .nodesTo) (E .pagesTo) long
             (triesCells (s .nodes) (s .pages) 0 (E .to)) (freeCells (s .nodes) (E .freesTo)) (T .pages) (E .heap);
         roots = E .roots;
         chain = E .chain;
