@@ -1,3 +1,4 @@
 pub mod Links
 pub mod Agree
 pub mod Maps
+pub mod Rounds
