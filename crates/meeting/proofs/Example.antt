@@ -30,7 +30,6 @@ led-outside = refl
 
 held : HeldChains [] pages 3 chains ((0 ∷ 2 ∷ []) ∷ (2 ∷ 1 ∷ []) ∷ [])
 held = (
-  (refl, (refl, refl, tt), (omega arith, omega arith, tt)),
-  (refl, (refl, refl, tt), (omega arith, omega arith, tt)),
-  tt,
+  (refl, (refl, (refl, tt)), (omega arith, (omega arith, tt))),
+  ((refl, (refl, (refl, tt)), (omega arith, (omega arith, tt))), tt),
 )
