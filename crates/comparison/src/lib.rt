@@ -45,7 +45,7 @@ pub fn compare(shape: Shape, row: &[u8], query: &[u8], radius: u32) -> Verdict
     ensures { λ r. ⌜ r ≡ verdictOf (distance (now (row .entry)) (now (query .entry))) radius ⌝ }
 {
     let mut left = radius;
-    let mut at = 0;
+    let mut i = 0;
     let mut k = 0;
     'bytes: loop {
         if k == shape.bytes {
@@ -57,16 +57,14 @@ pub fn compare(shape: Shape, row: &[u8], query: &[u8], radius: u32) -> Verdict
         } else {
             shape.z
         };
-        let mut g = 0;
-        while g < groups {
-            let i = at + g;
+        let end = i + groups;
+        while i < end {
             let differs = (row[i] != query[i]) as u32;
             if left < differs {
                 break 'bytes Verdict::Beyond;
             }
             left -= differs;
-            g += 1;
+            i += 1;
         }
-        at += groups;
     }
 }

@@ -1,8 +1,7 @@
--- `compare` is the verdict on the distance. At group g of a byte the places before at + g are counted: as many differ as the radius has lost.
+-- `compare` is the verdict on the distance. At place i the places before it are counted: as many differ as the radius has lost.
 use mathlib.Core.Path.{_≡_}
 use mathlib.Core.Logic.{⊎-elim, inl, inr}
 use Prim.Native.Nat.{_+_, _-_, _≤_}
-use native.Mathlib.Nat.{add-zero, add-assoc}
 use native.Mathlib.Omega.{arith}
 use lib.ListN.{length, getD}
 use borrow.Author.Needs.{needs}
@@ -13,18 +12,18 @@ use Rattle.comparison.proofs.compare.Statement.{statement}
 use Rattle.comparison.proofs.compare.Tie as tie
 
 abbrev Inv-loop : tie.InvT-loop
-Inv-loop shape row query radius left₀ at k groups g₀ left g =
-    (g ≤ groups) × (left ≤ radius) × Counted row query (radius - left) (at + g)
+Inv-loop shape row query radius left₀ i₀ k groups end left i =
+    (i ≤ end) × (left ≤ radius) × Counted row query (radius - left) i
 
 abbrev μ-loop : tie.MeasureT-loop
-μ-loop shape row query radius left₀ at k groups g₀ left g = groups - g
+μ-loop shape row query radius left₀ i₀ k groups end left i = end - i
 
 abbrev Inv-bytes : tie.InvT-bytes
-Inv-bytes shape row query radius left₀ at₀ k₀ left at k =
-    Placed shape (length row) k at × (left ≤ radius) × Counted row query (radius - left) at
+Inv-bytes shape row query radius left₀ i₀ k₀ left i k =
+    Placed shape (length row) k i × (left ≤ radius) × Counted row query (radius - left) i
 
 abbrev μ-bytes : tie.MeasureT-bytes
-μ-bytes shape row query radius left₀ at₀ k₀ left at k = shape .bytes - k
+μ-bytes shape row query radius left₀ i₀ k₀ left i k = shape .bytes - k
 
 bytes-holds : tie.Need-bytes-holds Inv-loop μ-loop Inv-bytes μ-bytes
 bytes-holds c =
@@ -43,40 +42,53 @@ groups-of c = ⊎-elim (λ w. inl (w .0 .taken, w .1)) (λ w. inr (w .0 .left, w
 -- they end inside the row
 ends : (c : tie.Joined2 Inv-loop μ-loop Inv-bytes μ-bytes) →
     let at-bytes = c .before .before .before .before in
-    at-bytes .bytes .at + c .if2 .groups ≤ length (at-bytes .before .args .row .now)
+    at-bytes .bytes .i + c .if2 .groups ≤ length (at-bytes .before .args .row .now)
 ends c =
     let at-bytes = c .before .before .before .before in
     groups-inside _ _ (at-bytes .before .pre .0) (at-bytes .bytes .inv .0) (c .before .before .if1 .left) (groups-of c)
 
+add-end : tie.Need-add-end Inv-loop μ-loop Inv-bytes μ-bytes
+add-end c = omega (arith, ends (c .before))
+
 loop-holds : tie.Need-loop-holds Inv-loop μ-loop Inv-bytes μ-bytes
 loop-holds c =
-    let inv = c .before .before .before .before .bytes .inv in
-    (omega arith, inv .1, rw add-zero (inv .2))
+    let inv = c .before .before .before .before .before .bytes .inv in
+    (omega arith, inv .1, inv .2)
+
+bytes-less : tie.Need-bytes-less Inv-loop μ-loop Inv-bytes μ-bytes
+bytes-less c =
+    let else = c .before .before .before .before .before in
+    omega (arith, else .before .before .bytes .inv .0 .most, else .if1 .left)
+
+bytes-again : tie.Need-bytes-again Inv-loop μ-loop Inv-bytes μ-bytes
+bytes-again c =
+    let loop = c .before in
+    let joined = loop .before .before in
+    let at-bytes = joined .before .before .before .before in
+    let all : loop .loop .i ≡ at-bytes .bytes .i + joined .if2 .groups = omega arith in
+    (rw all (placed-next _ _ (at-bytes .before .pre .0) (at-bytes .bytes .inv .0) (joined .before .before .if1 .left) (groups-of joined)), loop .loop .inv .1, loop .loop .inv .2)
 
 -- the count after the turn
 turned : (c : tie.In-loop Inv-loop μ-loop Inv-bytes μ-bytes) →
-    let at-bytes = c .before .before .before .before .before .before in
+    let at-bytes = c .before .before .before .before .before .before .before in
     let args = at-bytes .before .args in
-    let i = at-bytes .bytes .at + c .before .loop .g in
+    let i = c .before .loop .i in
     Counted (args .row .now) (args .query .now) (args .radius - c .before .loop .left + differ (getD (args .row .now) i 0) (getD (args .query .now) i 0)) (i + 1)
 turned c =
-    counted-more _ _ _ _ (omega (arith, ends (c .before .before))) (omega (arith, ends (c .before .before))) (c .before .loop .inv .2)
-
-add-i : tie.Need-add-i Inv-loop μ-loop Inv-bytes μ-bytes
-add-i c = omega (arith, ends (c .before .before))
+    counted-more _ _ _ _ (omega (arith, ends (c .before .before .before))) (omega (arith, ends (c .before .before .before))) (c .before .loop .inv .2)
 
 shared-slice-read-differs : tie.Need-shared-slice-read-differs Inv-loop μ-loop Inv-bytes μ-bytes
-shared-slice-read-differs c = omega (arith, ends (c .before .before .before))
+shared-slice-read-differs c = omega (arith, ends (c .before .before .before .before))
 
 shared-slice-read-differs-2 :
     tie.Need-shared-slice-read-differs-2 Inv-loop μ-loop Inv-bytes μ-bytes
-shared-slice-read-differs-2 c = omega (arith, ends (c .before .before .before .before))
+shared-slice-read-differs-2 c = omega (arith, ends (c .before .before .before .before .before))
 
 cast-differs : tie.Need-cast-differs Inv-loop μ-loop Inv-bytes μ-bytes
 cast-differs c = search needs
 
-add-g : tie.Need-add-g Inv-loop μ-loop Inv-bytes μ-bytes
-add-g c = omega (arith, ends (c .before .before .before .before .before))
+add-i : tie.Need-add-i Inv-loop μ-loop Inv-bytes μ-bytes
+add-i c = omega (arith, ends (c .before .before .before .before .before .before))
 
 loop-less : tie.Need-loop-less Inv-loop μ-loop Inv-bytes μ-bytes
 loop-less c = omega arith
@@ -84,26 +96,11 @@ loop-less c = omega arith
 loop-again : tie.Need-loop-again Inv-loop μ-loop Inv-bytes μ-bytes
 loop-again c =
     let loop = c .before .before .before in
-    let at-bytes = loop .before .before .before .before .before .before in
-    let args = at-bytes .before .args in
-    let i = at-bytes .bytes .at + loop .before .loop .g in
+    let args = loop .before .before .before .before .before .before .before .before .args in
+    let i = loop .before .loop .i in
     let d = differ (getD (args .row .now) i 0) (getD (args .query .now) i 0) in
     let lost : args .radius - (loop .before .loop .left - d) ≡ args .radius - loop .before .loop .left + d = omega (arith, c .if3 .left, loop .before .loop .inv .1) in
-    (omega arith, omega arith, rw (← add-assoc, lost) (turned loop))
-
-add-at : tie.Need-add-at Inv-loop μ-loop Inv-bytes μ-bytes
-add-at c = omega (arith, ends (c .before .before .before))
-
-bytes-less : tie.Need-bytes-less Inv-loop μ-loop Inv-bytes μ-bytes
-bytes-less c = omega (arith, c .before .before .before .before .before .before .before .bytes .inv .0 .most, c .before .before .before .before .before .if1 .left)
-
-bytes-again : tie.Need-bytes-again Inv-loop μ-loop Inv-bytes μ-bytes
-bytes-again c =
-    let loop = c .before .before in
-    let joined = loop .before in
-    let at-bytes = joined .before .before .before .before in
-    let all : loop .loop .g ≡ joined .if2 .groups = omega arith in
-    (placed-next _ _ (at-bytes .before .pre .0) (at-bytes .bytes .inv .0) (joined .before .before .if1 .left) (groups-of joined), loop .loop .inv .1, rw all at (loop .loop .inv .2))
+    (omega arith, omega arith, rw lost (turned loop))
 
 returns : tie.Need-returns Inv-loop μ-loop Inv-bytes μ-bytes
 returns c =
@@ -123,16 +120,15 @@ compare-spec =
     μ-bytes
     bytes-holds
     add-k
+    add-end
     loop-holds
-    add-i
+    bytes-less
+    bytes-again
     shared-slice-read-differs
     shared-slice-read-differs-2
     cast-differs
-    add-g
+    add-i
     loop-less
     loop-again
-    add-at
-    bytes-less
-    bytes-again
     returns
     returns-2)
