@@ -52,19 +52,19 @@ pub fn compare(shape: Shape, row: &[u8], query: &[u8], radius: u32) -> Verdict
             break 'bytes Verdict::Within;
         }
         k += 1;
-        let groups = if k == shape.bytes {
+        let mut groups = if k == shape.bytes {
             shape.last
         } else {
             shape.z
         };
-        let end = i + groups;
-        while i < end {
+        while groups > 0 {
             let differs = (row[i] != query[i]) as u32;
             if left < differs {
                 break 'bytes Verdict::Beyond;
             }
             left -= differs;
             i += 1;
+            groups -= 1;
         }
     }
 }

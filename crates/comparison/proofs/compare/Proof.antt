@@ -12,11 +12,11 @@ use Rattle.comparison.proofs.compare.Statement.{statement}
 use Rattle.comparison.proofs.compare.Tie as tie
 
 abbrev Inv-loop : tie.InvT-loop
-Inv-loop shape row query radius left₀ i₀ k groups end left i =
-    (i ≤ end) × (left ≤ radius) × Counted row query (radius - left) i
+Inv-loop shape row query radius left₀ i₀ k groups₀ left i groups =
+    (i + groups ≡ i₀ + groups₀) × (left ≤ radius) × Counted row query (radius - left) i
 
 abbrev μ-loop : tie.MeasureT-loop
-μ-loop shape row query radius left₀ i₀ k groups end left i = end - i
+μ-loop shape row query radius left₀ i₀ k groups₀ left i groups = groups
 
 abbrev Inv-bytes : tie.InvT-bytes
 Inv-bytes shape row query radius left₀ i₀ k₀ left i k =
@@ -47,59 +47,59 @@ ends c =
     let at-bytes = c .before .before .before .before in
     groups-inside _ _ (at-bytes .before .pre .0) (at-bytes .bytes .inv .0) (c .before .before .if1 .left) (groups-of c)
 
-add-end : tie.Need-add-end Inv-loop μ-loop Inv-bytes μ-bytes
-add-end c = omega (arith, ends (c .before))
-
 loop-holds : tie.Need-loop-holds Inv-loop μ-loop Inv-bytes μ-bytes
 loop-holds c =
-    let inv = c .before .before .before .before .before .bytes .inv in
+    let inv = c .before .before .before .before .bytes .inv in
     (omega arith, inv .1, inv .2)
 
 bytes-less : tie.Need-bytes-less Inv-loop μ-loop Inv-bytes μ-bytes
 bytes-less c =
-    let else = c .before .before .before .before .before in
+    let else = c .before .before .before .before in
     omega (arith, else .before .before .bytes .inv .0 .most, else .if1 .left)
 
 bytes-again : tie.Need-bytes-again Inv-loop μ-loop Inv-bytes μ-bytes
 bytes-again c =
     let loop = c .before in
-    let joined = loop .before .before in
+    let joined = loop .before in
     let at-bytes = joined .before .before .before .before in
     let all : loop .loop .i ≡ at-bytes .bytes .i + joined .if2 .groups = omega arith in
     (rw all (placed-next _ _ (at-bytes .before .pre .0) (at-bytes .bytes .inv .0) (joined .before .before .if1 .left) (groups-of joined)), loop .loop .inv .1, loop .loop .inv .2)
 
 -- the count after the turn
 turned : (c : tie.In-loop Inv-loop μ-loop Inv-bytes μ-bytes) →
-    let at-bytes = c .before .before .before .before .before .before .before in
+    let at-bytes = c .before .before .before .before .before .before in
     let args = at-bytes .before .args in
     let i = c .before .loop .i in
     Counted (args .row .now) (args .query .now) (args .radius - c .before .loop .left + differ (getD (args .row .now) i 0) (getD (args .query .now) i 0)) (i + 1)
 turned c =
-    counted-more _ _ _ _ (omega (arith, ends (c .before .before .before))) (omega (arith, ends (c .before .before .before))) (c .before .loop .inv .2)
+    counted-more _ _ _ _ (omega (arith, ends (c .before .before))) (omega (arith, ends (c .before .before))) (c .before .loop .inv .2)
 
 shared-slice-read-differs : tie.Need-shared-slice-read-differs Inv-loop μ-loop Inv-bytes μ-bytes
-shared-slice-read-differs c = omega (arith, ends (c .before .before .before .before))
+shared-slice-read-differs c = omega (arith, ends (c .before .before .before))
 
 shared-slice-read-differs-2 :
     tie.Need-shared-slice-read-differs-2 Inv-loop μ-loop Inv-bytes μ-bytes
-shared-slice-read-differs-2 c = omega (arith, ends (c .before .before .before .before .before))
+shared-slice-read-differs-2 c = omega (arith, ends (c .before .before .before .before))
 
 cast-differs : tie.Need-cast-differs Inv-loop μ-loop Inv-bytes μ-bytes
 cast-differs c = search needs
 
 add-i : tie.Need-add-i Inv-loop μ-loop Inv-bytes μ-bytes
-add-i c = omega (arith, ends (c .before .before .before .before .before .before))
+add-i c = omega (arith, ends (c .before .before .before .before .before))
+
+sub-groups : tie.Need-sub-groups Inv-loop μ-loop Inv-bytes μ-bytes
+sub-groups c = search needs
 
 loop-less : tie.Need-loop-less Inv-loop μ-loop Inv-bytes μ-bytes
 loop-less c = omega arith
 
 loop-again : tie.Need-loop-again Inv-loop μ-loop Inv-bytes μ-bytes
 loop-again c =
-    let loop = c .before .before .before in
-    let args = loop .before .before .before .before .before .before .before .before .args in
+    let loop = c .before .before .before .before in
+    let args = loop .before .before .before .before .before .before .before .args in
     let i = loop .before .loop .i in
     let d = differ (getD (args .row .now) i 0) (getD (args .query .now) i 0) in
-    let lost : args .radius - (loop .before .loop .left - d) ≡ args .radius - loop .before .loop .left + d = omega (arith, c .if3 .left, loop .before .loop .inv .1) in
+    let lost : args .radius - (loop .before .loop .left - d) ≡ args .radius - loop .before .loop .left + d = omega (arith, c .before .if3 .left, loop .before .loop .inv .1) in
     (omega arith, omega arith, rw lost (turned loop))
 
 returns : tie.Need-returns Inv-loop μ-loop Inv-bytes μ-bytes
@@ -120,7 +120,6 @@ compare-spec =
     μ-bytes
     bytes-holds
     add-k
-    add-end
     loop-holds
     bytes-less
     bytes-again
@@ -128,6 +127,7 @@ compare-spec =
     shared-slice-read-differs-2
     cast-differs
     add-i
+    sub-groups
     loop-less
     loop-again
     returns
