@@ -1,0 +1,7 @@
+pub mod Links
+pub mod Agree
+pub mod Maps
+pub mod Rounds
+pub mod Held
+pub mod Listed
+pub mod Example
