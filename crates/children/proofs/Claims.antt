@@ -1,8 +1,6 @@
 -- What the cells of a trie claim: the links of the pages in a chain, once for each time that a page stands there, and the heads of a node;
 -- and what its pages are below.
 use Prim.Native.Nat.{ℕ, zero, suc, _+_, _≤_, _<_}
-use native.Mathlib.Nat.{add-zero}
-use native.Mathlib.Numerals.{towards-suc}
 use native.Mathlib.Omega.{arith}
 use mathlib.Core.Path.{_≡_, refl}
 use mathlib.Core.Bool.{Bool, true, false, cond}
@@ -13,7 +11,7 @@ use Rattle.meaning.specs.Lists.{all, count}
 use Rattle.meaning.proofs.Lists.{and-intro}
 use Rattle.layout.specs.Nodes.{headAt}
 use Rattle.children.specs.Heap.{hit, nodeClaims, pageClaims}
-use Rattle.children.specs.Phys.{pageCells, noHeads, Below}
+use Rattle.children.specs.Phys.{pageCells, headsFrom, heads, Below}
 use Rattle.children.proofs.Frame.{hit-same, hit-other}
 
 -- ---- the links of pages
@@ -44,9 +42,16 @@ among-out k zero a h = refl
 among-out k (suc n) a h =
     omega (arith, hit-other {a = a} {b = k} (λ e. omega (arith, h (omega arith))), among-out (suc k) n a (λ l. omega (arith, h (omega arith))))
 
-pub heads : (cap n a : ℕ) → nodeClaims (noHeads cap n) a ≡ among (headAt cap n 0) 8 a
-unfolding noHeads among
-heads cap n a = simp (towards-suc, add-zero)
+heads-from : (cap n : ℕ) (L : ℕ → ℕ) (k g a : ℕ) → nodeClaims (headsFrom cap n g k L) a ≡ among (headAt cap n g) k a
+unfolding headsFrom among
+heads-from cap n L zero g a = refl
+heads-from cap n L (suc k) g a =
+    let next : headAt cap n (suc g) ≡ suc (headAt cap n g) = omega arith in
+    omega (arith, rw next at (heads-from cap n L k (suc g) a))
+
+-- whatever they hold
+pub heads-claim : (cap n : ℕ) (L : ℕ → ℕ) (a : ℕ) → nodeClaims (heads cap n L) a ≡ among (headAt cap n 0) 8 a
+heads-claim cap n L a = heads-from cap n L 8 0 a
 
 -- ---- the pages of a sound trie
 pub below-all : (pcap : ℕ) (ps : List ℕ) → Below pcap ps → all (λ p. ltb p pcap) ps ≡ true
