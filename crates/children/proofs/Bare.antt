@@ -11,17 +11,17 @@ use Rattle.meaning.specs.Lists.{all, from, upto}
 use Rattle.layout.specs.Nodes.{headAt}
 use Rattle.meaning.proofs.Lists.{upto-all}
 use Rattle.children.specs.Heap.{Holds}
-use Rattle.children.specs.Phys.{noHeads}
+use Rattle.children.specs.Phys.{noKids}
 use Rattle.children.specs.Order.{bare}
 use Rattle.children.proofs.Kids.{head-held, held-heads}
 
 module _ (N P : List ℕ) (cap x : ℕ) where
-  pub bare-holds : bare N cap x ≡ true → Holds (noHeads cap x) N P
+  pub bare-holds : bare N cap x ≡ true → Holds (noKids cap x) N P
   unfolding bare
   bare-holds h =
       held-heads cap x N P (λ g. 0) 8 0 (λ g l m. eqb-true (getD N (headAt cap x g) 0) 0 (upto-all (λ g. eqb (getD N (headAt cap x g) 0) 0) 8 h g (omega arith)))
 
-  pub held-bare : Holds (noHeads cap x) N P → bare N cap x ≡ true
+  pub held-bare : Holds (noKids cap x) N P → bare N cap x ≡ true
   unfolding bare all upto from
   held-bare h =
       let at : (g : ℕ) → g < 8 → eqb (getD N (headAt cap x g) 0) 0 ≡ true =

@@ -18,13 +18,13 @@ module _ (cap pcap base : ℕ) (small : cap ≤ mostNodes) {ks : Kids} {n b : �
   abbrev slotWord : ℕ → Cells
   slotWord l = node (s .slot) (chainWord (s .byte) l)
 
-  -- the chain word of node m, the child of the byte
-  abbrev pub kidWord : ℕ → Cells
-  kidWord m = node m (chainWord b (s .next))
+  -- the chain word of a child of the byte
+  abbrev pub kidWord : ℕ
+  kidWord = chainWord b (s .next)
 
   -- what stands in the node beside the tree of its child m of the byte
   abbrev pub siblings : ℕ → Cells
-  siblings m = slotWord (m + 1) ⊕ kidWord m ⊕ s .rest
+  siblings m = slotWord (m + 1) ⊕ node m kidWord ⊕ s .rest
 
   pub child-same : (u : Phys) → Same (kidCells cap base (s .put (held u)) n) (cells cap base u ⊕ siblings (root u))
   child-same u =
@@ -56,7 +56,7 @@ module _ (cap pcap base : ℕ) (small : cap ≤ mostNodes) {ks : Kids} {n b : �
           pages = λ a. omega (arith, p .pages a);
         }
 
-    together : Less (slotWord (root u + 1) ⊕ kidWord (root u) ⊕ X) (kidCells cap base (s .put (held u)) n ⊕ R)
+    together : Less (slotWord (root u + 1) ⊕ node (root u) kidWord ⊕ X) (kidCells cap base (s .put (held u)) n ⊕ R)
     together =
         let p = child-same u .back in
         record {
@@ -74,11 +74,11 @@ module _ (cap pcap base : ℕ) (small : cap ≤ mostNodes) {ks : Kids} {n b : �
         let y : chainWord b (linkAt N (s .slot)) ≡ chainWord b (s .next) = omega arith in
         let z : withLink (getD N (s .slot) 0) (root u + 1) ≡ chainWord (s .byte) (root u + 1) = omega arith in
         let h1 = node-write (chainWord b (s .next)) h0 (omega (arith, t .long)) in
-        let h2 = less (same-swap (kidWord (root u)) (slotWord (s .next)) X .to) h1 in
+        let h2 = less (same-swap (node (root u) kidWord) (slotWord (s .next)) X .to) h1 in
         less together (rw (y, z) (node-write (chainWord (s .byte) (root u + 1)) h2 (simp length-set (omega (arith, t .long, s .within ln)))))
 
     -- a child is taken out: it stands beside the node, with its chain word
-    whole : Less (kidCells cap base (s .put (held u)) n ⊕ R) (slotWord (root u + 1) ⊕ kidWord (root u) ⊕ X)
+    whole : Less (kidCells cap base (s .put (held u)) n ⊕ R) (slotWord (root u + 1) ⊕ node (root u) kidWord ⊕ X)
     whole =
         let p = child-same u .to in
         record {
@@ -87,7 +87,7 @@ module _ (cap pcap base : ℕ) (small : cap ≤ mostNodes) {ks : Kids} {n b : �
           pages = λ a. omega (arith, p .pages a);
         }
 
-    parted : Less (slotWord (s .next) ⊕ kidWord (root u) ⊕ X) (kidWord (root u) ⊕ cells cap base u ⊕ kidCells cap base (s .put gap) n ⊕ R)
+    parted : Less (slotWord (s .next) ⊕ node (root u) kidWord ⊕ X) (node (root u) kidWord ⊕ cells cap base u ⊕ kidCells cap base (s .put gap) n ⊕ R)
     parted =
         let p = s .same gap .back in
         record {
@@ -97,7 +97,7 @@ module _ (cap pcap base : ℕ) (small : cap ≤ mostNodes) {ks : Kids} {n b : �
         }
 
     pub take-out : {N P : List ℕ} → NodeTable cap N → n < cap → root u < cap → Heap N P (kidCells cap base (s .put (held u)) n ⊕ R) →
-        Heap (takeOut N (s .slot) (root u)) P (kidWord (root u) ⊕ cells cap base u ⊕ kidCells cap base (s .put gap) n ⊕ R)
+        Heap (takeOut N (s .slot) (root u)) P (node (root u) kidWord ⊕ cells cap base u ⊕ kidCells cap base (s .put gap) n ⊕ R)
     take-out {N} {P} t ln lu h =
         let h0 = less whole h in
         let l : s .next ≤ cap = s .short in

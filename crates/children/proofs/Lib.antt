@@ -15,4 +15,5 @@ pub mod Ahead
 pub mod AheadOrder
 pub mod Cursors
 pub mod AheadCursor
+pub mod Alike
 pub mod Example

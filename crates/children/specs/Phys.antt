@@ -54,24 +54,25 @@ unfoldable pub headsFrom : ℕ → ℕ → ℕ → ℕ → (ℕ → ℕ) → Cel
 headsFrom cap n g zero link = nil
 headsFrom cap n g (suc k) link = node (headAt cap n g) (link g) ⊕ headsFrom cap n (suc g) k link
 
--- all heads of node n, and those of a node without children
+-- all heads of node n
 abbrev pub heads : ℕ → ℕ → (ℕ → ℕ) → Cells
 heads cap n link = headsFrom cap n 0 8 link
 
-abbrev pub noHeads : ℕ → ℕ → Cells
-noHeads cap n = heads cap n (λ g. 0)
+-- those of a node without children
+abbrev pub noKids : ℕ → ℕ → Cells
+noKids cap n = heads cap n (λ g. 0)
 
 -- the free nodes, each linked to the next; their heads are 0
 abbrev pub freeCells : ℕ → List ℕ → Cells
 freeCells cap [] = nil
-freeCells cap (f ∷ fs) = node (chainAt f) (first fs) ⊕ node (stateAt cap f) freeState ⊕ noHeads cap f ⊕ freeCells cap fs
+freeCells cap (f ∷ fs) = node (chainAt f) (first fs) ⊕ node (stateAt cap f) freeState ⊕ noKids cap f ⊕ freeCells cap fs
 
 -- A tree owns its root's state and heads, the pages of its leaves, and the trees of the children with their chain words. A child's chain
 -- word has its byte, and the link to the first child after it in its chain.
 module _ (cap base : ℕ) where
   abbrev mutual
     pub cells : Phys → Cells
-    cells (leafP n ps) = node (stateAt cap n) (leafState (first ps)) ⊕ noHeads cap n ⊕ pageCells base ps
+    cells (leafP n ps) = node (stateAt cap n) (leafState (first ps)) ⊕ noKids cap n ⊕ pageCells base ps
     cells (innerP n ks) = node (stateAt cap n) innerState ⊕ heads cap n (firstIn ks) ⊕ linkedCells ks
 
     pub linkedCells : Kids → Cells

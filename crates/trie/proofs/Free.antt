@@ -4,12 +4,12 @@ use native.Mathlib.Omega.{arith}
 use mathlib.Core.Path.{_≡_, refl}
 use mathlib.Core.List.{List, [], _∷_}
 use lib.ListN.{length-set}
-use Rattle.layout.specs.Nodes.{chainWord, stateAt, freeState, innerState, leafState, mostNodes}
+use Rattle.layout.specs.Nodes.{stateAt, freeState, innerState, leafState, mostNodes}
 use Rattle.children.specs.Heap.{Cells, node, _⊕_}
-use Rattle.children.specs.Phys.{Kids, first, noHeads, freeCells, cells, kidCells, State, leafP, innerP}
+use Rattle.children.specs.Phys.{Kids, first, noKids, freeCells, cells, kidCells, State, leafP, innerP}
 use Rattle.children.proofs.Frame.{Less, less, same-swap, node-write, nodes-kept}
 use Rattle.children.proofs.Spot.{gap, held, SpotK}
-use Rattle.children.proofs.Joins.{take-out}
+use Rattle.children.proofs.Joins.{kidWord, take-out}
 use Rattle.trie.specs.Model.{freeChild}
 
 module _ (cap pcap base : ℕ) (small : cap ≤ mostNodes) {N P : List ℕ} {free n c b : ℕ} {ks : Kids} {fs : List ℕ} {G : Cells}
@@ -24,7 +24,7 @@ module _ (cap pcap base : ℕ) (small : cap ≤ mostNodes) {N P : List ℕ} {fre
   -- the leaf beside its parent
   module _ (v : ℕ) where
     abbrev S : Cells
-    S = noHeads cap c ⊕ kidCells cap base (s .put gap) n ⊕ R
+    S = noKids cap c ⊕ kidCells cap base (s .put gap) n ⊕ R
 
     loose : Less (node c v ⊕ cells cap base (leafP c []) ⊕ kidCells cap base (s .put gap) n ⊕ R) (node (stateAt cap c) (leafState 0) ⊕ node c v ⊕ S)
     loose = record { holds = λ N P h. search; nodes = λ a. omega arith; pages = λ a. omega arith }
@@ -38,7 +38,7 @@ module _ (cap pcap base : ℕ) (small : cap ≤ mostNodes) {N P : List ℕ} {fre
   free-state =
       let t = st .nodeTable in
       let h = take-out cap pcap base small s R (leafP c []) t (st .sound .0) lc (less apart (st .heap)) in
-      let v : ℕ = chainWord b (s .next) in
+      let v : ℕ = kidWord cap pcap base small s in
       let h1 = node-write freeState (less (loose v) h) (simp length-set (omega (arith, t .long))) in
       let h2 = less (same-swap (node (stateAt cap c) freeState) (node c v) (S v) .to) h1 in
       record {

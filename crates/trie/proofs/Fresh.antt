@@ -9,7 +9,7 @@ use Rattle.layout.specs.Nodes.{stateAt, freeState, innerState, leafState, mostN
 use Rattle.trie.specs.declared.leaf.Got.the-variants.{Node}
 use Rattle.children.specs.Heap.{Cells, Heap, node, _⊕_}
 use Rattle.trie.specs.Model.{linkLeaf, freshLeaf, made}
-use Rattle.children.specs.Phys.{Phys, Kids, first, noHeads, freeCells, cells, kidCells, State, leafP, innerP}
+use Rattle.children.specs.Phys.{Phys, Kids, first, noKids, freeCells, cells, kidCells, State, leafP, innerP}
 use Rattle.children.proofs.Frame.{Less, less, node-write, nodes-kept}
 use Rattle.trie.proofs.Steps.{fresh-made}
 use Rattle.children.proofs.Joins.{put-in}
@@ -25,11 +25,11 @@ module _ (cap pcap base : ℕ) (small : cap ≤ mostNodes) where
     R : Cells
     R = node (stateAt cap n) innerState ⊕ freeCells cap fs ⊕ G
 
-    apart : Less (cells cap base (innerP n (s .put gap)) ⊕ freeCells cap (f ∷ fs) ⊕ G) (node (stateAt cap f) freeState ⊕ noHeads cap f ⊕ node f (first fs) ⊕ kidCells cap base (s .put gap) n ⊕ R)
+    apart : Less (cells cap base (innerP n (s .put gap)) ⊕ freeCells cap (f ∷ fs) ⊕ G) (node (stateAt cap f) freeState ⊕ noKids cap f ⊕ node f (first fs) ⊕ kidCells cap base (s .put gap) n ⊕ R)
     unfolding R
     apart = record { holds = λ N P h. search; nodes = λ a. omega arith; pages = λ a. omega arith }
 
-    loose : Less (node (stateAt cap f) (leafState 0) ⊕ noHeads cap f ⊕ node f (first fs) ⊕ kidCells cap base (s .put gap) n ⊕ R)
+    loose : Less (node (stateAt cap f) (leafState 0) ⊕ noKids cap f ⊕ node f (first fs) ⊕ kidCells cap base (s .put gap) n ⊕ R)
         (node f (first fs) ⊕ cells cap base (leafP f []) ⊕ kidCells cap base (s .put gap) n ⊕ R)
     loose = record { holds = λ N P h. search; nodes = λ a. omega arith; pages = λ a. omega arith }
 

@@ -15,7 +15,7 @@ use Rattle.meaning.specs.Trie.{nodes}
 use Rattle.meaning.proofs.Lists.{eqb-comm}
 use Rattle.layout.specs.Nodes.{chainAt, stateAt, headAt, freeState, nodeWords, headsAt}
 use Rattle.children.specs.Heap.{hit, nodeClaims, Holds}
-use Rattle.children.specs.Phys.{Phys, leafP, innerP, Buckets, end, bucket, Chain, stop, link, root, tree, noHeads, pageCells, freeCells, cells, cellsB, cellsC, Below, Sound, SoundB, SoundC}
+use Rattle.children.specs.Phys.{Phys, leafP, innerP, Buckets, end, bucket, Chain, stop, link, root, tree, noKids, pageCells, freeCells, cells, cellsB, cellsC, Below, Sound, SoundB, SoundC}
 use Rattle.children.proofs.Frame.{hit-same, hit-other}
 use Rattle.children.proofs.Claims.{among, among-out, heads}
 use Rattle.children.proofs.Chains.{root-below, chains-left}
@@ -41,7 +41,7 @@ among-in k (suc n) a l m = go (λ p q. among-in (suc k) n a p q) (ℕ-discrete a
 -- each word of a node belongs to it
 module _ (cap a n : ℕ) (below : n < cap) where
   abbrev Owned : ℕ → Type 0
-  Owned x = hit (chainAt n) a + hit (stateAt cap n) a + nodeClaims (noHeads cap n) a ≡ hit n x
+  Owned x = hit (chainAt n) a + hit (stateAt cap n) a + nodeClaims (noKids cap n) a ≡ hit n x
 
   in-chain : a < cap → Owned a
   in-chain l =
@@ -50,7 +50,7 @@ module _ (cap a n : ℕ) (below : n < cap) where
   in-state : cap ≤ a → a < headsAt cap → Owned (a - cap)
   in-state l m = go (ℕ-discrete (a - cap) n)
     where
-      others : hit (chainAt n) a + nodeClaims (noHeads cap n) a ≡ 0
+      others : hit (chainAt n) a + nodeClaims (noKids cap n) a ≡ 0
       others = omega (arith, hit-other {a = a} {b = n} (λ e. omega arith), heads cap n a, among-out (headAt cap n 0) 8 a (λ q. absurd (omega arith)))
 
       go : Dec (a - cap ≡ n) → Owned (a - cap)

@@ -16,7 +16,7 @@ use Rattle.children.specs.Heap.{Cells, node, page, _⊕_}
 use Rattle.blocks.specs.Tables.{RowTable}
 use Rattle.blocks.specs.Packed.{pageByte, levelAt}
 use Rattle.trie.specs.Model.{spanFrom}
-use Rattle.children.specs.Phys.{Phys, noKid, root, tree, first, pageCells, noHeads, freeCells, cells, Below, State, leafP, innerP}
+use Rattle.children.specs.Phys.{Phys, noKid, root, tree, first, pageCells, noKids, freeCells, cells, Below, State, leafP, innerP}
 use Rattle.children.proofs.Frame.{Less, less, node-write, nodes-kept}
 use Rattle.trie.proofs.Context.{below}
 use Rattle.blocks.proofs.Bytes.{level-table, byte-small}
@@ -43,10 +43,10 @@ pub record Grown (cap pcap base n total : ℕ) (want : Tree) (G : Cells) (a : Af
 
 -- a leaf opened: its pages are loose
 module _ {cap pcap base : ℕ} {N P : List ℕ} {free n : ℕ} {ps fs : List ℕ} {G : Cells} (st : State cap pcap base N P free (leafP n ps) fs G) where
-  apart : Less (cells cap base (leafP n ps) ⊕ freeCells cap fs ⊕ G) (node (stateAt cap n) (leafState (first ps)) ⊕ noHeads cap n ⊕ freeCells cap fs ⊕ pageCells base ps ⊕ G)
+  apart : Less (cells cap base (leafP n ps) ⊕ freeCells cap fs ⊕ G) (node (stateAt cap n) (leafState (first ps)) ⊕ noKids cap n ⊕ freeCells cap fs ⊕ pageCells base ps ⊕ G)
   apart = record { holds = λ N P h. search; nodes = λ a. omega arith; pages = λ a. omega arith }
 
-  together : Less (node (stateAt cap n) innerState ⊕ noHeads cap n ⊕ freeCells cap fs ⊕ pageCells base ps ⊕ G) (cells cap base (innerP n noKid) ⊕ freeCells cap fs ⊕ pageCells base ps ⊕ G)
+  together : Less (node (stateAt cap n) innerState ⊕ noKids cap n ⊕ freeCells cap fs ⊕ pageCells base ps ⊕ G) (cells cap base (innerP n noKid) ⊕ freeCells cap fs ⊕ pageCells base ps ⊕ G)
   together = record { holds = λ N P h. ((h .0, (h .1 .0, tt)), h .1 .1); nodes = λ a. omega arith; pages = λ a. omega arith }
 
   pub open-state : State cap pcap base (openLeaf N cap n) P free (innerP n noKid) fs (pageCells base ps ⊕ G)
