@@ -54,7 +54,7 @@ module _ (cap pcap base : ℕ) (small : cap ≤ mostNodes) (N P : List ℕ) wher
 
   -- where none is: to the next chain, or to the end
   pub data NextEnd (c : Cursor) : Type 0 where
-    toChain : (l : ℕ) → 0 < chainsLeft c → nextOf N cap c ≡ Chain (c .at + 1) l → AheadC (moved c (c .at + 1) l) noKid → NextEnd c
+    endChain : (l : ℕ) → 0 < chainsLeft c → nextOf N cap c ≡ Chain (c .at + 1) l → AheadC (moved c (c .at + 1) l) noKid → NextEnd c
     toEnd : nextOf N cap c ≡ End → NextEnd c
 
   module _ (c : Cursor) where
@@ -83,7 +83,7 @@ module _ (cap pcap base : ℕ) (small : cap ≤ mostNodes) (N P : List ℕ) wher
       | holds q ↦
           let e : c .link ≡ 0 = eqb-true (c .link) 0 q in
           let l : a .chain < 7 = ahead-more cap pcap base N P (a .ahead) e in
-          NextKid.toChain (firstIn (kid b t ks) (a .chain + 1)) (omega (arith, a .at, a .last)) (next-chain (kid b t ks) a e l) (onward (kid b t ks) a e l)
+          toChain (firstIn (kid b t ks) (a .chain + 1)) (omega (arith, a .at, a .last)) (next-chain (kid b t ks) a e l) (onward (kid b t ks) a e l)
       | fails q ↦
           let some : c .link ≡ 0 → ⊥ = eqb-false (c .link) 0 q in
           let k = ahead-kid cap pcap base N P (a .ahead) some in
@@ -102,4 +102,4 @@ module _ (cap pcap base : ℕ) (small : cap ≤ mostNodes) (N P : List ℕ) wher
         go : (n : ℕ) → 7 - a .chain ≡ n → NextEnd c
         go zero e = toEnd (sym (step-end N cap c (a .ahead .link) (omega (arith, a .at, a .last, a .eight))))
         go (suc n) e =
-            NextEnd.toChain 0 (omega (arith, a .at, a .last)) (next-chain noKid a (a .ahead .link) (omega arith)) (onward noKid a (a .ahead .link) (omega arith))
+            endChain 0 (omega (arith, a .at, a .last)) (next-chain noKid a (a .ahead .link) (omega arith)) (onward noKid a (a .ahead .link) (omega arith))

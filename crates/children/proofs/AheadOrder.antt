@@ -40,11 +40,11 @@ module _ (cap pcap base : ℕ) (N P : List ℕ) where
   -- where a child is to come: to the next chain, or to the child
   pub data StepKid (f : Frame) (b : ℕ) (t : Phys) (ks : Kids) : Type 0 where
     toChain : (l : ℕ) → f .group < 7 → nextChild N cap f ≡ Chain l → AheadF (nextChain f l) (kid b t ks) → StepKid f b t ks
-    toKid : (l : ℕ) → nextChild N cap f ≡ Child (root t) b l → AheadF (pastChild f b l) ks → StepKid f b t ks
+    toKid : (l : ℕ) → nextChild N cap f ≡ Child (root t) b l → Holds (cells cap base t) N P → Sound cap pcap t → AheadF (pastChild f b l) ks → StepKid f b t ks
 
   -- where none is: to the next chain, or up
   pub data StepEnd (f : Frame) : Type 0 where
-    toChain : (l : ℕ) → f .group < 7 → nextChild N cap f ≡ Chain l → AheadF (nextChain f l) noKid → StepEnd f
+    endChain : (l : ℕ) → f .group < 7 → nextChild N cap f ≡ Chain l → AheadF (nextChain f l) noKid → StepEnd f
     toUp : nextChild N cap f ≡ Up → StepEnd f
 
   module _ (f : Frame) where
@@ -56,11 +56,11 @@ module _ (cap pcap base : ℕ) (N P : List ℕ) where
       | holds q ↦
           let e : f .link ≡ 0 = eqb-true (f .link) 0 q in
           let l : f .group < 7 = ahead-more cap pcap base N P a e in
-          StepKid.toChain (firstIn (kid b t ks) (f .group + 1)) l (next-chain (kid b t ks) a e l) (ahead-chain cap pcap base N P a e)
+          toChain (firstIn (kid b t ks) (f .group + 1)) l (next-chain (kid b t ks) a e l) (ahead-chain cap pcap base N P a e)
       | fails q ↦
           let k = ahead-kid cap pcap base N P a (eqb-false (f .link) 0 q) in
           toKid (k .next) (to-child N cap f (root t) b (k .next) (k .at) (k .inside) (k .word) (omega (arith, k .short)) (k .least) (k .most))
-          (rw (add-one b) (k .onward))
+          (k .tree) (k .sound) (rw (add-one b) (k .onward))
     ]
 
     pub step-end : AheadF f noKid → StepEnd f
@@ -68,7 +68,7 @@ module _ (cap pcap base : ℕ) (N P : List ℕ) where
       where
         go : (n : ℕ) → 7 - f .group ≡ n → StepEnd f
         go zero e = toUp (to-up N cap f (a .link) (omega arith))
-        go (suc n) e = StepEnd.toChain 0 (omega arith) (next-chain noKid a (a .link) (omega arith)) (ahead-chain cap pcap base N P a (a .link))
+        go (suc n) e = endChain 0 (omega arith) (next-chain noKid a (a .link) (omega arith)) (ahead-chain cap pcap base N P a (a .link))
 
   -- ---- and back
   pub placed-enter : (x : ℕ) → Placed (entered N cap x)
