@@ -17,7 +17,7 @@ use Rattle.children.specs.Heap.{Cells, Heap, nil, page, _⊕_}
 use Rattle.blocks.specs.Tables.{RowTable, Roomy}
 use Rattle.children.specs.Phys.{Phys, root, tree, first, cells, freeCells, Below, State}
 use Rattle.children.proofs.Frame.{Less, less, nodes-kept, pages-kept}
-use Rattle.children.proofs.Chains.{root-below}
+use Rattle.children.proofs.Kids.{root-below}
 use Rattle.trie_laws.specs.Block.{SoundBlock, EachFrom}
 use Rattle.trie_laws.specs.Needed.{sumFrom}
 use Rattle.trie_laws.proofs.Nodes.{insert-nodes}

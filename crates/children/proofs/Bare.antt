@@ -11,45 +11,29 @@ use Rattle.meaning.specs.Lists.{all, from, upto}
 use Rattle.layout.specs.Nodes.{headAt}
 use Rattle.meaning.proofs.Lists.{upto-all}
 use Rattle.children.specs.Heap.{Holds}
-use Rattle.children.specs.Phys.{noHeads}
+use Rattle.children.specs.Phys.{noKids}
 use Rattle.children.specs.Order.{bare}
+use Rattle.children.proofs.Kids.{head-held, held-heads}
 
 module _ (N P : List ℕ) (cap x : ℕ) where
-  pub bare-holds : bare N cap x ≡ true → Holds (noHeads cap x) N P
-  unfolding bare noHeads
+  pub bare-holds : bare N cap x ≡ true → Holds (noKids cap x) N P
+  unfolding bare
   bare-holds h =
-      let at : (g : ℕ) → g < 8 → getD N (headAt cap x g) 0 ≡ 0 =
-      λ g l. eqb-true (getD N (headAt cap x g) 0) 0 (upto-all (λ g. eqb (getD N (headAt cap x g) 0) 0) 8 h g l) in (
-        at 0 (omega arith),
-        (
-          at 1 (omega arith),
-          (
-            at 2 (omega arith),
-            (
-              at 3 (omega arith),
-              (
-                at 4 (omega arith),
-                (
-                  at 5 (omega arith),
-                  (at 6 (omega arith), (at 7 (omega arith), tt)),
-                ),
-              ),
-            ),
-          ),
-        ),
-      )
+      held-heads cap x N P (λ g. 0) 8 0 (λ g l m. eqb-true (getD N (headAt cap x g) 0) 0 (upto-all (λ g. eqb (getD N (headAt cap x g) 0) 0) 8 h g (omega arith)))
 
-  pub held-bare : Holds (noHeads cap x) N P → bare N cap x ≡ true
-  unfolding bare noHeads all upto from
+  pub held-bare : Holds (noKids cap x) N P → bare N cap x ≡ true
+  unfolding bare all upto from
   held-bare h =
+      let at : (g : ℕ) → g < 8 → eqb (getD N (headAt cap x g) 0) 0 ≡ true =
+      λ g l. eq-eqb (getD N (headAt cap x g) 0) 0 (head-held cap x N P (λ g. 0) 8 0 g (omega arith) (omega arith) h) in
       rw (
-        eq-eqb (getD N (headAt cap x 0) 0) 0 (h .0),
-        eq-eqb (getD N (headAt cap x 1) 0) 0 (h .1 .0),
-        eq-eqb (getD N (headAt cap x 2) 0) 0 (h .1 .1 .0),
-        eq-eqb (getD N (headAt cap x 3) 0) 0 (h .1 .1 .1 .0),
-        eq-eqb (getD N (headAt cap x 4) 0) 0 (h .1 .1 .1 .1 .0),
-        eq-eqb (getD N (headAt cap x 5) 0) 0 (h .1 .1 .1 .1 .1 .0),
-        eq-eqb (getD N (headAt cap x 6) 0) 0 (h .1 .1 .1 .1 .1 .1 .0),
-        eq-eqb (getD N (headAt cap x 7) 0) 0 (h .1 .1 .1 .1 .1 .1 .1 .0),
+        at 0 (omega arith),
+        at 1 (omega arith),
+        at 2 (omega arith),
+        at 3 (omega arith),
+        at 4 (omega arith),
+        at 5 (omega arith),
+        at 6 (omega arith),
+        at 7 (omega arith),
       )
       refl

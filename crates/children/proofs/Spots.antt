@@ -1,14 +1,14 @@
 -- The children of an inner node, by the place of a byte among them: with a child there, and without.
-use Prim.Native.Nat.{ℕ, suc, _*_, _/_, _+_, _<_, _≤_}
+use Prim.Native.Nat.{ℕ, _≤_}
 use native.Mathlib.Omega.{arith}
 use mathlib.Core.Path.{_≡_, refl, ap, _∙_, sym}
 use mathlib.Core.Bool.{Bool, true, false, cond}
 use borrow.Author.Tests.{lt-ltb, le-ltb, ne-eqb}
 use Rattle.meaning.specs.Trie.{Tree, Children, none, child}
 use Rattle.layout.specs.Nodes.{mostNodes}
-use Rattle.children.specs.Phys.{Phys, Buckets, Chain, tree, childrenB, childrenC, SoundC, stop, link, chainEnd}
+use Rattle.children.specs.Phys.{Phys, Kids, tree, childrenOf, Sound}
 use Rattle.children.proofs.Abstract.{Skips, Above}
-use Rattle.children.proofs.Spot.{starts, tail-above, SpotB}
+use Rattle.children.proofs.Spot.{gap, held, SpotK}
 use Rattle.trie_laws.specs.Path.{has, childBy, setChild, dropChild, putChild}
 use Rattle.trie_laws.proofs.Lists.{holds, fails, truth}
 use Rattle.trie_laws.proofs.Nodes.{nodes-some}
@@ -51,54 +51,43 @@ out-none b cs e = elim (truth (has b cs)) [
 ]
 
 -- ---- at the place of byte b in a node
-module _ (cap pcap base : ℕ) (small : cap ≤ mostNodes) {bs : Buckets} {n g b : ℕ} (s : SpotB cap pcap base small bs n g b) where
-  before-put : (u : Tree) (cs : Children) → Above b cs → s .before (child b u cs) ≡ putChild b u (s .before cs)
-  before-put u cs l = ap (s .before) (sym (put-above b u cs l)) ∙ sym (s .skip (putChild b u) (put-skips b u) cs)
+module _ (cap pcap base : ℕ) (small : cap ≤ mostNodes) {ks : Kids} {n b : ℕ} (s : SpotK cap pcap base small ks n b) where
+  -- the children with a child there, by those without
+  pub with-child : (v : Phys) → childrenOf (s .put (held v)) ≡ putChild b (tree v) (childrenOf (s .put gap))
+  with-child v =
+      s .children (held v) ∙ ap (s .before) (sym (put-above b (tree v) (s .later) (s .above))) ∙ sym (s .skip (putChild b (tree v)) (put-skips b (tree v)) (s .later))
+      ∙ ap (putChild b (tree v)) (sym (s .children gap))
 
   -- a child is there
-  module _ (u : Phys) (after : Chain) (e : s .tail ≡ link b u after) where
-    pub from-here : SoundC cap pcap (link b u after) b (chainEnd b)
-    from-here = rw e at (s .from)
+  module _ (u : Phys) (e : s .there ≡ held u) where
+    with-this : childrenOf ks ≡ putChild b (tree u) (childrenOf (s .put gap))
+    with-this = ap childrenOf (sym (s .whole) ∙ ap (s .put) e) ∙ with-child u
 
-    above : Above b (childrenC after (s .later))
-    above = go after (from-here .3)
-      where
-        go : (ch : Chain) → SoundC cap pcap ch (suc b) (chainEnd b) → Above b (childrenC ch (s .later))
-        go stop h = s .above
-        go (link c t ch) h = omega (arith, h .0)
+    pub spot-sound : Sound cap pcap u
+    spot-sound = rw e at (s .soundThere)
 
-    -- the children with another in its stead, and without
-    pub with-child : (v : Phys) → childrenB (s .put (link b v after)) ≡ putChild b (tree v) (childrenB (s .put after))
-    with-child v = s .childrenB (link b v after) ∙ before-put (tree v) (childrenC after (s .later)) above ∙ ap (putChild b (tree v)) (sym (s .childrenB after))
+    pub spot-has : has b (childrenOf ks) ≡ true
+    spot-has = ap (has b) with-this ∙ has-put b (tree u) (childrenOf (s .put gap))
 
-    with-this : childrenB bs ≡ putChild b (tree u) (childrenB (s .put after))
-    with-this = ap childrenB (sym (s .whole) ∙ ap (s .put) e) ∙ with-child u
+    pub spot-child : childBy b (childrenOf ks) ≡ tree u
+    spot-child = ap (childBy b) with-this ∙ child-put b (tree u) (childrenOf (s .put gap))
 
-    pub spot-has : has b (childrenB bs) ≡ true
-    spot-has = ap (has b) with-this ∙ has-put b (tree u) (childrenB (s .put after))
+    pub spot-set : (v : Phys) → childrenOf (s .put (held v)) ≡ setChild b (tree v) (childrenOf ks)
+    spot-set v = with-child v ∙ sym (ap (setChild b (tree v)) with-this ∙ set-put b (tree v) (tree u) (childrenOf (s .put gap)))
 
-    pub spot-child : childBy b (childrenB bs) ≡ tree u
-    spot-child = ap (childBy b) with-this ∙ child-put b (tree u) (childrenB (s .put after))
-
-    pub spot-set : (v : Phys) → childrenB (s .put (link b v after)) ≡ setChild b (tree v) (childrenB bs)
-    spot-set v = with-child v ∙ sym (ap (setChild b (tree v)) with-this ∙ set-put b (tree v) (tree u) (childrenB (s .put after)))
-
-    pub spot-drop : childrenB (s .put after) ≡ dropChild b (childrenB bs)
-    spot-drop = sym (ap (dropChild b) with-this ∙ drop-put b (tree u) (childrenB (s .put after)))
+    pub spot-drop : childrenOf (s .put gap) ≡ dropChild b (childrenOf ks)
+    spot-drop = sym (ap (dropChild b) with-this ∙ drop-put b (tree u) (childrenOf (s .put gap)))
 
   -- none is there
-  module _ (gap : starts (s .tail) b ≡ false) where
-    here : childrenB bs ≡ s .before (childrenC (s .tail) (s .later))
-    here = ap childrenB (sym (s .whole)) ∙ s .childrenB (s .tail)
+  module _ (e : s .there ≡ gap) where
+    pub spot-same : s .put gap ≡ ks
+    spot-same = ap (s .put) (sym e) ∙ s .whole
 
-    higher : Above b (childrenC (s .tail) (s .later))
-    higher = tail-above cap pcap base small (s .tail) b (chainEnd b) (s .later) gap (s .from) (s .above)
-
-    pub spot-none : has b (childrenB bs) ≡ false
+    pub spot-none : has b (childrenOf ks) ≡ false
     unfolding out
     spot-none =
-        let K : Children = childrenC (s .tail) (s .later) in
-        ap (has b) here ∙ out-none b (s .before K) (s .skip (out b) (out-skips b) K ∙ ap (s .before) (rw (has-above b K higher) refl))
+        ap (λ (js : Kids). has b (childrenOf js)) (sym spot-same) ∙ ap (has b) (s .children gap)
+        ∙ out-none b (s .before (s .later)) (s .skip (out b) (out-skips b) (s .later) ∙ ap (s .before) (rw (has-above b (s .later) (s .above)) refl))
 
-    pub spot-put : (v : Phys) → childrenB (s .put (link b v (s .tail))) ≡ putChild b (tree v) (childrenB bs)
-    spot-put v = s .childrenB (link b v (s .tail)) ∙ before-put (tree v) (childrenC (s .tail) (s .later)) higher ∙ ap (putChild b (tree v)) (sym here)
+    pub spot-put : (v : Phys) → childrenOf (s .put (held v)) ≡ putChild b (tree v) (childrenOf ks)
+    spot-put v = with-child v ∙ ap (λ (js : Kids). putChild b (tree v) (childrenOf js)) spot-same

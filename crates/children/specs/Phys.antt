@@ -1,7 +1,9 @@
--- The trie as it lies in the tables: each node with its number, the children of an inner node in eight chains.
-use Prim.Native.Nat.{ℕ, suc, _+_, _*_, _/_, _<_, _≤_}
+-- The trie as it lies in the tables: each node with its number, and the children of an inner node in rising byte.
+use Prim.Native.Nat.{ℕ, zero, suc, _+_, _/_, _<_, _≤_}
 use mathlib.Core.Path.{_≡_}
+use mathlib.Core.Bool.{cond}
 use mathlib.Core.List.{List, [], _∷_}
+use lib.Dec.{eqb}
 use Rattle.meaning.specs.Trie.{Tree, leaf, inner, Children, none, child}
 use Rattle.layout.specs.Nodes.{chainWord, chainAt, stateAt, headAt, freeState, innerState, leafState}
 use Rattle.children.specs.Heap.{Cells, Heap, nil, node, page, _⊕_}
@@ -10,37 +12,26 @@ use Rattle.layout.specs.Tables.{NodeTable, PageTable}
 mutual
   pub data Phys : Type 0 where
     leafP : ℕ → List ℕ → Phys
-    innerP : ℕ → Buckets → Phys
+    innerP : ℕ → Kids → Phys
 
-  pub data Buckets : Type 0 where
-    end : Buckets
-    bucket : Chain → Buckets → Buckets
-
-  pub data Chain : Type 0 where
-    stop : Chain
-    link : ℕ → Phys → Chain → Chain
+  -- the children of a node, each with its byte
+  pub data Kids : Type 0 where
+    noKid : Kids
+    kid : ℕ → Phys → Kids → Kids
 
 abbrev pub root : Phys → ℕ
 root (leafP n ps) = n
-root (innerP n bs) = n
+root (innerP n ks) = n
 
 -- the abstract trie
 abbrev mutual
   pub tree : Phys → Tree
   tree (leafP n ps) = leaf ps
-  tree (innerP n bs) = inner (childrenB bs)
+  tree (innerP n ks) = inner (childrenOf ks)
 
-  pub childrenB : Buckets → Children
-  childrenB end = none
-  childrenB (bucket ch bs) = childrenC ch (childrenB bs)
-
-  pub childrenC : Chain → Children → Children
-  childrenC stop cs = cs
-  childrenC (link b t ch) cs = child b (tree t) (childrenC ch cs)
-
--- eight empty chains
-abbrev pub empty : Buckets
-empty = bucket stop (bucket stop (bucket stop (bucket stop (bucket stop (bucket stop (bucket stop (bucket stop end)))))))
+  pub childrenOf : Kids → Children
+  childrenOf noKid = none
+  childrenOf (kid b t ks) = child b (tree t) (childrenOf ks)
 
 -- the link to the first number of a list
 abbrev pub first : List ℕ → ℕ
@@ -52,62 +43,60 @@ abbrev pub pageCells : ℕ → List ℕ → Cells
 pageCells base [] = nil
 pageCells base (p ∷ ps) = page (base + p) (first ps) ⊕ pageCells base ps
 
--- the heads of node n of cap nodes, without children
-unfoldable pub noHeads : ℕ → ℕ → Cells
-noHeads cap n =
-    node (headAt cap n 0) 0 ⊕
-    node (headAt cap n 1) 0 ⊕
-    node (headAt cap n 2) 0 ⊕
-    node (headAt cap n 3) 0 ⊕
-    node (headAt cap n 4) 0 ⊕
-    node (headAt cap n 5) 0 ⊕
-    node (headAt cap n 6) 0 ⊕
-    node (headAt cap n 7) 0 ⊕
-    nil
+-- How the children of a node stand in the tables: in eight chains, those with bytes from 32g to 32g + 31 in chain g, in rising byte.
+-- The link to the first child in chain g
+abbrev pub firstIn : Kids → ℕ → ℕ
+firstIn noKid g = 0
+firstIn (kid b t ks) g = cond (eqb (b / 32) g) (root t + 1) (firstIn ks g)
+
+-- k heads of node n from head g on, each with a link
+unfoldable pub headsFrom : ℕ → ℕ → ℕ → ℕ → (ℕ → ℕ) → Cells
+headsFrom cap n g zero link = nil
+headsFrom cap n g (suc k) link = node (headAt cap n g) (link g) ⊕ headsFrom cap n (suc g) k link
+
+-- all heads of node n
+abbrev pub heads : ℕ → ℕ → (ℕ → ℕ) → Cells
+heads cap n link = headsFrom cap n 0 8 link
+
+-- those of a node without children
+abbrev pub noKids : ℕ → ℕ → Cells
+noKids cap n = heads cap n (λ g. 0)
 
 -- the free nodes, each linked to the next; their heads are 0
 abbrev pub freeCells : ℕ → List ℕ → Cells
 freeCells cap [] = nil
-freeCells cap (f ∷ fs) = node (chainAt f) (first fs) ⊕ node (stateAt cap f) freeState ⊕ noHeads cap f ⊕ freeCells cap fs
+freeCells cap (f ∷ fs) = node (chainAt f) (first fs) ⊕ node (stateAt cap f) freeState ⊕ noKids cap f ⊕ freeCells cap fs
 
--- A tree owns its root's state and heads, and the pages of its leaves. The chain that a node stands in owns the slots along it:
--- its head, and each node's chain word. Slot s is the chain word of a node with byte y, or a head, and then y is 0.
+-- A tree owns its root's state and heads, the pages of its leaves, and the trees of the children with their chain words. A child's chain
+-- word has its byte, and the link to the first child after it in its chain.
 module _ (cap base : ℕ) where
   abbrev mutual
     pub cells : Phys → Cells
-    cells (leafP n ps) = node (stateAt cap n) (leafState (first ps)) ⊕ noHeads cap n ⊕ pageCells base ps
-    cells (innerP n bs) = node (stateAt cap n) innerState ⊕ cellsB bs n 0
+    cells (leafP n ps) = node (stateAt cap n) (leafState (first ps)) ⊕ noKids cap n ⊕ pageCells base ps
+    cells (innerP n ks) = node (stateAt cap n) innerState ⊕ heads cap n (firstIn ks) ⊕ linkedCells ks
 
-    pub cellsB : Buckets → ℕ → ℕ → Cells
-    cellsB end n g = nil
-    cellsB (bucket ch bs) n g = cellsC ch (headAt cap n g) 0 ⊕ cellsB bs n (suc g)
+    pub linkedCells : Kids → Cells
+    linkedCells noKid = nil
+    linkedCells (kid b t ks) = node (chainAt (root t)) (chainWord b (firstIn ks (b / 32))) ⊕ cells t ⊕ linkedCells ks
 
-    pub cellsC : Chain → ℕ → ℕ → Cells
-    cellsC stop s y = node s (chainWord y 0)
-    cellsC (link b t ch) s y = node s (chainWord y (root t + 1)) ⊕ cells t ⊕ cellsC ch (chainAt (root t)) b
+  -- the children of node n
+  abbrev pub kidCells : Kids → ℕ → Cells
+  kidCells ks n = heads cap n (firstIn ks) ⊕ linkedCells ks
 
 abbrev pub Below : ℕ → List ℕ → Type 0
 Below cap [] = Unit {0}
 Below cap (f ∷ fs) = (f < cap) × Below cap fs
 
--- one above the last byte of the chain that a byte belongs to
-abbrev pub chainEnd : ℕ → ℕ
-chainEnd b = 32 * (b / 32) + 32
-
--- numbers below the capacities, eight chains, rising bytes that belong to their chain
+-- numbers below the capacities, and rising bytes
 module _ (cap pcap : ℕ) where
   abbrev mutual
     pub Sound : Phys → Type 0
     Sound (leafP n ps) = (n < cap) × Below pcap ps
-    Sound (innerP n bs) = (n < cap) × SoundB bs 0
+    Sound (innerP n ks) = (n < cap) × SoundK ks 0
 
-    pub SoundB : Buckets → ℕ → Type 0
-    SoundB end g = g ≡ 8
-    SoundB (bucket ch bs) g = SoundC ch (32 * g) (32 * g + 32) × SoundB bs (suc g)
-
-    pub SoundC : Chain → ℕ → ℕ → Type 0
-    SoundC stop lo hi = Unit {0}
-    SoundC (link b t ch) lo hi = (lo ≤ b) × (b < hi) × Sound t × SoundC ch (suc b) hi
+    pub SoundK : Kids → ℕ → Type 0
+    SoundK noKid lo = Unit {0}
+    SoundK (kid b t ks) lo = (lo ≤ b) × (b < 256) × Sound t × SoundK ks (suc b)
 
 -- a trie and the free nodes lie in the tables, beside other cells
 pub record State (cap pcap base : ℕ) (N P : List ℕ) (free : ℕ) (t : Phys) (fs : List ℕ) (G : Cells) : Type 0 where

@@ -23,7 +23,7 @@ use Rattle.layout.specs.Signature.{foldedByte, folded, signature}
 use Rattle.children.specs.Heap.{Cells, nil, _⊕_}
 use Rattle.layout.specs.States.{kindOf}
 use Rattle.children.specs.Places.{placeFrom, findPlace}
-use Rattle.children.specs.Phys.{Phys, Buckets, noHeads, leafP, innerP, end, bucket, stop, link}
+use Rattle.children.specs.Phys.{Phys, noKid, kid, headsFrom, leafP, innerP}
 use Rattle.trie_laws.specs.Sound.{filled, soundTrie, Stands}
 use Rattle.trie.specs.Descend.{descend, descendTo}
 use Rattle.blocks.specs.RowBytes.{reduced, rowBytes}
@@ -56,11 +56,8 @@ passes : number T [] (drop 0) ≡ 0
 unfolding number entered shown56 longSettings longFor longNodes longPages nodesLength pagesLength sketchesLength showsOpening inLimits sketchLimits asked byTables isLive firstNo all settings settingsOf header given₁
 passes = refl
 
-abbrev empty : Buckets
-empty = bucket stop (bucket stop (bucket stop (bucket stop (bucket stop (bucket stop (bucket stop end))))))
-
 abbrev tries : List Phys
-tries = innerP 0 (bucket (link 0 (leafP 2 (0 ∷ [])) stop) empty) ∷ leafP 1 (0 ∷ []) ∷ []
+tries = innerP 0 (kid 0 (leafP 2 (0 ∷ [])) noKid) ∷ leafP 1 (0 ∷ []) ∷ []
 
 abbrev F : List Tree
 F = inner (child 0 (leaf (0 ∷ [])) none) ∷ leaf (0 ∷ []) ∷ []
@@ -84,13 +81,13 @@ page-sound zero h = record { class = lit< tt; symbols = refl; signature = refl }
 page-sound (suc p) h = absurd (false≢true (sym (live-one p) ∙ h))
 
 sound : Sound T F
-unfolding noHeads any settings settingsOf header given₁ totalNodes sum nodes soundTrie pagesIn filled all packable symbolsAt perByte byteAt pageBytes pageRow rowOf bytesOfSketch pack packBytes packByte block blockLength blockStart blockBytes packedLength
+unfolding headsFrom any settings settingsOf header given₁ totalNodes sum nodes soundTrie pagesIn filled all packable symbolsAt perByte byteAt pageBytes pageRow rowOf bytesOfSketch pack packBytes packByte block blockLength blockStart blockBytes packedLength
 sound = record {
   tries = tries;
   free = [];
   holding = record {
     words = record {
-      holds = (((refl, ((refl, ((refl, (search, (refl, tt))), refl)), search)), ((refl, (search, (refl, tt))), tt)), tt);
+      holds = (((refl, (search, (refl, (search, tt)))), ((refl, (search, (refl, tt))), tt)), tt);
       nodes = λ a. rw (node-claims claims a) (once-count a (nodesOf claims) refl);
       pages = λ a. rw (page-claims claims a) (once-count a (pagesOf claims) refl);
     };

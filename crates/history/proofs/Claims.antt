@@ -9,8 +9,8 @@ use lib.Dec.{eqb}
 use borrow.Author.Tests.{eqb-true}
 use Rattle.meaning.specs.Lists.{from}
 use Rattle.children.specs.Heap.{hit, nodeClaims, pageClaims}
-use Rattle.children.specs.Phys.{Phys, leafP, noHeads, freeCells}
-use Rattle.children.proofs.Claims.{among, among-out, heads}
+use Rattle.children.specs.Phys.{Phys, leafP, noKids, freeCells}
+use Rattle.children.proofs.Claims.{among, among-out, heads-claim, none-pages}
 use Rattle.layout.specs.Nodes.{headAt}
 use Rattle.promises.specs.Sound.{triesCells}
 
@@ -29,10 +29,10 @@ unfolding among
 joined k zero l n a e = let f : k ≡ l = omega arith in rw (zero-add n, f) (omega arith)
 joined k (suc m) l n a e = rw (suc-add m n, joined (suc k) m l n a (omega arith)) (omega arith)
 
-more-heads : (N x n a : ℕ) → among (headAt N x 0) (8 * suc n) a ≡ nodeClaims (noHeads N x) a + among (headAt N (suc x) 0) (8 * n) a
+more-heads : (N x n a : ℕ) → among (headAt N x 0) (8 * suc n) a ≡ nodeClaims (noKids N x) a + among (headAt N (suc x) 0) (8 * n) a
 more-heads N x n a =
     let e : 8 * suc n ≡ 8 + 8 * n = omega arith in
-    rw (e, heads N x a) (joined (headAt N x 0) 8 (headAt N (suc x) 0) (8 * n) a (omega arith))
+    rw (e, heads-claim N x (λ g. 0) a) (joined (headAt N x 0) 8 (headAt N (suc x) 0) (8 * n) a (omega arith))
 
 -- the roots j, j + 1, .. as fresh leaves
 unfoldable pub roots : ℕ → ℕ → List Phys
@@ -51,14 +51,13 @@ module _ (N P : ℕ) where
   free-claims x (suc n) a = rw (more-heads N x n a) (omega (arith, rw (add-suc N x) at (free-claims (suc x) n a)))
 
   pub tries-pages : (j n a : ℕ) → pageClaims (triesCells N P j (roots j n)) a ≡ 0
-  unfolding roots noHeads
+  unfolding roots
   tries-pages j zero a = refl
-  tries-pages j (suc n) a = omega (arith, tries-pages (suc j) n a)
+  tries-pages j (suc n) a = omega (arith, none-pages N j a, tries-pages (suc j) n a)
 
   pub free-pages : (xs : List ℕ) (a : ℕ) → pageClaims (freeCells N xs) a ≡ 0
-  unfolding noHeads
   free-pages [] a = refl
-  free-pages (x ∷ xs) a = omega (arith, free-pages xs a)
+  free-pages (x ∷ xs) a = omega (arith, none-pages N x a, free-pages xs a)
 
   -- the roots and the nodes past them together
   pub all-claims : (q n a : ℕ) → q + n ≡ N → nodeClaims (triesCells N P 0 (roots 0 q)) a + nodeClaims (freeCells N (from q n)) a ≤ 1

@@ -19,7 +19,8 @@ use Rattle.layout.specs.Pages.{isLive}
 use Rattle.layout.specs.Lengths.{nodesLength}
 use Rattle.layout.proofs.Limits.{bounds}
 use Rattle.children.specs.Heap.{Holds}
-use Rattle.children.specs.Phys.{tree, first, noHeads, freeCells, Below}
+use Rattle.children.specs.Phys.{tree, first, noKids, freeCells, Below}
+use Rattle.children.proofs.Kids.{held-heads}
 use Rattle.trie_laws.proofs.Block.{fresh-forest}
 use Rattle.trie_laws.proofs.Forest.{total-fresh}
 use Rattle.promises.specs.Tables.{Tables, given}
@@ -71,21 +72,8 @@ module _ (s : Settings) (limits : inLimits s ≡ true) (T : Tables) where
       word-at (headAt N x g) (omega arith)
       ∙ rw (e, past-map (freshChain s) N _ (N + (8 * x + g)), past-map (freshState s) N _ (8 * x + g)) (getD-replicate (8 * N) (8 * x + g) 0 0 (omega arith))
 
-  no-heads : (x : ℕ) → x < N → Holds (noHeads N x) ws (opened s T .pages)
-  unfolding noHeads
-  no-heads x h =
-      let at : (g : ℕ) → g < 8 → getD ws (headAt N x g) 0 ≡ 0 = λ g. head-at x g h in
-      omega (
-        arith,
-        at 0 (omega arith),
-        at 1 (omega arith),
-        at 2 (omega arith),
-        at 3 (omega arith),
-        at 4 (omega arith),
-        at 5 (omega arith),
-        at 6 (omega arith),
-        at 7 (omega arith),
-      )
+  no-heads : (x : ℕ) → x < N → Holds (noKids N x) ws (opened s T .pages)
+  no-heads x h = held-heads N x ws (opened s T .pages) (λ g. 0) 8 0 (λ g l m. head-at x g h (omega arith))
 
   -- the roots are empty leaves
   tries-held : (P j n : ℕ) → j + n ≤ s .blocks → s .blocks ≤ N → Holds (triesCells N P j (roots j n)) ws (opened s T .pages)

@@ -9,45 +9,33 @@ use mathlib.Core.Logic.{_≢_, by-cases}
 use mathlib.Core.List.{List, [], _∷_, map}
 use lib.Dec.{eqb}
 use Rattle.meaning.specs.Lists.{count}
-use Rattle.meaning.specs.Trie.{Children, pagesIn, pagesAmong}
-use Rattle.layout.specs.Nodes.{headAt, chainAt}
+use Rattle.meaning.specs.Trie.{pagesIn, pagesAmong}
 use Rattle.layout.specs.Pages.{nextAt}
 use Rattle.layout.proofs.Rows.{rows-apart}
 use Rattle.children.specs.Heap.{hit, pageClaims}
-use Rattle.children.specs.Phys.{Phys, Buckets, Chain, leafP, innerP, end, bucket, stop, link, root, tree, childrenB, childrenC, pageCells, noHeads, cells, cellsB, cellsC, freeCells, Below, Sound, SoundB, SoundC}
+use Rattle.children.specs.Phys.{Phys, Kids, noKid, kid, leafP, innerP, tree, childrenOf, pageCells, cells, kidCells, freeCells, Below, Sound, SoundK}
 use Rattle.children.proofs.Frame.{hit-other}
-use Rattle.children.proofs.Claims.{page-claims}
+use Rattle.children.proofs.Claims.{page-claims, none-pages, end-pages, kid-pages}
 use Rattle.trie_laws.specs.Sound.{Stands}
 use Rattle.trie_laws.specs.Block.{EachFrom}
 use Rattle.meaning.proofs.Lists.{count-append}
 use Rattle.promises.specs.Sound.{triesCells, Rooted}
 
-pub no-heads : (cap n a : ℕ) → pageClaims (noHeads cap n) a ≡ 0
-unfolding noHeads
-no-heads cap n a = omega arith
-
 pub free-none : (cap a : ℕ) (fs : List ℕ) → pageClaims (freeCells cap fs) a ≡ 0
 free-none cap a [] = refl
-free-none cap a (f ∷ fs) = omega (arith, no-heads cap f a, free-none cap a fs)
+free-none cap a (f ∷ fs) = omega (arith, none-pages cap f a, free-none cap a fs)
 
 module _ (cap base x : ℕ) where
   mutual
     unfolding pagesIn count
 
     pub trie-claims : (t : Phys) → pageClaims (cells cap base t) (base + x) ≡ count (eqb x) (pagesIn (tree t))
-    trie-claims (leafP n ps) = omega (arith, no-heads cap n (base + x), page-claims base x ps)
-    trie-claims (innerP n bs) = omega (arith, bucket-claims bs n 0)
+    trie-claims (leafP n ps) = omega (arith, none-pages cap n (base + x), page-claims base x ps)
+    trie-claims (innerP n ks) = omega (arith, kids-claims ks n)
 
-    bucket-claims : (bs : Buckets) (n g : ℕ) → pageClaims (cellsB cap base bs n g) (base + x) ≡ count (eqb x) (pagesAmong (childrenB bs))
-    bucket-claims end n g = refl
-    bucket-claims (bucket ch bs) n g =
-        omega (arith, chain-claims ch (headAt cap n g) 0 (childrenB bs), bucket-claims bs n (suc g))
-
-    chain-claims : (ch : Chain) (s y : ℕ) (cs : Children) →
-        pageClaims (cellsC cap base ch s y) (base + x) + count (eqb x) (pagesAmong cs) ≡ count (eqb x) (pagesAmong (childrenC ch cs))
-    chain-claims stop s y cs = omega arith
-    chain-claims (link b t ch) s y cs =
-        omega (arith, trie-claims t, chain-claims ch (chainAt (root t)) b cs, count-append (eqb x) (pagesIn (tree t)) (pagesAmong (childrenC ch cs)))
+    kids-claims : (ks : Kids) (n : ℕ) → pageClaims (kidCells cap base ks n) (base + x) ≡ count (eqb x) (pagesAmong (childrenOf ks))
+    kids-claims noKid n = end-pages cap base n (base + x)
+    kids-claims (kid b t ks) n = omega (arith, kid-pages cap base n (base + x) b t ks, trie-claims t, kids-claims ks n, count-append (eqb x) (pagesIn (tree t)) (pagesAmong (childrenOf ks)))
 
 -- and no word outside its block's links
 module _ (cap pcap base a : ℕ) (outside : (x : ℕ) → x < pcap → base + x ≢ a) where
@@ -57,16 +45,12 @@ module _ (cap pcap base a : ℕ) (outside : (x : ℕ) → x < pcap → base + x 
 
   mutual
     pub trie-none : (t : Phys) → Sound cap pcap t → pageClaims (cells cap base t) a ≡ 0
-    trie-none (leafP n ps) h = omega (arith, no-heads cap n a, leaf-none ps (h .1))
-    trie-none (innerP n bs) h = omega (arith, bucket-none bs n 0 (h .1))
+    trie-none (leafP n ps) h = omega (arith, none-pages cap n a, leaf-none ps (h .1))
+    trie-none (innerP n ks) h = omega (arith, kids-none ks n 0 (h .1))
 
-    bucket-none : (bs : Buckets) (n g : ℕ) → SoundB cap pcap bs g → pageClaims (cellsB cap base bs n g) a ≡ 0
-    bucket-none end n g h = refl
-    bucket-none (bucket ch bs) n g h = omega (arith, chain-none ch (headAt cap n g) 0 (32 * g) (32 * g + 32) (h .0), bucket-none bs n (suc g) (h .1))
-
-    chain-none : (ch : Chain) (s y lo hi : ℕ) → SoundC cap pcap ch lo hi → pageClaims (cellsC cap base ch s y) a ≡ 0
-    chain-none stop s y lo hi h = refl
-    chain-none (link b t ch) s y lo hi h = omega (arith, trie-none t (h .2), chain-none ch (chainAt (root t)) b (suc b) hi (h .3))
+    kids-none : (ks : Kids) (n lo : ℕ) → SoundK cap pcap ks lo → pageClaims (kidCells cap base ks n) a ≡ 0
+    kids-none noKid n lo h = end-pages cap base n a
+    kids-none (kid b t ks) n lo h = omega (arith, kid-pages cap base n a b t ks, trie-none t (h .2), kids-none ks n (suc b) (h .3))
 
 -- the tries from block j on claim nothing ahead of that block's links
 pub tries-behind : (cap pcap a : ℕ) (ts : List Phys) (j : ℕ) → Rooted cap pcap j ts → a < nextAt pcap j → pageClaims (triesCells cap pcap j ts) a ≡ 0

@@ -4,7 +4,7 @@ use native.Mathlib.Nat.{zero-add}
 use native.Mathlib.Numerals.{add-one}
 use native.Mathlib.Omega.{arith}
 use mathlib.Core.Path.{_≡_, refl, ap, _∙_, sym, subst}
-use mathlib.Core.Bool.{Bool, true, false}
+use mathlib.Core.Bool.{true, false}
 use mathlib.Core.List.{List}
 use lib.ListN.{length, getD}
 use Rattle.meaning.specs.Trie.{Tree, inner, Children, byteAt}
@@ -15,8 +15,8 @@ use Rattle.layout.proofs.States.{kind-state}
 use Rattle.children.specs.declared.place.Place.the-variants.{Found, Missing}
 use Rattle.children.specs.Heap.{Cells, Holds, node}
 use Rattle.children.specs.Places.{findPlace}
-use Rattle.children.specs.Phys.{Phys, Buckets, Chain, root, tree, childrenB, first, cells, State, leafP, innerP, link}
-use Rattle.children.proofs.Spot.{starts, begins, headC, answer, SpotB, spot}
+use Rattle.children.specs.Phys.{Phys, Kids, root, tree, childrenOf, first, cells, State, leafP, innerP}
+use Rattle.children.proofs.Spot.{Held, gap, held, answer, SpotK, spot}
 use Rattle.trie_laws.specs.Path.{hasBelow, hasPath, subtree, pathOf, depth}
 use Rattle.trie_laws.specs.Sound.{soundTrie}
 use Rattle.trie_laws.proofs.Sound.{inner-parts}
@@ -50,13 +50,11 @@ module _ (cap pcap base : ℕ) (small : cap ≤ mostNodes) (bytesOf : ℕ → Li
   -- the node at level k that has u as a child, linked from slot s
   pub record Parent (t : Phys) (k : ℕ) (u : Phys) (s : ℕ) : Type 0 where
     pub node : ℕ
-    pub buckets : Buckets
-    pub way : Way cap pcap base small bytesOf p t k (innerP node buckets)
-    pub spot : SpotB cap pcap base small buckets node 0 (byteAt bytesOf k p)
-    pub octet : byteAt bytesOf k p < 256
+    pub kids : Kids
+    pub way : Way cap pcap base small bytesOf p t k (innerP node kids)
+    pub spot : SpotK cap pcap base small kids node (byteAt bytesOf k p)
     pub slot : spot .slot ≡ s
-    pub after : Chain
-    pub here : spot .tail ≡ link (byteAt bytesOf k p) u after
+    pub here : spot .there ≡ held u
 
   -- slot s links to u at level k, where that is not the root
   abbrev pub Linked : Phys → ℕ → Phys → ℕ → Type 0
@@ -72,12 +70,11 @@ module _ (cap pcap base : ℕ) (small : cap ≤ mostNodes) (bytesOf : ℕ → Li
 
   -- an inner node is reached that lacks the next byte's child, which belongs at slot s
   pub record AtGap (t : Phys) (n s k : ℕ) : Type 0 where
-    pub buckets : Buckets
-    pub way : Way cap pcap base small bytesOf p t k (innerP n buckets)
-    pub spot : SpotB cap pcap base small buckets n 0 (byteAt bytesOf k p)
-    pub octet : byteAt bytesOf k p < 256
+    pub kids : Kids
+    pub way : Way cap pcap base small bytesOf p t k (innerP n kids)
+    pub spot : SpotK cap pcap base small kids n (byteAt bytesOf k p)
     pub slot : spot .slot ≡ s
-    pub gap : starts (spot .tail) (byteAt bytesOf k p) ≡ false
+    pub none : spot .there ≡ gap
     pub deep : depth bytesOf 0 p (tree t) ≡ k
 
   abbrev pub Arrives : Phys → Reach → Type 0
@@ -100,56 +97,42 @@ module _ (cap pcap base : ℕ) (small : cap ≤ mostNodes) (bytesOf : ℕ → Li
         subst (Arrives t) (desc-leaf N cap Y n s k (descend N cap Y n s k (length Y - k)) refl (kindOf N cap n) refl (first ps) z)
         (record { pages = ps; way = w; linked = l; deep = deep-end t k (leafP n ps) w refl })
 
-    module _ (k s n : ℕ) (bs : Buckets) (w : Way cap pcap base small bytesOf p t k (innerP n bs)) (l : k < length Y) (m : byteAt bytesOf k p < 256) (o : SpotB cap pcap base small bs n 0 (byteAt bytesOf k p)) where
-      place : (q : Bool) → starts (o .tail) (byteAt bytesOf k p) ≡ q → answer q (o .slot) (headC (o .tail)) ≡ findPlace N cap n (getD Y k 0)
-      place q e = ap (λ (x : Bool). answer x (o .slot) (headC (o .tail))) (sym e) ∙ sym (o .find N P (there k (innerP n bs) w .1)) ∙ ap (findPlace N cap n) (y .bytes k l)
+    module _ (k s n : ℕ) (ks : Kids) (w : Way cap pcap base small bytesOf p t k (innerP n ks)) (l : k < length Y) (o : SpotK cap pcap base small ks n (byteAt bytesOf k p)) where
+      place : (x : Held) → o .there ≡ x → answer x (o .slot) ≡ findPlace N cap n (getD Y k 0)
+      place x e = ap (λ (z : Held). answer z (o .slot)) (sym e) ∙ sym (o .find N P (there k (innerP n ks) w .1)) ∙ ap (findPlace N cap n) (y .bytes k l)
 
-      at-gap : starts (o .tail) (byteAt bytesOf k p) ≡ false → Arrives t (descend N cap Y n s k (length Y - k))
+      at-gap : o .there ≡ gap → Arrives t (descend N cap Y n s k (length Y - k))
       unfolding hasBelow
       at-gap e =
-          let z : kindOf N cap n ≡ kind.Inner = kind-state N cap n kind.Inner (there k (innerP n bs) w .0) in
+          let z : kindOf N cap n ≡ kind.Inner = kind-state N cap n kind.Inner (there k (innerP n ks) w .0) in
           subst (Arrives t)
-          (desc-gap N cap Y n s k (descend N cap Y n s k (length Y - k)) refl (kindOf N cap n) refl z l (Missing (o .slot)) (place false e) (o .slot) refl)
-          (record {
-            buckets = bs;
-            way = w;
-            spot = o;
-            octet = m;
-            slot = refl;
-            gap = e;
-            deep = deep-end t k (innerP n bs) w (spot-none cap pcap base small o e);
-          })
+          (desc-gap N cap Y n s k (descend N cap Y n s k (length Y - k)) refl (kindOf N cap n) refl z l (Missing (o .slot)) (place gap e) (o .slot) refl)
+          (record { kids = ks; way = w; spot = o; slot = refl; none = e; deep = deep-end t k (innerP n ks) w (spot-none cap pcap base small o e) })
 
-      at-child : (u : Phys) (after : Chain) → o .tail ≡ link (byteAt bytesOf k p) u after → starts (o .tail) (byteAt bytesOf k p) ≡ true →
-          Arrives t (descend N cap Y (root u) (o .slot) (suc k) (length Y - suc k)) → Arrives t (descend N cap Y n s k (length Y - k))
-      at-child u after c e r =
-          let z : kindOf N cap n ≡ kind.Inner = kind-state N cap n kind.Inner (there k (innerP n bs) w .0) in
+      at-child : (u : Phys) → o .there ≡ held u → Arrives t (descend N cap Y (root u) (o .slot) (suc k) (length Y - suc k)) → Arrives t (descend N cap Y n s k (length Y - k))
+      at-child u e r =
+          let z : kindOf N cap n ≡ kind.Inner = kind-state N cap n kind.Inner (there k (innerP n ks) w .0) in
           subst (Arrives t)
-          (desc-found N cap Y n s k (descend N cap Y n s k (length Y - k)) refl (kindOf N cap n) refl z l (Found (o .slot) (root u)) (rw c at (place true e)) (root u) (o .slot) refl)
+          (desc-found N cap Y n s k (descend N cap Y n s k (length Y - k)) refl (kindOf N cap n) refl z l (Found (o .slot) (root u)) (place (held u) e) (root u) (o .slot) refl)
           (rw (add-one k) r)
 
     at-node : (k s : ℕ) (u : Phys) → Way cap pcap base small bytesOf p t k u → Linked t k u s →
         (k < length Y → (v : Phys) → Way cap pcap base small bytesOf p t (suc k) v → (r : ℕ) → Linked t (suc k) v r → Arrives t (descend N cap Y (root v) r (suc k) (length Y - suc k))) →
         Arrives t (descend N cap Y (root u) s k (length Y - k))
     at-node k s (leafP n ps) w l more = at-leaf k s n ps w l
-    at-node k s (innerP n bs) w l more = go (starts (o .tail) (byteAt bytesOf k p)) refl
+    at-node k s (innerP n ks) w l more = go (o .there) refl
       where
         i : k < length Y
-        i = y .shallow k (childrenB bs) (w .path) (w .sub)
+        i = y .shallow k (childrenOf ks) (w .path) (w .sub)
 
-        m : byteAt bytesOf k p < 256
-        m = omega (arith, y .bytes k i, y .octets k)
+        o : SpotK cap pcap base small ks n (byteAt bytesOf k p)
+        o = spot cap pcap base small n ks (byteAt bytesOf k p) (omega (arith, y .bytes k i, y .octets k)) (w .sound)
 
-        o : SpotB cap pcap base small bs n 0 (byteAt bytesOf k p)
-        o = spot cap pcap base small n bs (byteAt bytesOf k p) m (w .sound)
-
-        go : (q : Bool) → starts (o .tail) (byteAt bytesOf k p) ≡ q → Arrives t (descend N cap Y n s k (length Y - k))
-        go false e = at-gap k s n bs w i m o e
-        go true e =
-            let x = begins (o .tail) (byteAt bytesOf k p) e in
-            at-child k s n bs w i m o (x .0) (x .1) (x .2) e
-            (more i (x .0) (onward cap pcap base small bytesOf p w o m (x .0) (x .1) (x .2)) (o .slot)
-            (record { node = n; buckets = bs; way = w; spot = o; octet = m; slot = refl; after = x .1; here = x .2 }))
+        go : (x : Held) → o .there ≡ x → Arrives t (descend N cap Y n s k (length Y - k))
+        go gap e = at-gap k s n ks w i o e
+        go (held u) e =
+            at-child k s n ks w i o u e
+            (more i u (onward cap pcap base small bytesOf p w o u e) (o .slot) (record { node = n; kids = ks; way = w; spot = o; slot = refl; here = e }))
 
     reach : (f k s : ℕ) (u : Phys) → length Y - k ≡ f → Way cap pcap base small bytesOf p t k u → Linked t k u s → Arrives t (descend N cap Y (root u) s k (length Y - k))
     reach zero k s u e w l = at-node k s u w l (λ i. absurd (omega arith))

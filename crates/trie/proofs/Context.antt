@@ -6,10 +6,10 @@ use native.Mathlib.Omega.{arith}
 use Rattle.meaning.specs.Trie.{Tree, inner, Children, child, nodes}
 use Rattle.layout.specs.Nodes.{stateAt, innerState, mostNodes}
 use Rattle.children.specs.Heap.{Cells, nil, node, _⊕_}
-use Rattle.children.specs.Phys.{Phys, Buckets, Chain, root, tree, childrenB, childrenC, freeCells, cells, Sound, SoundC, State, innerP, link, chainEnd}
+use Rattle.children.specs.Phys.{Phys, Kids, root, tree, freeCells, cells, Sound, State, innerP}
 use Rattle.children.proofs.Frame.{Less, less, less-right, Same}
 use Rattle.trie.proofs.Abstract.{Kept, Walks}
-use Rattle.children.proofs.Spot.{SpotB}
+use Rattle.children.proofs.Spot.{held, SpotK}
 use Rattle.children.proofs.Joins.{siblings, child-same}
 
 module _ (cap pcap base : ℕ) (small : cap ≤ mostNodes) (byte : ℕ → ℕ) where
@@ -42,58 +42,56 @@ module _ (cap pcap base : ℕ) (small : cap ≤ mostNodes) (byte : ℕ → ℕ) 
         lift = λ F w x z. refl;
       }
 
-  -- down to a child with the next byte, before the siblings `after`
-  module _ {k top j n : ℕ} (C : Context k top j n) (bs : Buckets) (s : SpotB cap pcap base small bs n 0 (byte j)) (m : ℕ) (after : Chain) where
+  -- down to node m, the child of the next byte
+  module _ {k top j n : ℕ} (C : Context k top j n) (ks : Kids) (s : SpotK cap pcap base small ks n (byte j)) (m : ℕ) where
     abbrev pub below : Phys → Phys
-    below u = innerP n (s .put (link (byte j) u after))
+    below u = innerP n (s .put (held u))
 
     abbrev pub rest : Cells
-    rest = siblings cap pcap base small s m after ⊕ node (stateAt cap n) innerState ⊕ C .rest
+    rest = siblings cap pcap base small s m ⊕ node (stateAt cap n) innerState ⊕ C .rest
 
     pub below-same : (u : Phys) → root u ≡ m → Same (cells cap base (C .put (below u))) (cells cap base u ⊕ rest)
     below-same u e =
-        let p = C .same (innerP n (s .put (link (byte j) u after))) refl in
-        let q = child-same cap pcap base small s u after in
+        let p = C .same (innerP n (s .put (held u))) refl in
+        let q = child-same cap pcap base small s u in
         record {
           to = record {
             holds = λ N P h. let i = p .to .holds N P h in let o = q .to .holds N P (i .0 .1) in (o .0, (rw e at (o .1), (i .0 .0, i .1)));
             nodes = λ a. rw (← e) (omega (arith, p .to .nodes a, q .to .nodes a));
-            pages = λ a. rw (← e) (omega (arith, p .to .pages a, q .to .pages a));
+            pages = λ a. omega (arith, p .to .pages a, q .to .pages a);
           };
           back = record {
             holds = λ N P h. p .back .holds N P ((h .1 .1 .0, q .back .holds N P (h .0, rw (← e) at (h .1 .0))), h .1 .1 .1);
             nodes = λ a. rw (← e) (omega (arith, p .back .nodes a, q .back .nodes a));
-            pages = λ a. rw (← e) (omega (arith, p .back .pages a, q .back .pages a));
+            pages = λ a. omega (arith, p .back .pages a, q .back .pages a);
           };
         }
 
     abbrev pub belowT : Tree → Tree
-    belowT x = inner (s .before (child (byte j) x (childrenC after (s .later))))
+    belowT x = inner (s .before (child (byte j) x (s .later)))
 
     pub below-count : (x y : Tree) → nodes (C .around (belowT x)) + nodes y ≡ nodes (C .around (belowT y)) + nodes x
     unfolding nodes
     below-count x y =
-        let K : Children = childrenC after (s .later) in
-        omega (arith, C .count (belowT x) (belowT y), s .count (child (byte j) x K) (child (byte j) y K))
+        omega (arith, C .count (belowT x) (belowT y), s .count (child (byte j) x (s .later)) (child (byte j) y (s .later)))
 
     pub below-lift : (F : ℕ → Tree → Tree) (w : Walks byte F) (x : Tree) → Kept (F (suc j) x) → belowT (F (suc j) x) ≡ F j (belowT x)
     below-lift F w x z =
-        let K : Children = childrenC after (s .later) in
-        ap inner (ap (s .before) (sym (w .here j x K z)) ∙ sym (s .skip (w .below j) (w .skips j) (child (byte j) x K))) ∙ sym (w .inside j (s .before (child (byte j) x K)))
+        ap inner (ap (s .before) (sym (w .here j x (s .later) z)) ∙ sym (s .skip (w .below j) (w .skips j) (child (byte j) x (s .later)))) ∙ sym (w .inside j (s .before (child (byte j) x (s .later))))
 
     pub kept-below : (F : ℕ → Tree → Tree) (w : Walks byte F) (x : Tree) → Kept (F j (belowT x))
-    kept-below F w x = rw (w .inside j (s .before (child (byte j) x (childrenC after (s .later))))) tt
+    kept-below F w x = rw (w .inside j (s .before (child (byte j) x (s .later)))) tt
 
-    unfoldable pub inside : n < cap → byte j < 256 → SoundC cap pcap after (suc (byte j)) (chainEnd (byte j)) → Context k top (suc j) m
-    inside l b g =
+    unfoldable pub inside : n < cap → Context k top (suc j) m
+    inside l =
         record {
           put = λ u. C .put (below u);
           rest = rest;
           roots = λ u e. C .roots (below u) refl;
           same = below-same;
-          sound = λ u h. C .sound (below u) (l, s .sound (link (byte j) u after) (omega arith, omega arith, h, g));
+          sound = λ u h. C .sound (below u) (l, s .sound (held u) h);
           around = λ x. C .around (belowT x);
-          trees = λ u. C .trees (below u) ∙ ap (λ (cs : Children). C .around (inner cs)) (s .childrenB (link (byte j) u after));
+          trees = λ u. C .trees (below u) ∙ ap (λ (cs : Children). C .around (inner cs)) (s .children (held u));
           count = below-count;
           lift = λ F w x z. ap (C .around) (below-lift F w x z) ∙ C .lift F w (belowT x) (kept-below F w x);
         }

@@ -1,52 +1,52 @@
 -- The first free node as an empty leaf for a byte that is missing: `linkLeaf` keeps the state.
 use Prim.Native.Nat.{ℕ, _+_, _-_, _<_, _≤_}
-use mathlib.Core.Path.{_≡_, refl, sym}
+use mathlib.Core.Path.{_≡_, refl, sym, subst}
 use mathlib.Core.List.{List, [], _∷_}
-use mathlib.Core.Bool.{false}
 use native.Mathlib.Omega.{arith}
 use lib.ListN.{getD, length-set}
 use Rattle.meaning.specs.Trie.{nodes}
 use Rattle.layout.specs.Nodes.{stateAt, freeState, innerState, leafState, mostNodes}
 use Rattle.trie.specs.declared.leaf.Got.the-variants.{Node}
-use Rattle.children.specs.Heap.{Cells, node, _⊕_}
+use Rattle.children.specs.Heap.{Cells, Heap, node, _⊕_}
 use Rattle.trie.specs.Model.{linkLeaf, freshLeaf, made}
-use Rattle.children.specs.Phys.{Phys, Buckets, first, noHeads, freeCells, cells, cellsB, State, leafP, innerP, link, chainEnd}
+use Rattle.children.specs.Phys.{Phys, Kids, first, noKids, freeCells, cells, kidCells, State, leafP, innerP}
 use Rattle.children.proofs.Frame.{Less, less, node-write, nodes-kept}
 use Rattle.trie.proofs.Steps.{fresh-made}
 use Rattle.children.proofs.Joins.{put-in}
-use Rattle.children.proofs.Spot.{starts, past, SpotB}
+use Rattle.children.proofs.Spot.{gap, held, SpotK}
+use Rattle.children.proofs.Spots.{spot-same}
 
 module _ (cap pcap base : ℕ) (small : cap ≤ mostNodes) where
-  module _ {N P : List ℕ} {free n f b : ℕ} {bs : Buckets} {fs : List ℕ} {G : Cells}
-      (st : State cap pcap base N P free (innerP n bs) (f ∷ fs) G) (s : SpotB cap pcap base small bs n 0 b) (lb : b < 256) (gap : starts (s .tail) b ≡ false) where
+  module _ {N P : List ℕ} {free n f b : ℕ} {ks : Kids} {fs : List ℕ} {G : Cells}
+      (st : State cap pcap base N P free (innerP n ks) (f ∷ fs) G) (s : SpotK cap pcap base small ks n b) (none : s .there ≡ gap) where
     abbrev pub withLeaf : Phys
-    withLeaf = innerP n (s .put (link b (leafP f []) (s .tail)))
+    withLeaf = innerP n (s .put (held (leafP f [])))
 
     R : Cells
     R = node (stateAt cap n) innerState ⊕ freeCells cap fs ⊕ G
 
-    apart : Less (cells cap base (innerP n bs) ⊕ freeCells cap (f ∷ fs) ⊕ G) (node (stateAt cap f) freeState ⊕ noHeads cap f ⊕ node f (first fs) ⊕ cellsB cap base bs n 0 ⊕ R)
+    apart : Less (cells cap base (innerP n (s .put gap)) ⊕ freeCells cap (f ∷ fs) ⊕ G) (node (stateAt cap f) freeState ⊕ noKids cap f ⊕ node f (first fs) ⊕ kidCells cap base (s .put gap) n ⊕ R)
     unfolding R
     apart = record { holds = λ N P h. search; nodes = λ a. omega arith; pages = λ a. omega arith }
 
-    loose : Less (node (stateAt cap f) (leafState 0) ⊕ noHeads cap f ⊕ node f (first fs) ⊕ cellsB cap base bs n 0 ⊕ R)
-        (node f (first fs) ⊕ cells cap base (leafP f []) ⊕ cellsB cap base bs n 0 ⊕ R)
+    loose : Less (node (stateAt cap f) (leafState 0) ⊕ noKids cap f ⊕ node f (first fs) ⊕ kidCells cap base (s .put gap) n ⊕ R)
+        (node f (first fs) ⊕ cells cap base (leafP f []) ⊕ kidCells cap base (s .put gap) n ⊕ R)
     loose = record { holds = λ N P h. search; nodes = λ a. omega arith; pages = λ a. omega arith }
 
-    together : Less (cellsB cap base (s .put (link b (leafP f []) (s .tail))) n 0 ⊕ R) (cells cap base withLeaf ⊕ freeCells cap fs ⊕ G)
+    together : Less (kidCells cap base (s .put (held (leafP f []))) n ⊕ R) (cells cap base withLeaf ⊕ freeCells cap fs ⊕ G)
     unfolding R
     together = record { holds = λ N P h. search; nodes = λ a. omega arith; pages = λ a. omega arith }
 
     pub fresh-state : State cap pcap base (linkLeaf N cap (s .slot) f b) P (getD N f 0) withLeaf fs G
     unfolding linkLeaf
     fresh-state =
-        let h = less apart (st .heap) in
+        let h = less apart (subst (λ (x : Kids). Heap N P (cells cap base (innerP n x) ⊕ freeCells cap (f ∷ fs) ⊕ G)) (sym (spot-same cap pcap base small s none)) (st .heap)) in
         let t = st .nodeTable in
         let lf : f < cap = st .below .0 in
         let h1 = less loose (node-write (leafState 0) h (omega (arith, t .long))) in
         record {
           heap = less together (put-in cap pcap base small s R (leafP f []) (first fs) (nodes-kept (simp length-set) t) (st .sound .0) lf h1);
-          sound = (st .sound .0, s .sound (link b (leafP f []) (s .tail)) (omega arith, omega arith, (lf, tt), past cap pcap base small (s .tail) b (chainEnd b) gap (s .from)));
+          sound = (st .sound .0, s .sound (held (leafP f [])) (lf, tt));
           nodeTable = nodes-kept (simp length-set) t;
           pageTable = st .pageTable;
           chain = h .holds .1 .1 .0;

@@ -1,5 +1,5 @@
 -- The way from the root of a trie to what stands where some bytes of a page lead: what is put there instead is put there in the abstract trie.
-use Prim.Native.Nat.{ℕ, suc, _+_, _<_, _≤_}
+use Prim.Native.Nat.{ℕ, suc, _+_, _≤_}
 use native.Mathlib.Nat.{zero-add}
 use mathlib.Core.Path.{_≡_, refl, ap, _∙_, sym, subst}
 use mathlib.Core.Bool.{true}
@@ -7,12 +7,12 @@ use mathlib.Core.List.{List}
 use Rattle.meaning.specs.Trie.{byteAt}
 use Rattle.layout.specs.Nodes.{mostNodes}
 use Rattle.children.specs.Heap.{Cells, _⊕_}
-use Rattle.children.specs.Phys.{Phys, Buckets, Chain, root, tree, Sound, SoundC, State, innerP, link, chainEnd}
-use Rattle.children.proofs.Spot.{SpotB}
+use Rattle.children.specs.Phys.{Phys, Kids, root, tree, Sound, State, innerP}
+use Rattle.children.proofs.Spot.{Held, held, SpotK}
 use Rattle.trie.proofs.Context.{Context, whole, inside, enter, leave}
 use Rattle.trie_laws.specs.Path.{hasBelow, below, setBelow, hasPath, subtree, replace, pathOf}
 use Rattle.trie.proofs.Paths.{path-next, sub-next, rep-next}
-use Rattle.children.proofs.Spots.{from-here, spot-has, spot-child, spot-set}
+use Rattle.children.proofs.Spots.{spot-sound, spot-has, spot-child, spot-set}
 
 module _ (cap pcap base : ℕ) (small : cap ≤ mostNodes) (bytesOf : ℕ → List ℕ) (p : ℕ) where
   -- u stands in t at the end of k bytes of page p
@@ -29,27 +29,20 @@ module _ (cap pcap base : ℕ) (small : cap ≤ mostNodes) (bytesOf : ℕ → Li
   start t g = record { context = whole cap pcap base small (λ j. byteAt bytesOf j p) 0 (root t); is = refl; sound = g; path = refl; sub = refl; rep = λ v. refl }
 
   -- on to the child of the next byte
-  module _ {t : Phys} {k n : ℕ} {bs : Buckets} (w : Way t k (innerP n bs)) (s : SpotB cap pcap base small bs n 0 (byteAt bytesOf k p)) (l : byteAt bytesOf k p < 256)
-      (u : Phys) (after : Chain) (e : s .tail ≡ link (byteAt bytesOf k p) u after) where
-    abbrev y : ℕ
-    y = byteAt bytesOf k p
-
-    from : SoundC cap pcap (link y u after) y (chainEnd y)
-    from = from-here cap pcap base small s u after e
-
+  module _ {t : Phys} {k n : ℕ} {ks : Kids} (w : Way t k (innerP n ks)) (s : SpotK cap pcap base small ks n (byteAt bytesOf k p)) (u : Phys) (e : s .there ≡ held u) where
     pub onward : Way t (suc k) u
     unfolding inside hasBelow below setBelow
     onward =
         record {
-          context = inside cap pcap base small (λ j. byteAt bytesOf j p) (w .context) bs s (root u) after (w .sound .0) l (from .3);
-          is = ap (λ (x : Chain). w .context .put (innerP n (s .put x))) (sym e) ∙ ap (λ (x : Buckets). w .context .put (innerP n x)) (s .whole) ∙ w .is;
-          sound = from .2;
-          path = path-next bytesOf p k 0 (tree t) (w .path) (rw (zero-add k, w .sub) (spot-has cap pcap base small s u after e));
-          sub = sub-next bytesOf p k 0 (tree t) ∙ rw (zero-add k, w .sub) (spot-child cap pcap base small s u after e);
-          rep = λ v. w .rep (innerP n (s .put (link y v after))) ∙ rw (spot-set cap pcap base small s u after e v) (sym (rep-next bytesOf p k 0 (tree t) (tree v) ∙ rw (zero-add k, w .sub) refl));
+          context = inside cap pcap base small (λ j. byteAt bytesOf j p) (w .context) ks s (root u) (w .sound .0);
+          is = ap (λ (x : Held). w .context .put (innerP n (s .put x))) (sym e) ∙ ap (λ (x : Kids). w .context .put (innerP n x)) (s .whole) ∙ w .is;
+          sound = spot-sound cap pcap base small s u e;
+          path = path-next bytesOf p k 0 (tree t) (w .path) (rw (zero-add k, w .sub) (spot-has cap pcap base small s u e));
+          sub = sub-next bytesOf p k 0 (tree t) ∙ rw (zero-add k, w .sub) (spot-child cap pcap base small s u e);
+          rep = λ v. w .rep (innerP n (s .put (held v))) ∙ rw (spot-set cap pcap base small s u e v) (sym (rep-next bytesOf p k 0 (tree t) (tree v) ∙ rw (zero-add k, w .sub) refl));
         }
 
-    pub onward-put : (v : Phys) → onward .context .put v ≡ w .context .put (innerP n (s .put (link y v after)))
+    pub onward-put : (v : Phys) → onward .context .put v ≡ w .context .put (innerP n (s .put (held v)))
     unfolding onward inside
     onward-put v = refl
 

@@ -15,13 +15,13 @@ use Rattle.meaning.specs.Trie.{nodes}
 use Rattle.meaning.proofs.Lists.{eqb-comm}
 use Rattle.layout.specs.Nodes.{chainAt, stateAt, headAt, freeState, nodeWords, headsAt}
 use Rattle.children.specs.Heap.{hit, nodeClaims, Holds}
-use Rattle.children.specs.Phys.{Phys, leafP, innerP, Buckets, end, bucket, Chain, stop, link, root, tree, noHeads, pageCells, freeCells, cells, cellsB, cellsC, Below, Sound, SoundB, SoundC}
+use Rattle.children.specs.Phys.{Phys, Kids, leafP, innerP, noKid, kid, root, tree, noKids, pageCells, freeCells, cells, kidCells, Below, Sound, SoundK}
 use Rattle.children.proofs.Frame.{hit-same, hit-other}
-use Rattle.children.proofs.Claims.{among, among-out, heads}
-use Rattle.children.proofs.Chains.{root-below, chains-left}
+use Rattle.children.proofs.Claims.{among, among-out, heads-claim, end-nodes, kid-nodes, Trees, kid-trees}
+use Rattle.children.proofs.Kids.{root-below}
 use Rattle.trie.proofs.Spans.{sumTo, sum-add, sum-none, sum-hit}
-use Rattle.trie_check_laws.specs.Uses.{uses, usesB, usesC}
-use Rattle.trie_check_laws.proofs.WholeFit.{size, sizeB, sizeC, size-nodes}
+use Rattle.trie_check_laws.specs.Uses.{uses, usesAmong}
+use Rattle.trie_check_laws.proofs.WholeFit.{size, sizeAmong, size-nodes}
 
 -- ---- the words of a node
 
@@ -41,17 +41,17 @@ among-in k (suc n) a l m = go (λ p q. among-in (suc k) n a p q) (ℕ-discrete a
 -- each word of a node belongs to it
 module _ (cap a n : ℕ) (below : n < cap) where
   abbrev Owned : ℕ → Type 0
-  Owned x = hit (chainAt n) a + hit (stateAt cap n) a + nodeClaims (noHeads cap n) a ≡ hit n x
+  Owned x = hit (chainAt n) a + hit (stateAt cap n) a + nodeClaims (noKids cap n) a ≡ hit n x
 
   in-chain : a < cap → Owned a
   in-chain l =
-      omega (arith, hit-other {a = a} {b = cap + n} (λ e. omega arith), heads cap n a, among-out (headAt cap n 0) 8 a (λ q. absurd (omega arith)))
+      omega (arith, hit-other {a = a} {b = cap + n} (λ e. omega arith), heads-claim cap n (λ g. 0) a, among-out (headAt cap n 0) 8 a (λ q. absurd (omega arith)))
 
   in-state : cap ≤ a → a < headsAt cap → Owned (a - cap)
   in-state l m = go (ℕ-discrete (a - cap) n)
     where
-      others : hit (chainAt n) a + nodeClaims (noHeads cap n) a ≡ 0
-      others = omega (arith, hit-other {a = a} {b = n} (λ e. omega arith), heads cap n a, among-out (headAt cap n 0) 8 a (λ q. absurd (omega arith)))
+      others : hit (chainAt n) a + nodeClaims (noKids cap n) a ≡ 0
+      others = omega (arith, hit-other {a = a} {b = n} (λ e. omega arith), heads-claim cap n (λ g. 0) a, among-out (headAt cap n 0) 8 a (λ q. absurd (omega arith)))
 
       go : Dec (a - cap ≡ n) → Owned (a - cap)
       go (yes e) = omega (arith, others, hit-same {a = a - cap} {b = n} e, hit-same {a = a} {b = cap + n} (omega arith))
@@ -65,12 +65,12 @@ module _ (cap a n : ℕ) (below : n < cap) where
     where
       go : Dec ((a - headsAt cap) / 8 ≡ n) → Owned ((a - headsAt cap) / 8)
       go (yes e) =
-          omega (arith, not-low l, heads cap n a, among-in (headAt cap n 0) 8 a (omega arith) (omega arith), hit-same {a = (a - headsAt cap) / 8} {b = n} e)
+          omega (arith, not-low l, heads-claim cap n (λ g. 0) a, among-in (headAt cap n 0) 8 a (omega arith) (omega arith), hit-same {a = (a - headsAt cap) / 8} {b = n} e)
       go (no e) =
           omega (
             arith,
             not-low l,
-            heads cap n a,
+            heads-claim cap n (λ g. 0) a,
             hit-other {a = (a - headsAt cap) / 8} {b = n} e,
             among-out (headAt cap n 0) 8 a (λ q. not-below (λ r. e (omega arith))),
           )
@@ -80,7 +80,7 @@ module _ (cap a n : ℕ) (below : n < cap) where
 
   in-none : nodeWords cap ≤ a → Owned cap
   in-none l =
-      omega (arith, not-low (omega arith), heads cap n a, among-out (headAt cap n 0) 8 a (λ q. omega arith), hit-other {a = cap} {b = n} (λ e. omega arith))
+      omega (arith, not-low (omega arith), heads-claim cap n (λ g. 0) a, among-out (headAt cap n 0) 8 a (λ q. omega arith), hit-other {a = cap} {b = n} (λ e. omega arith))
 
   owned : Owned (owner cap a)
   unfolding owner
@@ -127,25 +127,14 @@ module _ (cap pcap base a : ℕ) where
   no-nodes (p ∷ ps) = omega (arith, no-nodes ps)
 
   mutual
-    unfolding among
-
     -- the root's chain word is not the trie's
     pub trie-words : (t : Phys) → Sound cap pcap t → nodeClaims (cells cap base t) a + hit (chainAt (root t)) a ≡ uses t (owner cap a)
     trie-words (leafP n ps) s = omega (arith, owned cap a n (s .0), no-nodes ps)
-    trie-words (innerP n bs) s = omega (arith, owned cap a n (s .0), heads cap n a, bucket-words bs n 0 8 refl (s .1))
+    trie-words (innerP n ks) s = omega (arith, owned cap a n (s .0), kid-words ks n 0 (s .1))
 
-    bucket-words : (bs : Buckets) (n g k : ℕ) → k + g ≡ 8 → SoundB cap pcap bs g
-        → nodeClaims (cellsB cap base bs n g) a ≡ among (headAt cap n g) k a + usesB bs (owner cap a)
-    bucket-words end n g zero e s = refl
-    bucket-words end n g (suc k) e s = absurd (omega (arith, s))
-    bucket-words (bucket ch bs) n g zero e s = absurd (omega (arith, chains-left cap pcap bs (suc g) (s .1)))
-    bucket-words (bucket ch bs) n g (suc k) e s =
-        let next : headAt cap n (suc g) ≡ suc (headAt cap n g) = omega arith in
-        omega (arith, chain-words ch (headAt cap n g) 0 (32 * g) (32 * g + 32) (s .0), rw next at (bucket-words bs n (suc g) k (omega arith) (s .1)))
-
-    chain-words : (ch : Chain) (s y lo hi : ℕ) → SoundC cap pcap ch lo hi → nodeClaims (cellsC cap base ch s y) a ≡ hit s a + usesC ch (owner cap a)
-    chain-words stop s y lo hi h = omega arith
-    chain-words (link b t ch) s y lo hi h = omega (arith, trie-words t (h .2), chain-words ch (chainAt (root t)) b (suc b) hi (h .3))
+    kid-words : (ks : Kids) (n lo : ℕ) → SoundK cap pcap ks lo → nodeClaims (kidCells cap base ks n) a ≡ nodeClaims (noKids cap n) a + usesAmong ks (owner cap a)
+    kid-words noKid n lo s = omega (arith, end-nodes cap base n a)
+    kid-words (kid b t ks) n lo s = omega (arith, kid-nodes cap base n a b t ks, trie-words t (s .2), kid-words ks n (suc b) (s .3))
 
 pub free-words : (cap a : ℕ) (fs : List ℕ) → Below cap fs → nodeClaims (freeCells cap fs) a ≡ count (eqb (owner cap a)) fs
 unfolding count
@@ -157,15 +146,11 @@ module _ (cap pcap x : ℕ) (outside : cap ≤ x) where
   mutual
     pub uses-beyond : (t : Phys) → Sound cap pcap t → uses t x ≡ 0
     uses-beyond (leafP n ps) s = hit-other {a = x} {b = n} (λ e. omega (arith, s .0))
-    uses-beyond (innerP n bs) s = omega (arith, hit-other {a = x} {b = n} (λ e. omega (arith, s .0)), uses-beyond-children bs 0 (s .1))
+    uses-beyond (innerP n ks) s = omega (arith, hit-other {a = x} {b = n} (λ e. omega (arith, s .0)), uses-beyond-children ks 0 (s .1))
 
-    uses-beyond-children : (bs : Buckets) (g : ℕ) → SoundB cap pcap bs g → usesB bs x ≡ 0
-    uses-beyond-children end g s = refl
-    uses-beyond-children (bucket ch bs) g s = omega (arith, uses-beyond-chain ch (32 * g) (32 * g + 32) (s .0), uses-beyond-children bs (suc g) (s .1))
-
-    uses-beyond-chain : (ch : Chain) (lo hi : ℕ) → SoundC cap pcap ch lo hi → usesC ch x ≡ 0
-    uses-beyond-chain stop lo hi s = refl
-    uses-beyond-chain (link b t ch) lo hi s = omega (arith, uses-beyond t (s .2), uses-beyond-chain ch (suc b) hi (s .3))
+    uses-beyond-children : (ks : Kids) (lo : ℕ) → SoundK cap pcap ks lo → usesAmong ks x ≡ 0
+    uses-beyond-children noKid lo s = refl
+    uses-beyond-children (kid b t ks) lo s = omega (arith, uses-beyond t (s .2), uses-beyond-children ks (suc b) (s .3))
 
 pub free-beyond : (cap x : ℕ) (fs : List ℕ) → cap ≤ x → Below cap fs → count (eqb x) fs ≡ 0
 unfolding count
@@ -225,18 +210,12 @@ module _ (cap base : ℕ) (N P : List ℕ) (x : ℕ) where
   mutual
     pub used-state : (t : Phys) → Holds (cells cap base t) N P → 0 < uses t x → Used
     used-state (leafP n ps) h l = let e : n ≡ x = hit-is n x l in rw (← e) (omega (arith, h .0))
-    used-state (innerP n bs) h l =
-        either (hit n x) (usesB bs x) (λ k. let e : n ≡ x = hit-is n x k in rw (← e) (omega (arith, h .0))) (λ k. used-children bs n 0 (h .1) k) l
+    used-state (innerP n ks) h l =
+        either (hit n x) (usesAmong ks x) (λ k. let e : n ≡ x = hit-is n x k in rw (← e) (omega (arith, h .0))) (λ k. used-children ks (kid-trees cap base N P ks n (h .1)) k) l
 
-    used-children : (bs : Buckets) (n g : ℕ) → Holds (cellsB cap base bs n g) N P → 0 < usesB bs x → Used
-    used-children end n g h l = absurd (omega arith)
-    used-children (bucket ch bs) n g h l =
-        either (usesC ch x) (usesB bs x) (λ k. used-chain ch (headAt cap n g) 0 (h .0) k) (λ k. used-children bs n (suc g) (h .1) k) l
-
-    used-chain : (ch : Chain) (s y : ℕ) → Holds (cellsC cap base ch s y) N P → 0 < usesC ch x → Used
-    used-chain stop s y h l = absurd (omega arith)
-    used-chain (link b t ch) s y h l =
-        either (uses t x) (usesC ch x) (λ k. used-state t (h .1 .0) k) (λ k. used-chain ch (chainAt (root t)) b (h .1 .1) k) l
+    used-children : (ks : Kids) → Trees cap base N P ks → 0 < usesAmong ks x → Used
+    used-children noKid h l = absurd (omega arith)
+    used-children (kid b t ks) h l = either (uses t x) (usesAmong ks x) (λ k. used-state t (h .0) k) (λ k. used-children ks (h .1) k) l
 
   pub free-zero : (fs : List ℕ) → Holds (freeCells cap fs) N P → 0 < count (eqb x) fs → getD N (stateAt cap x) 0 ≡ freeState
   unfolding count
@@ -260,18 +239,13 @@ module _ (cap pcap : ℕ) where
   mutual
     sum-size : (t : Phys) → Sound cap pcap t → sumTo cap (λ x. uses t x) ≡ size t
     sum-size (leafP n ps) s = one-node cap n (s .0)
-    sum-size (innerP n bs) s =
-        sum-add cap (λ x. hit n x) (λ x. usesB bs x) ∙ omega (arith, one-node cap n (s .0), sum-children bs 0 (s .1))
+    sum-size (innerP n ks) s =
+        sum-add cap (λ x. hit n x) (λ x. usesAmong ks x) ∙ omega (arith, one-node cap n (s .0), sum-children ks 0 (s .1))
 
-    sum-children : (bs : Buckets) (g : ℕ) → SoundB cap pcap bs g → sumTo cap (λ x. usesB bs x) ≡ sizeB bs
-    sum-children end g s = sum-none cap (λ x. 0) (λ x l. refl)
-    sum-children (bucket ch bs) g s =
-        sum-add cap (λ x. usesC ch x) (λ x. usesB bs x) ∙ omega (arith, sum-chain ch (32 * g) (32 * g + 32) (s .0), sum-children bs (suc g) (s .1))
-
-    sum-chain : (ch : Chain) (lo hi : ℕ) → SoundC cap pcap ch lo hi → sumTo cap (λ x. usesC ch x) ≡ sizeC ch
-    sum-chain stop lo hi s = sum-none cap (λ x. 0) (λ x l. refl)
-    sum-chain (link b t ch) lo hi s =
-        sum-add cap (λ x. uses t x) (λ x. usesC ch x) ∙ omega (arith, sum-size t (s .2), sum-chain ch (suc b) hi (s .3))
+    sum-children : (ks : Kids) (lo : ℕ) → SoundK cap pcap ks lo → sumTo cap (λ x. usesAmong ks x) ≡ sizeAmong ks
+    sum-children noKid lo s = sum-none cap (λ x. 0) (λ x l. refl)
+    sum-children (kid b t ks) lo s =
+        sum-add cap (λ x. uses t x) (λ x. usesAmong ks x) ∙ omega (arith, sum-size t (s .2), sum-children ks (suc b) (s .3))
 
   pub sum-uses : (t : Phys) → Sound cap pcap t → sumTo cap (λ x. uses t x) ≡ nodes (tree t)
   sum-uses t s = sum-size t s ∙ size-nodes t

@@ -9,11 +9,10 @@ use lib.ListN.{length}
 use borrow.Author.Tests.{eqb-true, ltb-true}
 use Rattle.meaning.specs.Lists.{all, any, count, from, upto}
 use Rattle.meaning.specs.Trie.{Children, child, byteAt, pagesIn, pagesAmong}
-use Rattle.layout.specs.Nodes.{headAt}
 use Rattle.layout.specs.Pages.{isLive}
 use Rattle.children.specs.Heap.{Holds}
-use Rattle.children.specs.Phys.{Phys, leafP, innerP, Buckets, end, bucket, Chain, stop, link, root, tree, childrenB, childrenC, pageCells, cells, cellsB, cellsC, Below, Sound, SoundB, SoundC}
-use Rattle.children.proofs.Claims.{below-all}
+use Rattle.children.specs.Phys.{Phys, Kids, leafP, innerP, noKid, kid, tree, childrenOf, pageCells, cells, Below, Sound, SoundK}
+use Rattle.children.proofs.Claims.{below-all, Trees, kid-trees}
 use Rattle.trie_laws.specs.Sound.{soundTrie, soundFrom, Stands}
 use Rattle.meaning.proofs.Lists.{and-intro, not-so, count-append, all-append, all-each}
 use Rattle.trie_laws.proofs.Lists.{Truth, holds, fails, truth, less, same, more, compared, any-count, any-none}
@@ -84,21 +83,13 @@ module _ (base : ℕ) (N P : List ℕ) (bytesOf : ℕ → List ℕ) (b n len : �
 
     tree-once : (t : Phys) (k : ℕ) → Holds (cells cap base t) N P → soundTrie bytesOf b n len k (tree t) ≡ true → count (eqb x) (pagesIn (tree t)) ≤ 1
     tree-once (leafP m ps) k h s = leaf-once base N P x ps (h .1 .1)
-    tree-once (innerP m bs) k h s = buckets-once bs m 0 k 0 (h .1) (inner-parts bytesOf b n len k (childrenB bs) s .childrenB)
+    tree-once (innerP m ks) k h s = kids-once ks k 0 (kid-trees cap base N P ks m (h .1)) (inner-parts bytesOf b n len k (childrenOf ks) s .childrenB)
 
-    buckets-once : (bs : Buckets) (m g k lo : ℕ) → Holds (cellsB cap base bs m g) N P → soundFrom bytesOf b n len k lo (childrenB bs) ≡ true
-        → count (eqb x) (pagesAmong (childrenB bs)) ≤ 1
-    buckets-once end m g k lo h s = omega arith
-    buckets-once (bucket ch bs) m g k lo h s =
-        chain-once ch (headAt cap m g) 0 k lo (childrenB bs) (h .0) s (λ lo′ s′. buckets-once bs m (suc g) k lo′ (h .1) s′)
-
-    chain-once : (ch : Chain) (at y k lo : ℕ) (cs : Children) → Holds (cellsC cap base ch at y) N P → soundFrom bytesOf b n len k lo (childrenC ch cs) ≡ true
-        → ((lo′ : ℕ) → soundFrom bytesOf b n len k lo′ cs ≡ true → count (eqb x) (pagesAmong cs) ≤ 1) → count (eqb x) (pagesAmong (childrenC ch cs)) ≤ 1
-    chain-once stop at y k lo cs h s later = later lo s
-    chain-once (link c t ch) at y k lo cs h s later =
-        let parts = child-parts bytesOf b n len k lo c (tree t) (childrenC ch cs) s in
-        child-once k lo c t (childrenC ch cs) s (tree-once t (suc k) (h .1 .0) (parts .here .sub))
-        (chain-once ch (root t) c k (suc c) cs (h .1 .1) (parts .rest) later)
+    kids-once : (ks : Kids) (k lo : ℕ) → Trees cap base N P ks → soundFrom bytesOf b n len k lo (childrenOf ks) ≡ true → count (eqb x) (pagesAmong (childrenOf ks)) ≤ 1
+    kids-once noKid k lo h s = omega arith
+    kids-once (kid c t ks) k lo h s =
+        let parts = child-parts bytesOf b n len k lo c (tree t) (childrenOf ks) s in
+        child-once k lo c t (childrenOf ks) s (tree-once t (suc k) (h .0) (parts .here .sub)) (kids-once ks k (suc c) (h .1) (parts .rest))
 
 -- ---- the pages are below the capacity
 module _ (cap pcap : ℕ) where
@@ -110,18 +101,13 @@ module _ (cap pcap : ℕ) where
 
     tree-below : (t : Phys) → Sound cap pcap t → all small (pagesIn (tree t)) ≡ true
     tree-below (leafP n ps) s = below-all pcap ps (s .1)
-    tree-below (innerP n bs) s = buckets-below bs 0 (s .1)
+    tree-below (innerP n ks) s = kids-below ks 0 (s .1)
 
-    buckets-below : (bs : Buckets) (g : ℕ) → SoundB cap pcap bs g → all small (pagesAmong (childrenB bs)) ≡ true
-    buckets-below end g s = refl
-    buckets-below (bucket ch bs) g s = chain-below ch (32 * g) (32 * g + 32) (childrenB bs) (s .0) (buckets-below bs (suc g) (s .1))
-
-    chain-below : (ch : Chain) (lo hi : ℕ) (cs : Children) → SoundC cap pcap ch lo hi → all small (pagesAmong cs) ≡ true
-        → all small (pagesAmong (childrenC ch cs)) ≡ true
-    chain-below stop lo hi cs s h = h
-    chain-below (link c t ch) lo hi cs s h =
-        all-append small (pagesIn (tree t)) (pagesAmong (childrenC ch cs))
-        ∙ and-intro (all small (pagesIn (tree t))) (all small (pagesAmong (childrenC ch cs))) (tree-below t (s .2)) (chain-below ch (suc c) hi cs (s .3) h)
+    kids-below : (ks : Kids) (lo : ℕ) → SoundK cap pcap ks lo → all small (pagesAmong (childrenOf ks)) ≡ true
+    kids-below noKid lo s = refl
+    kids-below (kid c t ks) lo s =
+        all-append small (pagesIn (tree t)) (pagesAmong (childrenOf ks))
+        ∙ and-intro (all small (pagesIn (tree t))) (all small (pagesAmong (childrenOf ks))) (tree-below t (s .2)) (kids-below ks (suc c) (s .3))
 
 -- ---- as many pass both tests, and the first implies the second: they are the same
 count-less : (f g : ℕ → Bool) (j m : ℕ) → ((x : ℕ) → f x ≡ true → g x ≡ true) → count f (from j m) ≤ count g (from j m)

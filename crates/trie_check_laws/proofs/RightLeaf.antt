@@ -18,7 +18,7 @@ use Rattle.layout.specs.declared.nodes.Kind.the-variants as kind
 use Rattle.layout.proofs.States.{state-kind}
 use Rattle.layout.specs.Pages.{isLive}
 use Rattle.children.specs.Heap.{Holds}
-use Rattle.children.specs.Phys.{first, pageCells, noHeads, Below}
+use Rattle.children.specs.Phys.{first, pageCells, noKids, Below}
 use Rattle.blocks.specs.Packed.{pageByte, levelAt}
 use Rattle.trie_laws.specs.Path.{follows}
 use Rattle.meaning.proofs.Lists.{and-intro, upto-all}
@@ -57,7 +57,7 @@ module _ (N P : List ℕ) (cap x : ℕ) where
 
   pub record AtLeaf (link : ℕ) : Type 0 where
     pub state : word ≡ leafState link
-    pub heads : Holds (noHeads cap x) N P
+    pub heads : Holds (noKids cap x) N P
 
   pub kind-leaf : (link : ℕ) → kindOf N cap x ≡ Leaf link → AtLeaf link
   unfolding kindOf

@@ -13,7 +13,7 @@ use Rattle.meaning.specs.Lists.{all}
 use Rattle.meaning.specs.Trie.{leaf, inner, nodes, nodesIn, pagesIn, pagesAmong}
 use Rattle.words.specs.Bits.{flag}
 use Rattle.layout.specs.Nodes.{leafState, innerState, stateAt, stepsFor}
-use Rattle.children.specs.Phys.{Phys, leafP, innerP, bucket, tree, first}
+use Rattle.children.specs.Phys.{Phys, Kids, leafP, innerP, tree, childrenOf, first}
 use Rattle.trie_laws.specs.Sound.{filled}
 use Rattle.trie_laws.specs.Path.{follows}
 use Rattle.trie_laws.specs.Walk.{soundWalk}
@@ -32,13 +32,15 @@ use Rattle.children.specs.Order.{entered, pastChild, nextChain}
 use Rattle.node_check.specs.Frame.{stepIn}
 use Rattle.trie_visit.specs.Visit.{Given, Fitting, Visited, visited, childMove, leafLeft, pastLeaf, visitChild, visitStep, visit}
 use Rattle.trie_check.specs.Trie.{state, Tested, tested, follow, run, leftIf, leftLeaf, testBelow, testKind, testTrie}
+use Rattle.trie_check_laws.specs.Uses.{usesAmong}
 use Rattle.trie_check_laws.specs.Found.{Reads, Found, Marked, one}
 use Rattle.children.proofs.Tests.{passed}
+use Rattle.children.proofs.AheadOrder.{placed-enter}
 use Rattle.trie_check_laws.proofs.RightStep.{AtChild, step-child, step-chain, step-up}
 use Rattle.trie_check_laws.proofs.RightMark.{Once, mark-fresh}
 use Rattle.trie_check_laws.proofs.RightLeaf.{kind-inner, kind-leaf, AtLeaf, LeafPages, leaf-right}
-use Rattle.trie_check_laws.proofs.RightRest.{Rest, childrenOf, usesOf, nodesAll, pagesAll, usesAll, Covers, Hangs, inner-held, inner-sound, inner-walked}
-use Rattle.trie_check_laws.proofs.RightRun.{Above, Completes, complete-done, complete-up, complete-chain, complete-child, Returned, return}
+use Rattle.trie_check_laws.proofs.RightRest.{nodesAll, pagesAll, usesAll, Covers, Hangs, inner-held, inner-sound, inner-walked}
+use Rattle.trie_check_laws.proofs.RightRun.{Above, Covered, Completes, complete-done, complete-up, complete-chain, complete-child, Returned, return}
 
 -- a leaf with a first page is not empty
 pages-filled : (ps : List ℕ) → (first ps ≡ 0 → ⊥) → filled (leaf ps) ≡ true
@@ -109,17 +111,17 @@ module _ (w : Given) (bytesOf : ℕ → List ℕ) (reads : Reads w bytesOf) (map
 
     inner-hangs : (r : Returned w bytesOf (marksIn map₁) (length map) path₁ (left - 1) pages (entered (w .nodes) (w .block .nodes) x) (pastChild f byte next) fs map′ left′)
         → getD (w .nodes) (stateAt (w .block .nodes) x) 0 ≡ innerState → suc k < w .rows .bytes
-        → Hangs w bytesOf k (take k path) f x byte (innerP x (bucket (r .below .chain) (r .below .later)))
-    unfolding filled pagesIn entered
+        → Hangs w bytesOf k (take k path) f x byte (innerP x (r .below))
+    unfolding filled pagesIn
     inner-hangs r e l =
-        let c = r .covers in
+        let c = r .covers (placed-enter (w .block .nodes) (w .block .pages) (w .block .base) (w .nodes) (w .pages) x) in
         record {
           place = refl;
-          held = inner-held w bytesOf (suc k) (take (suc k) path₁) x (r .below) e c;
-          sound = inner-sound w bytesOf (suc k) (take (suc k) path₁) x (r .below) (at .here .inside) c;
+          held = inner-held w bytesOf (suc k) (take (suc k) path₁) x (r .below) c e;
+          sound = inner-sound w bytesOf (suc k) (take (suc k) path₁) x (r .below) c (at .here .inside);
           full = refl;
           walked = subst (λ ys. soundWalk bytesOf (w .rows .bits) (w .rows .length) (w .rows .bytes) (suc k) ys (inner (childrenOf (r .below))) ≡ true) same-path
-              (inner-walked w bytesOf (suc k) (take (suc k) path₁) x (r .below) l c);
+              (inner-walked w bytesOf (suc k) (take (suc k) path₁) x (r .below) c l);
           live = c .live;
         }
 
@@ -133,8 +135,8 @@ module _ (w : Given) (bytesOf : ℕ → List ℕ) (reads : Reads w bytesOf) (map
         let c = ih map₁ path₁ (left - 1) pages f₁ (pastChild f byte next ∷ fs) (omega (arith, mark .long)) (omega arith) (omega arith) h in
         let r = return w bytesOf (marksIn map₁) (length map) path₁ (left - 1) pages f₁ (pastChild f byte next) fs map′ left′
         (subst (λ s. Completes w bytesOf (marksIn map₁) s path₁ (left - 1) pages f₁ (pastChild f byte next ∷ fs) map′ left′) (mark .long) c) in
-        complete-child w bytesOf (marksIn map) (length map) path left pages f x byte next (innerP x (bucket (r .below .chain) (r .below .later)))
-        (λ n. marksIn map₁ n + usesOf (r .below) (w .window .from + n)) (r .leftAfter) (r .pagesAfter) fs map′ left′
+        complete-child w bytesOf (marksIn map) (length map) path left pages f x byte next (innerP x (r .below))
+        (λ n. marksIn map₁ n + usesAmong (r .below) (w .window .from + n)) (r .leftAfter) (r .pagesAfter) fs map′ left′
         at (inner-hangs r (kind-inner (w .nodes) (w .pages) (w .block .nodes) x e) (omega arith))
         (omega (arith, r .nodesBelow)) (r .pagesBelow) (λ n b. omega (arith, mark .marks n b)) (r .onward)
 
@@ -275,24 +277,25 @@ module _ (w : Given) (bytesOf : ℕ → List ℕ) (reads : Reads w bytesOf) (map
         let c = run-right fuel map₁ path (left - 1) total (entered (w .nodes) (w .block .nodes) at) [] (omega (arith, mark .long)) deep long h in
         go (c .above) (c .covered) (c .here) (c .covers) (c .nodesLeft) (c .pagesLeft) (c .long) (c .marks)
       where
-        go : (rs : List Rest) → Above w bytesOf [] path rs → (r : Rest) → Covers w bytesOf 0 (take 0 path) (entered (w .nodes) (w .block .nodes) at) r
+        go : (rs : List Kids) → Above w bytesOf [] path rs → (r : Kids) → Covered w bytesOf 0 (take 0 path) (entered (w .nodes) (w .block .nodes) at) r
             → left′ + (nodesIn (childrenOf r) + nodesAll rs) ≡ left - 1 → length (pagesAmong (childrenOf r)) + pagesAll rs ≡ total → length map′ ≡ length map₁
-            → ((n : ℕ) → n < w .window .size → one (flag map′ 0 n) ≡ marksIn map₁ n + (usesOf r (w .window .from + n) + usesAll rs (w .window .from + n)))
+            → ((n : ℕ) → n < w .window .size → one (flag map′ 0 n) ≡ marksIn map₁ n + (usesAmong r (w .window .from + n) + usesAll rs (w .window .from + n)))
             → Answer
         go (r′ ∷ rs) a r c u v l m = absurd a
-        go [] a r c u v l m = (
-          innerP at (bucket (r .chain) (r .later)),
-          record {
-            place = refl;
-            sound = inner-sound w bytesOf 0 [] at r inside c;
-            holds = inner-held w bytesOf 0 [] at r (kind-inner (w .nodes) (w .pages) (w .block .nodes) at e) c;
-            walked = inner-walked w bytesOf 0 [] at r deep c;
-            live = c .live;
-            pages = omega arith;
-          },
-          record { long = l ∙ mark .long; marks = λ n b. omega (arith, m n b, mark .marks n b) },
-          omega arith,
-        )
+        go [] a r c′ u v l m =
+            let c = c′ (placed-enter (w .block .nodes) (w .block .pages) (w .block .base) (w .nodes) (w .pages) at) in (
+              innerP at r,
+              record {
+                place = refl;
+                sound = inner-sound w bytesOf 0 [] at r c inside;
+                holds = inner-held w bytesOf 0 [] at r c (kind-inner (w .nodes) (w .pages) (w .block .nodes) at e);
+                walked = inner-walked w bytesOf 0 [] at r c deep;
+                live = c .live;
+                pages = omega arith;
+              },
+              record { long = l ∙ mark .long; marks = λ n b. omega (arith, m n b, mark .marks n b) },
+              omega arith,
+            )
 
     kind-root : (c : Kind) → kindOf (w .nodes) (w .block .nodes) at ≡ c → w .rows .bytes ≤ 64 → 0 < w .rows .bytes
         → testKind w at map₁ (left - 1) total c ≡ good → Answer

@@ -10,7 +10,7 @@ use borrow.Author.Tests.{ltb-true}
 use Rattle.meaning.specs.Lists.{all}
 use Rattle.meaning.specs.Sketch.{packable}
 use Rattle.meaning.specs.Trie.{Children, child, nodes, nodesIn, pagesIn, pagesAmong}
-use Rattle.children.specs.Phys.{Phys, leafP, innerP, Buckets, end, bucket, Chain, stop, link, tree, childrenB, childrenC}
+use Rattle.children.specs.Phys.{Phys, Kids, leafP, innerP, noKid, kid, tree, childrenOf}
 use Rattle.trie_laws.specs.Sound.{filled}
 use Rattle.trie_laws.specs.Path.{follows}
 use Rattle.trie_laws.specs.Walk.{soundWalk, walkFrom}
@@ -20,59 +20,42 @@ use Rattle.meaning.proofs.Lists.{all-append, and-first, and-second}
 abbrev mutual
   pub size : Phys → ℕ
   size (leafP n ps) = 1
-  size (innerP n bs) = 1 + sizeB bs
+  size (innerP n ks) = 1 + sizeAmong ks
 
-  pub sizeB : Buckets → ℕ
-  sizeB end = 0
-  sizeB (bucket ch bs) = sizeC ch + sizeB bs
-
-  pub sizeC : Chain → ℕ
-  sizeC stop = 0
-  sizeC (link c t ch) = size t + sizeC ch
+  pub sizeAmong : Kids → ℕ
+  sizeAmong noKid = 0
+  sizeAmong (kid c t ks) = size t + sizeAmong ks
 
 abbrev mutual
   pub load : Phys → ℕ
   load (leafP n ps) = length ps
-  load (innerP n bs) = loadB bs
+  load (innerP n ks) = loadAmong ks
 
-  pub loadB : Buckets → ℕ
-  loadB end = 0
-  loadB (bucket ch bs) = loadC ch + loadB bs
-
-  pub loadC : Chain → ℕ
-  loadC stop = 0
-  loadC (link c t ch) = load t + loadC ch
+  pub loadAmong : Kids → ℕ
+  loadAmong noKid = 0
+  loadAmong (kid c t ks) = load t + loadAmong ks
 
 mutual
   unfolding nodes nodesIn
 
   pub size-nodes : (t : Phys) → size t ≡ nodes (tree t)
   size-nodes (leafP n ps) = refl
-  size-nodes (innerP n bs) = omega (arith, size-children bs)
+  size-nodes (innerP n ks) = omega (arith, size-children ks)
 
-  size-children : (bs : Buckets) → sizeB bs ≡ nodesIn (childrenB bs)
-  size-children end = refl
-  size-children (bucket ch bs) = omega (arith, size-chain ch (childrenB bs), size-children bs)
-
-  size-chain : (ch : Chain) (cs : Children) → sizeC ch + nodesIn cs ≡ nodesIn (childrenC ch cs)
-  size-chain stop cs = omega arith
-  size-chain (link c t ch) cs = omega (arith, size-nodes t, size-chain ch cs)
+  size-children : (ks : Kids) → sizeAmong ks ≡ nodesIn (childrenOf ks)
+  size-children noKid = refl
+  size-children (kid c t ks) = omega (arith, size-nodes t, size-children ks)
 
 mutual
   unfolding pagesIn pagesAmong
 
   pub load-pages : (t : Phys) → load t ≡ length (pagesIn (tree t))
   load-pages (leafP n ps) = refl
-  load-pages (innerP n bs) = load-children bs
+  load-pages (innerP n ks) = load-children ks
 
-  load-children : (bs : Buckets) → loadB bs ≡ length (pagesAmong (childrenB bs))
-  load-children end = refl
-  load-children (bucket ch bs) = omega (arith, load-chain ch (childrenB bs), load-children bs)
-
-  load-chain : (ch : Chain) (cs : Children) → loadC ch + length (pagesAmong cs) ≡ length (pagesAmong (childrenC ch cs))
-  load-chain stop cs = omega arith
-  load-chain (link c t ch) cs =
-      omega (arith, load-pages t, load-chain ch cs, length-append (pagesIn (tree t)) (pagesAmong (childrenC ch cs)))
+  load-children : (ks : Kids) → loadAmong ks ≡ length (pagesAmong (childrenOf ks))
+  load-children noKid = refl
+  load-children (kid c t ks) = omega (arith, load-pages t, load-children ks, length-append (pagesIn (tree t)) (pagesAmong (childrenOf ks)))
 
 -- ---- order
 module _ (bytesOf : ℕ → List ℕ) (live : ℕ → Bool) (b n len : ℕ) where
@@ -80,17 +63,13 @@ module _ (bytesOf : ℕ → List ℕ) (live : ℕ → Bool) (b n len : ℕ) wher
   abbrev mutual
     pub Fit : Phys → List ℕ → Type 0
     Fit (leafP x ps) ys = (all (follows bytesOf 0 ys) ps ≡ true) × (all live ps ≡ true)
-    Fit (innerP x bs) ys = (length ys < len) × FitB bs ys
+    Fit (innerP x ks) ys = (length ys < len) × FitAmong ks ys
 
-    pub FitB : Buckets → List ℕ → Type 0
-    FitB end ys = Unit {0}
-    FitB (bucket ch bs) ys = FitC ch ys × FitB bs ys
+    pub FitAmong : Kids → List ℕ → Type 0
+    FitAmong noKid ys = Unit {0}
+    FitAmong (kid c t ks) ys = (packable b n (length ys) c ≡ true) × (filled (tree t) ≡ true) × Fit t (ys ++ c ∷ []) × FitAmong ks ys
 
-    pub FitC : Chain → List ℕ → Type 0
-    FitC stop ys = Unit {0}
-    FitC (link c t ch) ys = (packable b n (length ys) c ≡ true) × (filled (tree t) ≡ true) × Fit t (ys ++ c ∷ []) × FitC ch ys
-
-  -- what is left of the children after a chain
+  -- the children from some byte on
   record Rest (cs : Children) (ys : List ℕ) : Type 0 where
     lo : ℕ
     walked : walkFrom bytesOf b n len (length ys) ys lo cs ≡ true
@@ -127,19 +106,14 @@ module _ (bytesOf : ℕ → List ℕ) (live : ℕ → Bool) (b n len : ℕ) wher
 
     pub fit : (t : Phys) (ys : List ℕ) → soundWalk bytesOf b n len (length ys) ys (tree t) ≡ true → all live (pagesIn (tree t)) ≡ true → Fit t ys
     fit (leafP x ps) ys h a = (h, a)
-    fit (innerP x bs) ys h a =
-        let on : Bool = walkFrom bytesOf b n len (length ys) ys 0 (childrenB bs) in (
+    fit (innerP x ks) ys h a =
+        let on : Bool = walkFrom bytesOf b n len (length ys) ys 0 (childrenOf ks) in (
           ltb-true (length ys) len (and-first (ltb (length ys) len) on h),
-          fit-children bs ys (record { lo = 0; walked = and-second (ltb (length ys) len) on h; alive = a }),
+          fit-children ks ys (record { lo = 0; walked = and-second (ltb (length ys) len) on h; alive = a }),
         )
 
-    fit-children : (bs : Buckets) (ys : List ℕ) → Rest (childrenB bs) ys → FitB bs ys
-    fit-children end ys r = tt
-    fit-children (bucket ch bs) ys r = let q = fit-chain ch (childrenB bs) ys r in (q .0, fit-children bs ys (q .1))
-
-    fit-chain : (ch : Chain) (cs : Children) (ys : List ℕ) → Rest (childrenC ch cs) ys → FitC ch ys × Rest cs ys
-    fit-chain stop cs ys r = (tt, r)
-    fit-chain (link c t ch) cs ys r =
-        let d : Child c t (childrenC ch cs) ys = child-tests c t (childrenC ch cs) ys r in
-        let q = fit-chain ch cs ys (d .rest) in
-        ((d .packs, d .full, fit t (ys ++ c ∷ []) (d .sound) (d .alive), q .0), q .1)
+    fit-children : (ks : Kids) (ys : List ℕ) → Rest (childrenOf ks) ys → FitAmong ks ys
+    fit-children noKid ys r = tt
+    fit-children (kid c t ks) ys r =
+        let d : Child c t (childrenOf ks) ys = child-tests c t (childrenOf ks) ys r in
+        (d .packs, d .full, fit t (ys ++ c ∷ []) (d .sound) (d .alive), fit-children ks ys (d .rest))

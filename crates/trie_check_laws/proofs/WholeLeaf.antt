@@ -17,7 +17,7 @@ use Rattle.layout.proofs.States.{kind-state}
 use Rattle.layout.specs.Pages.{isLive}
 use Rattle.blocks.specs.declared.Rows.{Rows}
 use Rattle.children.specs.Heap.{Holds}
-use Rattle.children.specs.Phys.{leafP, innerP, Buckets, first, pageCells, cells, Below}
+use Rattle.children.specs.Phys.{Kids, leafP, innerP, first, pageCells, cells, Below}
 use Rattle.blocks.specs.Packed.{pageByte, levelAt}
 use Rattle.trie_laws.specs.Path.{follows}
 use Rattle.children.proofs.Bare.{held-bare}
@@ -32,9 +32,9 @@ module _ (N P : List ℕ) (cap base x : ℕ) where
   unfolding kindOf
   leaf-kind ps h = rw (kind-state N cap x (kind.Leaf (first ps)) (h .0), held-bare N P cap x (h .1 .0)) refl
 
-  pub inner-kind : (bs : Buckets) → Holds (cells cap base (innerP x bs)) N P → kindOf N cap x ≡ Inner
+  pub inner-kind : (ks : Kids) → Holds (cells cap base (innerP x ks)) N P → kindOf N cap x ≡ Inner
   unfolding kindOf
-  inner-kind bs h = rw (kind-state N cap x kind.Inner (h .0)) refl
+  inner-kind ks h = rw (kind-state N cap x kind.Inner (h .0)) refl
 
 -- ---- the path
 -- an array that begins with the bytes ys

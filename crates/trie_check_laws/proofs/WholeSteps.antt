@@ -5,11 +5,9 @@ use mathlib.Core.Path.{_≡_, refl, ap, _∙_}
 use mathlib.Core.Bool.{true}
 use mathlib.Core.List.{List, [], _∷_}
 use lib.Dec.{eqb}
-use lib.ListN.{length, getD, set}
+use lib.ListN.{length, set}
 use borrow.Author.Tests.{ne-eqb}
-use Rattle.children.proofs.StepWords as words
 use Rattle.meaning.specs.Sketch.{packable}
-use Rattle.layout.specs.Nodes.{chainWord, headAt, linkBase}
 use Rattle.children.specs.declared.order.Frame.{Frame}
 use Rattle.children.specs.declared.order.Step.{Step}
 use Rattle.children.specs.declared.order.Step.the-variants as step
@@ -17,7 +15,7 @@ use Rattle.node_check.specs.declared.leaf.Kind.{Kind}
 use Rattle.trie_visit.specs.declared.Move.the-variants as move
 use Rattle.node_check.specs.Mark.{noted, markOnce}
 use Rattle.node_check.specs.Leaf.{kindOf}
-use Rattle.children.specs.Order.{entered, pastChild, nextChain}
+use Rattle.children.specs.Order.{entered, pastChild, nextChain, nextChild}
 use Rattle.node_check.specs.Frame.{stepIn}
 use Rattle.trie_visit.specs.Visit.{Given, Visited, visited, childMove, onMark, visitChild, onChild, visitStep, visit}
 use Rattle.trie_check.specs.Trie.{State, state, Tested, tested, leftIf, follow, run}
@@ -105,19 +103,16 @@ module _ (w : Given) (f : ℕ) (some : 0 < f) (map path : List ℕ) (left pages 
         (state map′ path′ (left - 1) pages (entered (w .nodes) (w .block .nodes) x) (pastChild frame byte link ∷ stack))
         (run-by stack (step.Child x byte link) e (visited map′ path′ (move.Down x byte link)) (visited-child ∙ ap (visited map′ path′) m))
 
--- ---- where the tables lead
+-- ---- a step of a node's children, in a node at level k
 module _ (N : List ℕ) (cap b n k : ℕ) (frame : Frame) where
-  -- to node x of byte c, which is followed by l
-  pub to-child : (x c l : ℕ) → frame .link ≡ x + 1 → x < cap → getD N x 0 ≡ chainWord c l → l < linkBase → frame .least ≤ c → c < 32 * frame .group + 32
-      → packable b n k c ≡ true → stepIn N cap b n k frame ≡ step.Child x c l
+  pub to-child : (x c l : ℕ) → nextChild N cap frame ≡ step.Child x c l → packable b n k c ≡ true → stepIn N cap b n k frame ≡ step.Child x c l
   unfolding stepIn
-  to-child x c l e i h m lo hi p = rw (words.to-child N cap frame x c l e i h m lo hi, p) refl
+  to-child x c l e p = rw (e, p) refl
 
-  -- to the next chain, or up
-  pub to-chain : frame .link ≡ 0 → frame .group < 7 → stepIn N cap b n k frame ≡ step.Chain (getD N (headAt cap (frame .node) (frame .group + 1)) 0)
+  pub to-chain : (l : ℕ) → nextChild N cap frame ≡ step.Chain l → stepIn N cap b n k frame ≡ step.Chain l
   unfolding stepIn
-  to-chain e l = rw (words.to-chain N cap frame e l) refl
+  to-chain l e = rw e refl
 
-  pub to-up : frame .link ≡ 0 → 7 ≤ frame .group → stepIn N cap b n k frame ≡ step.Up
+  pub to-up : nextChild N cap frame ≡ step.Up → stepIn N cap b n k frame ≡ step.Up
   unfolding stepIn
-  to-up e l = rw (words.to-up N cap frame e l) refl
+  to-up e = rw e refl

@@ -1,5 +1,5 @@
 -- On tables that hold a sound trie the test says yes, and marks each of its nodes.
-use Prim.Native.Nat.{ℕ, suc, _+_, _-_, _*_, _≤_, _<_}
+use Prim.Native.Nat.{ℕ, zero, suc, _+_, _-_, _*_, _≤_, _<_}
 use native.Mathlib.Omega.{arith}
 use native.Mathlib.Numerals.{add-one}
 use mathlib.Core.Path.{_≡_, refl, sym, ap, ap₂, _∙_}
@@ -10,12 +10,12 @@ use lib.ListN.{length, getD, set, replicate, length-append}
 use borrow.Author.Tests.{ne-eqb, lt-ltb}
 use Rattle.meaning.specs.Trie.{nodes}
 use Rattle.words.specs.Bits.{flag}
-use Rattle.layout.specs.Nodes.{chainAt, headAt, stepsFor, mostNodes, nodeSteps}
+use Rattle.layout.specs.Nodes.{stepsFor, mostNodes, nodeSteps}
 use Rattle.layout.specs.Pages.{isLive}
 use Rattle.children.specs.Heap.{Holds, hit}
-use Rattle.children.specs.Phys.{Phys, leafP, innerP, Buckets, end, bucket, Chain, stop, link, root, first, tree, cells, cellsB, cellsC, Below, SoundB, SoundC}
+use Rattle.children.specs.Phys.{Phys, Kids, leafP, innerP, noKid, kid, root, first, tree, cells, kidCells, Below, SoundK}
 use Rattle.children.specs.Phys.{Sound as SoundNodes}
-use Rattle.children.proofs.Chains.{linkC, slot-word, root-below, link-below, chains-left}
+use Rattle.children.proofs.AheadOrder.{groupsLeft, AheadF, enter-ahead, StepKid, toChain, toKid, step-kid, StepEnd, endChain, toUp, step-end as end-step}
 use Rattle.trie_laws.specs.Sound.{filled}
 use Rattle.children.specs.declared.order.Frame.{Frame}
 use Rattle.children.specs.declared.order.Step.the-variants as step
@@ -24,15 +24,15 @@ use Rattle.node_check.specs.declared.leaf.Kind.the-variants as kind
 use Rattle.node_check.specs.declared.leaf.Left.the-variants as budget
 use Rattle.node_check.specs.Mark.{Noted, noted, markOnce}
 use Rattle.node_check.specs.Leaf.{kindOf}
-use Rattle.children.specs.Order.{entered, pastChild, nextChain}
+use Rattle.children.specs.Order.{entered, pastChild, nextChain, nextChild}
 use Rattle.trie_visit.specs.Visit.{Given, Fitting, leafLeft, pastLeaf}
 use Rattle.trie_check.specs.Trie.{State, state, Tested, tested, leftIf, leftLeaf, run, testBelow, testKind, testTrie}
-use Rattle.trie_check_laws.specs.Uses.{uses, usesB, usesC}
+use Rattle.trie_check_laws.specs.Uses.{uses, usesAmong}
 use Rattle.trie_check_laws.specs.Found.{Reads, Found, Marked, one}
 use Rattle.trie_check_laws.proofs.WholeMarks.{Clear, Counted, counted-none, counted-then, clear-first, clear-then, Fresh, mark-once}
 use Rattle.trie_check_laws.proofs.WholeLeaf.{leaf-kind, inner-kind, Leads, leads-none, leads-more, leads-less, on-path, leaf-tested}
 use Rattle.trie_check_laws.proofs.WholeSteps.{Ran, ran-none, ran-then, ran-within, ran-to, stepAt, step-chain, step-up, step-end, step-past, step-down, to-child, to-chain, to-up}
-use Rattle.trie_check_laws.proofs.WholeFit.{size, sizeB, sizeC, load, loadB, loadC, size-nodes, load-pages, Fit, FitB, FitC, fit}
+use Rattle.trie_check_laws.proofs.WholeFit.{size, sizeAmong, load, loadAmong, size-nodes, load-pages, Fit, FitAmong, fit}
 
 -- ---- from one end of a part to the other
 
@@ -115,24 +115,11 @@ module _ (w : Given) where
     ran = ran-within w f s (behind f s ys u n m frame c r) c d l (r .ran);
   }
 
-  -- the end of a chain, and of all chains of a node
-  record Past (f : ℕ) (s : State) (ys : List ℕ) (u : ℕ → ℕ) (n m cost : ℕ) : Type 0 where
-    done : Frame
-    node : done .node ≡ s .frame .node
-    group : done .group ≡ s .frame .group
-    empty : done .link ≡ 0
-    went : Went w f s ys u n m done cost
-
+  -- the end of the children of a node
   record Under (f : ℕ) (s : State) (ys : List ℕ) (u : ℕ → ℕ) (n m cost : ℕ) : Type 0 where
     done : Frame
-    empty : done .link ≡ 0
-    last : 7 ≤ done .group
+    up : nextChild (w .nodes) (w .block .nodes) done ≡ step.Up
     went : Went w f s ys u n m done cost
-
-  -- a frame that stands at the chains of node x from g on
-  abbrev From : Buckets → ℕ → ℕ → Frame → Type 0
-  From end x g frame = (frame .link ≡ 0) × (7 ≤ frame .group)
-  From (bucket ch bs) x g frame = (frame .node ≡ x) × (frame .group ≡ g) × (frame .link ≡ linkC ch) × (frame .least ≤ 32 * g)
 
 module _ (w : Given) (bytesOf : ℕ → List ℕ) (small : w .block .nodes ≤ mostNodes) (short : w .rows .bytes ≤ 64) (reads : Reads w bytesOf) where
   abbrev N : List ℕ
@@ -156,14 +143,11 @@ module _ (w : Given) (bytesOf : ℕ → List ℕ) (small : w .block .nodes ≤ m
   abbrev FitsT : Phys → List ℕ → Type 0
   FitsT = Fit bytesOf (isLive P) (w .rows .bits) (w .rows .length) len
 
-  abbrev FitsB : Buckets → List ℕ → Type 0
-  FitsB = FitB bytesOf (isLive P) (w .rows .bits) (w .rows .length) len
+  abbrev FitsAmong : Kids → List ℕ → Type 0
+  FitsAmong = FitAmong bytesOf (isLive P) (w .rows .bits) (w .rows .length) len
 
-  abbrev FitsC : Chain → List ℕ → Type 0
-  FitsC = FitC bytesOf (isLive P) (w .rows .bits) (w .rows .length) len
-
-  head-link : (ch : Chain) (x g : ℕ) → Holds (cellsC cap base ch (headAt cap x g) 0) N P → getD N (headAt cap x g) 0 ≡ linkC ch
-  head-link ch x g h = omega (arith, slot-word cap base N P ch (headAt cap x g) 0 h)
+  abbrev AheadIn : Frame → Kids → Type 0
+  AheadIn = AheadF cap pcap base N P
 
   -- ---- a leaf with a page
   leaf-through : (x p : ℕ) (ps ys : List ℕ) (c l : ℕ) → Holds (cells cap base (leafP x (p ∷ ps))) N P → Below pcap (p ∷ ps)
@@ -190,91 +174,129 @@ module _ (w : Given) (bytesOf : ℕ → List ℕ) (small : w .block .nodes ≤ m
             (rw (ne-eqb (p + 1) 0 (omega arith)) (ap (pastLeaf c l) left));
       }
 
-  -- ---- from chain g, which is exhausted, to the next
-  record Onward (f : ℕ) (s : State) (bs : Buckets) (x g : ℕ) : Type 0 where
-    next : Frame
-    from : From w bs x g next
-    ran : Ran w f s (state (s .map) (s .path) (s .left) (s .pages) next (s .stack)) 1
+  -- ---- to the next child, over the chains before it
+  abbrev at : State → Frame → State
+  at s frame = state (s .map) (s .path) (s .left) (s .pages) frame (s .stack)
 
-  onward : (bs : Buckets) (x g : ℕ) → Holds (cellsB cap base bs x (suc g)) N P → SoundB cap pcap bs (suc g)
-      → (f : ℕ) (s : State) → 0 < f → s .frame .node ≡ x → s .frame .group ≡ g → s .frame .link ≡ 0 → Onward f s bs x (suc g)
-  onward end x g h b f s n a d e = record { next = s .frame; from = (e, omega arith); ran = ran-within w f s s 0 1 (omega arith) (ran-none w f s) }
-  onward (bucket ch bs) x g h b f s n a d e =
-      let top : g < 7 = omega (arith, chains-left cap pcap bs (suc (suc g)) (b .1)) in
-      let l : ℕ = getD N (headAt cap (s .frame .node) (s .frame .group + 1)) 0 in
-      let there : l ≡ linkC ch = rw (a, d, add-one g) (head-link ch x (suc g) (h .0)) in
+  chain-on : (f : ℕ) (s : State) (l : ℕ) → 0 < f → nextChild N cap (s .frame) ≡ step.Chain l → Ran w f s (at s (nextChain (s .frame) l)) 1
+  chain-on f s l n e =
+      step-chain w f n (s .map) (s .path) (s .left) (s .pages) (s .frame) (s .stack) l (to-chain N cap (w .rows .bits) (w .rows .length) (length (s .stack)) (s .frame) l e)
+
+  record Reached (f : ℕ) (s : State) (c : ℕ) (t : Phys) (ks : Kids) : Type 0 where
+    frame : Frame
+    link : ℕ
+    cost : ℕ
+    spent : cost + groupsLeft frame ≡ groupsLeft (s .frame)
+    leads : nextChild N cap frame ≡ step.Child (root t) c link
+    held : Holds (cells cap base t) N P
+    sound : SoundNodes cap pcap t
+    ahead : AheadIn (pastChild frame c link) ks
+    ran : Ran w f s (at s frame) cost
+
+  -- by one step
+  reach-by : (f : ℕ) (s : State) (c : ℕ) (t : Phys) (ks : Kids) → StepKid cap pcap base N P (s .frame) c t ks →
+      ((l : ℕ) → s .frame .group < 7 → nextChild N cap (s .frame) ≡ step.Chain l → AheadIn (nextChain (s .frame) l) (kid c t ks) → Reached f s c t ks) → Reached f s c t ks
+  reach-by f s c t ks (toChain l m e a) more = more l m e a
+  reach-by f s c t ks (toKid l e h b a) more =
+      record { frame = s .frame; link = l; cost = 0; spent = omega arith; leads = e; held = h; sound = b; ahead = a; ran = ran-none w f s }
+
+  reach-on : (f : ℕ) (s s1 : State) (c : ℕ) (t : Phys) (ks : Kids) (l : ℕ) → s .frame .group < 7 → (r : Ran w f s (at s (nextChain (s .frame) l)) 1) →
+      Reached (r .rest) (at s (nextChain (s .frame) l)) c t ks → Reached f s c t ks
+  reach-on f s s1 c t ks l m r a =
       record {
-        next = nextChain (s .frame) l;
-        from = (a, omega arith, there, omega arith);
-        ran = step-chain w f n (s .map) (s .path) (s .left) (s .pages) (s .frame) (s .stack) l
-            (to-chain N cap (w .rows .bits) (w .rows .length) (length (s .stack)) (s .frame) e (omega arith));
+        frame = a .frame;
+        link = a .link;
+        cost = 1 + a .cost;
+        spent = omega (arith, a .spent);
+        leads = a .leads;
+        held = a .held;
+        sound = a .sound;
+        ahead = a .ahead;
+        ran = ran-then w f s (at s (nextChain (s .frame) l)) (at s (a .frame)) 1 (a .cost) r (a .ran);
       }
+
+  reach : (n f : ℕ) (s : State) (c : ℕ) (t : Phys) (ks : Kids) → groupsLeft (s .frame) ≡ n → n ≤ f → AheadIn (s .frame) (kid c t ks) → Reached f s c t ks
+  reach zero f s c t ks e l a = reach-by f s c t ks (step-kid cap pcap base N P (s .frame) c t ks small a) (λ n m q b. absurd (omega arith))
+  reach (suc n) f s c t ks e l a =
+      reach-by f s c t ks (step-kid cap pcap base N P (s .frame) c t ks small a)
+      (λ k m q b. let r = chain-on f s k (omega arith) q in reach-on f s s c t ks k m r (reach n (r .rest) (at s (nextChain (s .frame) k)) c t ks (omega arith) (omega (arith, r .enough)) b))
+
+  -- where no child is left, to the end
+  record Ended (f : ℕ) (s : State) : Type 0 where
+    frame : Frame
+    up : nextChild N cap frame ≡ step.Up
+    ran : Ran w f s (at s frame) (groupsLeft (s .frame))
+
+  end-by : (f : ℕ) (s : State) → StepEnd cap pcap base N P (s .frame) →
+      ((l : ℕ) → s .frame .group < 7 → nextChild N cap (s .frame) ≡ step.Chain l → AheadIn (nextChain (s .frame) l) noKid → Ended f s) → Ended f s
+  end-by f s (endChain l m e a) more = more l m e a
+  end-by f s (toUp e) more = record { frame = s .frame; up = e; ran = ran-within w f s s 0 (groupsLeft (s .frame)) (omega arith) (ran-none w f s) }
+
+  end-on : (f : ℕ) (s : State) (l : ℕ) → s .frame .group < 7 → (r : Ran w f s (at s (nextChain (s .frame) l)) 1) → Ended (r .rest) (at s (nextChain (s .frame) l)) → Ended f s
+  end-on f s l m r a =
+      let left : ℕ = groupsLeft (nextChain (s .frame) l) in
+      record {
+        frame = a .frame;
+        up = a .up;
+        ran = ran-within w f s (at s (a .frame)) (1 + left) (groupsLeft (s .frame)) (omega arith)
+            (ran-then w f s (at s (nextChain (s .frame) l)) (at s (a .frame)) 1 left r (a .ran));
+      }
+
+  to-end : (n f : ℕ) (s : State) → groupsLeft (s .frame) ≡ n → n ≤ f → AheadIn (s .frame) noKid → Ended f s
+  to-end zero f s e l a = end-by f s (end-step cap pcap base N P (s .frame) a) (λ n m q b. absurd (omega arith))
+  to-end (suc n) f s e l a =
+      end-by f s (end-step cap pcap base N P (s .frame) a)
+      (λ k m q b. let r = chain-on f s k (omega arith) q in end-on f s k m r (to-end n (r .rest) (at s (nextChain (s .frame) k)) (omega arith) (omega (arith, r .enough)) b))
 
   -- ---- what is gone through
-  abbrev Through : Chain → List ℕ → ℕ → ℕ → Type 0
-  Through ch ys lo hi =
-      (f : ℕ) (s : State) → s .frame .link ≡ linkC ch → s .frame .least ≤ lo → 32 * s .frame .group + 32 ≡ hi
-      → Ready w s ys (λ a. usesC ch a) (sizeC ch) (loadC ch) → nodeSteps * sizeC ch ≤ f
-      → Past w f s ys (λ a. usesC ch a) (sizeC ch) (loadC ch) (nodeSteps * sizeC ch)
+  abbrev Through : Kids → List ℕ → Type 0
+  Through ks ys =
+      (f : ℕ) (s : State) → AheadIn (s .frame) ks → Ready w s ys (λ a. usesAmong ks a) (sizeAmong ks) (loadAmong ks) → nodeSteps * sizeAmong ks + groupsLeft (s .frame) ≤ f
+      → Under w f s ys (λ a. usesAmong ks a) (sizeAmong ks) (loadAmong ks) (nodeSteps * sizeAmong ks + groupsLeft (s .frame))
 
-  abbrev ThroughAll : Buckets → ℕ → ℕ → List ℕ → Type 0
-  ThroughAll bs x g ys =
-      (f : ℕ) (s : State) → From w bs x g (s .frame) → Ready w s ys (λ a. usesB bs a) (sizeB bs) (loadB bs) → nodeSteps * sizeB bs + 8 ≤ f + g
-      → Under w f s ys (λ a. usesB bs a) (sizeB bs) (loadB bs) (nodeSteps * sizeB bs + (8 - g))
-
-  -- one chain, then the next ones
-  then-under : (ch : Chain) (bs : Buckets) (x g : ℕ) (ys : List ℕ) → Holds (cellsB cap base bs x (suc g)) N P → SoundB cap pcap bs (suc g)
-      → Through ch ys (32 * g) (32 * g + 32) → ThroughAll bs x (suc g) ys → ThroughAll (bucket ch bs) x g ys
-  then-under ch bs x g ys h b through others f s from r c =
-      let low : g < 8 = omega (arith, chains-left cap pcap bs (suc g) b) in
-      let u : ℕ → ℕ = λ a. usesC ch a in
-      let v : ℕ → ℕ = λ a. usesB bs a in
-      let past = through f s (from .2) (from .3) (ap (λ n. 32 * n + 32) (from .1))
-      (ready-first w s ys u v (sizeC ch) (sizeB bs) (loadC ch) (loadB bs) r) (omega arith) in
-      let s1 : State = behind w f s ys u (sizeC ch) (loadC ch) (past .done) (nodeSteps * sizeC ch) (past .went) in
-      let next = onward bs x g h b (past .went .ran .rest) s1 (omega (arith, past .went .ran .enough)) (past .node ∙ from .0) (past .group ∙ from .1) (past .empty) in
-      let s2 : State = state (s1 .map) (s1 .path) (s1 .left) (s1 .pages) (next .next) (s1 .stack) in
-      let went : Went w f s ys u (sizeC ch) (loadC ch) (next .next) (nodeSteps * sizeC ch + 1) = record {
-        map = past .went .map;
-        path = past .went .path;
-        counted = past .went .counted;
-        leads = past .went .leads;
-        ran = ran-then w f s s1 s2 (nodeSteps * sizeC ch) 1 (past .went .ran) (next .ran);
-      } in
-      let under = others (went .ran .rest) s2 (next .from)
-      (ready-then w f s ys u v (sizeC ch) (sizeB bs) (loadC ch) (loadB bs) (next .next) (nodeSteps * sizeC ch + 1) r went)
-      (omega (arith, went .ran .enough)) in
+  none-through : (ys : List ℕ) → Through noKid ys
+  none-through ys f s a r n =
+      let e = to-end (groupsLeft (s .frame)) f s refl (omega arith) a in
       record {
-        done = under .done;
-        empty = under .empty;
-        last = under .last;
-        went = went-within w f s ys (λ a. u a + v a) (sizeC ch + sizeB bs) (loadC ch + loadB bs) (under .done)
-            (nodeSteps * sizeC ch + 1 + (nodeSteps * sizeB bs + (8 - suc g))) (nodeSteps * (sizeC ch + sizeB bs) + (8 - g)) (omega arith)
-            (went-then w f s ys u v (sizeC ch) (sizeB bs) (loadC ch) (loadB bs) (next .next) (under .done) (nodeSteps * sizeC ch + 1)
-            (nodeSteps * sizeB bs + (8 - suc g)) went (under .went));
+        done = e .frame;
+        up = e .up;
+        went = record {
+          map = s .map;
+          path = s .path;
+          counted = counted-none (w .window) (s .map);
+          leads = r .leads;
+          ran = ran-to w f s (at s (e .frame)) (state (s .map) (s .path) (s .left - 0) (s .pages - 0) (e .frame) (s .stack)) (nodeSteps * 0 + groupsLeft (s .frame))
+              (ap₂ (λ a b. state (s .map) (s .path) a b (e .frame) (s .stack)) (omega arith) (omega arith))
+              (ran-within w f s (at s (e .frame)) (groupsLeft (s .frame)) (nodeSteps * 0 + groupsLeft (s .frame)) (omega arith) (e .ran));
+        };
       }
 
+  seven-left : (x : ℕ) → groupsLeft (entered N cap x) ≡ 7
+  unfolding entered
+  seven-left x = omega arith
+
   -- an inner child
-  inner-through : (x : ℕ) (bs : Buckets) (ys : List ℕ) (c l : ℕ) → Holds (cells cap base (innerP x bs)) N P → SoundB cap pcap bs 0
-      → FitsT (innerP x bs) (ys ++ c ∷ []) → length ys < len → From w bs x 0 (entered N cap x) → ThroughAll bs x 0 (ys ++ c ∷ [])
-      → (f : ℕ) (s : State) → stepAt w (s .frame) (s .stack) ≡ step.Child x c l → nodeSteps * size (innerP x bs) ≤ f
-      → Ready w s ys (λ a. uses (innerP x bs) a) (size (innerP x bs)) (load (innerP x bs))
-      → Went w f s ys (λ a. uses (innerP x bs) a) (size (innerP x bs)) (load (innerP x bs)) (pastChild (s .frame) c l) (nodeSteps * size (innerP x bs))
-  inner-through x bs ys c l h b u v from all-through f s e n r =
+  inner-through : (x : ℕ) (ks : Kids) (ys : List ℕ) (c l : ℕ) → Holds (cells cap base (innerP x ks)) N P → SoundK cap pcap ks 0
+      → FitsT (innerP x ks) (ys ++ c ∷ []) → length ys < len → AheadIn (entered N cap x) ks → Through ks (ys ++ c ∷ [])
+      → (f : ℕ) (s : State) → stepAt w (s .frame) (s .stack) ≡ step.Child x c l → nodeSteps * size (innerP x ks) ≤ f
+      → Ready w s ys (λ a. uses (innerP x ks) a) (size (innerP x ks)) (load (innerP x ks))
+      → Went w f s ys (λ a. uses (innerP x ks) a) (size (innerP x ks)) (load (innerP x ks)) (pastChild (s .frame) c l) (nodeSteps * size (innerP x ks))
+  inner-through x ks ys c l h b u v ahead through f s e n r =
       let k : ℕ = length (s .stack) in
+      let seven : groupsLeft (entered N cap x) ≡ 7 = seven-left x in
       let path′ : List ℕ = set (s .path) k c in
       let more : Leads path′ (ys ++ c ∷ []) =
       rw (r .level) (leads-more (s .path) ys c (omega arith) (r .leads)) in
       let hx : ℕ → ℕ = λ a. hit x a in
-      let ub : ℕ → ℕ = λ a. usesB bs a in
+      let ub : ℕ → ℕ = λ a. usesAmong ks a in
       let fresh : Fresh (w .window) (s .map) x = mark-once (w .window) (s .map) x (r .room) (clear-first (w .window) hx ub (s .map) (r .clear)) in
       let deep : k + 1 ≡ length (ys ++ c ∷ []) = omega (arith, r .level, length-append ys (c ∷ [])) in
       let back : Frame = pastChild (s .frame) c l in
       let s1 : State = state (fresh .after) path′ (s .left - 1) (s .pages) (entered N cap x) (back ∷ s .stack) in
       let down : Ran w f s s1 1 =
       step-down w f (omega arith) (s .map) (s .path) (s .left) (s .pages) (s .frame) (s .stack) x c l e (omega (arith, r .nodes)) (fresh .after) (fresh .same)
-      kind.Inner (inner-kind N P cap base x bs h) (rw (lt-ltb (k + 1) len (omega (arith, u .0)))) in
-      let ready : Ready w s1 (ys ++ c ∷ []) ub (sizeB bs) (loadB bs) = record {
+      kind.Inner (inner-kind N P cap base x ks h) (rw (lt-ltb (k + 1) len (omega (arith, u .0)))) in
+      let ready : Ready w s1 (ys ++ c ∷ []) ub (sizeAmong ks) (loadAmong ks) = record {
         level = omega (arith, deep);
         leads = more;
         room = omega (arith, r .room, fresh .counted .long);
@@ -282,55 +304,64 @@ module _ (w : Given) (bytesOf : ℕ → List ℕ) (small : w .block .nodes ≤ m
         nodes = omega (arith, r .nodes);
         pages = r .pages;
       } in
-      let under = all-through (down .rest) s1 from ready (omega (arith, down .enough)) in
+      let under = through (down .rest) s1 ahead ready (omega (arith, down .enough, seven)) in
       let went = under .went in
-      let s2 : State = behind w (down .rest) s1 (ys ++ c ∷ []) ub (sizeB bs) (loadB bs) (under .done) (nodeSteps * sizeB bs + (8 - 0)) went in
-      let less : s .left - 1 - sizeB bs ≡ s .left - (1 + sizeB bs) = omega arith in
+      let s2 : State = behind w (down .rest) s1 (ys ++ c ∷ []) ub (sizeAmong ks) (loadAmong ks) (under .done) (nodeSteps * sizeAmong ks + groupsLeft (entered N cap x)) went in
+      let less : s .left - 1 - sizeAmong ks ≡ s .left - (1 + sizeAmong ks) = omega arith in
       let s3 : State = state (s2 .map) (s2 .path) (s2 .left) (s2 .pages) back (s .stack) in
       let up : Ran w (went .ran .rest) s2 s3 1 =
       step-up w (went .ran .rest) (omega (arith, went .ran .enough, down .enough)) (s2 .map) (s2 .path) (s2 .left) (s2 .pages) (under .done) back (s .stack)
-      (to-up N cap (w .rows .bits) (w .rows .length) (length (back ∷ s .stack)) (under .done) (under .empty) (under .last)) in
+      (to-up N cap (w .rows .bits) (w .rows .length) (length (back ∷ s .stack)) (under .done) (under .up)) in
       record {
         map = went .map;
         path = went .path;
         counted = counted-then (w .window) hx ub (s .map) (fresh .after) (went .map) (fresh .counted) (went .counted);
         leads = leads-less (went .path) ys c (went .leads);
-        ran = ran-to w f s s3 (state (went .map) (went .path) (s .left - (1 + sizeB bs)) (s .pages - loadB bs) back (s .stack)) (nodeSteps * (1 + sizeB bs))
-            (ap (λ a. state (went .map) (went .path) a (s .pages - loadB bs) back (s .stack)) less)
-            (ran-within w f s s3 (1 + (nodeSteps * sizeB bs + (8 - 0) + 1)) (nodeSteps * (1 + sizeB bs)) (omega arith)
-            (ran-then w f s s1 s3 1 (nodeSteps * sizeB bs + (8 - 0) + 1) down
-            (ran-then w (down .rest) s1 s2 s3 (nodeSteps * sizeB bs + (8 - 0)) 1 (went .ran) up)));
+        ran = ran-to w f s s3 (state (went .map) (went .path) (s .left - (1 + sizeAmong ks)) (s .pages - loadAmong ks) back (s .stack)) (nodeSteps * (1 + sizeAmong ks))
+            (ap (λ a. state (went .map) (went .path) a (s .pages - loadAmong ks) back (s .stack)) less)
+            (ran-within w f s s3 (1 + (nodeSteps * sizeAmong ks + groupsLeft (entered N cap x) + 1)) (nodeSteps * (1 + sizeAmong ks)) (omega arith)
+            (ran-then w f s s1 s3 1 (nodeSteps * sizeAmong ks + groupsLeft (entered N cap x) + 1) down
+            (ran-then w (down .rest) s1 s2 s3 (nodeSteps * sizeAmong ks + groupsLeft (entered N cap x)) 1 (went .ran) up)));
       }
 
-  entered-from : (bs : Buckets) (x : ℕ) → Holds (cellsB cap base bs x 0) N P → SoundB cap pcap bs 0 → From w bs x 0 (entered N cap x)
-  unfolding entered
-  entered-from end x h b = absurd (omega (arith, b))
-  entered-from (bucket ch bs) x h b = (refl, refl, head-link ch x 0 (h .0), omega arith)
-
-  -- a child, and the rest of its chain
-  link-through : (t : Phys) (ch : Chain) (ys : List ℕ) (c hi : ℕ) → Through ch ys (suc c) hi
-      → (f : ℕ) (s : State) → 32 * s .frame .group + 32 ≡ hi
-      → Ready w s ys (λ a. usesC (link c t ch) a) (sizeC (link c t ch)) (loadC (link c t ch)) → nodeSteps * sizeC (link c t ch) ≤ f
-      → Went w f s ys (λ a. uses t a) (size t) (load t) (pastChild (s .frame) c (linkC ch)) (nodeSteps * size t)
-      → Past w f s ys (λ a. usesC (link c t ch) a) (sizeC (link c t ch)) (loadC (link c t ch)) (nodeSteps * sizeC (link c t ch))
-  link-through t ch ys c hi through f s g r n went =
-      let u : ℕ → ℕ = λ a. uses t a in
-      let v : ℕ → ℕ = λ a. usesC ch a in
-      let frame : Frame = pastChild (s .frame) c (linkC ch) in
-      let s1 : State = behind w f s ys u (size t) (load t) frame (nodeSteps * size t) went in
-      let past = through (went .ran .rest) s1 refl (omega arith) g
-      (ready-then w f s ys u v (size t) (sizeC ch) (load t) (loadC ch) frame (nodeSteps * size t) r went) (omega (arith, went .ran .enough)) in
+  -- a child, and those after it
+  kid-through : (t : Phys) (ks : Kids) (ys : List ℕ) (c : ℕ) → Through ks ys
+      → (f : ℕ) (s : State) → Ready w s ys (λ a. usesAmong (kid c t ks) a) (sizeAmong (kid c t ks)) (loadAmong (kid c t ks))
+      → nodeSteps * sizeAmong (kid c t ks) + groupsLeft (s .frame) ≤ f → (a : Reached f s c t ks)
+      → Went w f s ys (λ x. uses t x) (size t) (load t) (pastChild (a .frame) c (a .link)) (a .cost + nodeSteps * size t)
+      → Under w f s ys (λ x. usesAmong (kid c t ks) x) (sizeAmong (kid c t ks)) (loadAmong (kid c t ks)) (nodeSteps * sizeAmong (kid c t ks) + groupsLeft (s .frame))
+  kid-through t ks ys c through f s r n a went =
+      let u : ℕ → ℕ = λ x. uses t x in
+      let v : ℕ → ℕ = λ x. usesAmong ks x in
+      let frame : Frame = pastChild (a .frame) c (a .link) in
+      let cost : ℕ = a .cost + nodeSteps * size t in
+      let s1 : State = behind w f s ys u (size t) (load t) frame cost went in
+      let under = through (went .ran .rest) s1 (a .ahead)
+      (ready-then w f s ys u v (size t) (sizeAmong ks) (load t) (loadAmong ks) frame cost r went) (omega (arith, went .ran .enough, a .spent)) in
       record {
-        done = past .done;
-        node = past .node;
-        group = past .group;
-        empty = past .empty;
-        went = went-within w f s ys (λ a. u a + v a) (size t + sizeC ch) (load t + loadC ch) (past .done) (nodeSteps * size t + nodeSteps * sizeC ch) (nodeSteps * (size t + sizeC ch))
-            (omega arith)
-            (went-then w f s ys u v (size t) (sizeC ch) (load t) (loadC ch) frame (past .done) (nodeSteps * size t) (nodeSteps * sizeC ch) went (past .went));
+        done = under .done;
+        up = under .up;
+        went = went-within w f s ys (λ x. u x + v x) (size t + sizeAmong ks) (load t + loadAmong ks) (under .done) (cost + (nodeSteps * sizeAmong ks + groupsLeft frame))
+            (nodeSteps * (size t + sizeAmong ks) + groupsLeft (s .frame)) (omega (arith, a .spent))
+            (went-then w f s ys u v (size t) (sizeAmong ks) (load t) (loadAmong ks) frame (under .done) cost (nodeSteps * sizeAmong ks + groupsLeft frame) went (under .went));
       }
 
-  -- ---- trees, chains and all chains of a node
+  -- from where the next child was looked for
+  went-from : (f : ℕ) (s : State) (frame : Frame) (ys : List ℕ) (u : ℕ → ℕ) (n m : ℕ) (frame′ : Frame) (c d : ℕ) → (r : Ran w f s (at s frame) c)
+      → Went w (r .rest) (at s frame) ys u n m frame′ d → Went w f s ys u n m frame′ (c + d)
+  went-from f s frame ys u n m frame′ c d r q =
+      record {
+        map = q .map;
+        path = q .path;
+        counted = q .counted;
+        leads = q .leads;
+        ran = ran-then w f s (at s frame) (behind w (r .rest) (at s frame) ys u n m frame′ d q) c d r (q .ran);
+      }
+
+  ready-at : (s : State) (frame : Frame) (ys : List ℕ) (u : ℕ → ℕ) (n m : ℕ) → Ready w s ys u n m → Ready w (at s frame) ys u n m
+  ready-at s frame ys u n m r = record { level = r .level; leads = r .leads; room = r .room; clear = r .clear; nodes = r .nodes; pages = r .pages }
+
+  -- ---- trees, and the children of a node
   mutual
     unfolding filled
 
@@ -342,40 +373,22 @@ module _ (w : Given) (bytesOf : ℕ → List ℕ) (small : w .block .nodes ≤ m
     tree-through (leafP x (p ∷ ps)) ys c l h b u z v f s e n r =
         went-within w f s ys (λ a. hit x a) 1 (length (p ∷ ps)) (pastChild (s .frame) c l) 1 10 (omega arith)
         (leaf-through x p ps ys c l h (b .1) u v f s e (omega arith) r)
-    tree-through (innerP x bs) ys c l h b u z v f s e n r =
-        inner-through x bs ys c l h (b .1) u v (entered-from bs x (h .1) (b .1))
-        (λ f′ s′ from r′ n′. all-through bs x 0 (ys ++ c ∷ []) (h .1) (b .1) (u .1) (u .0) f′ s′ from r′ n′) f s e n r
+    tree-through (innerP x ks) ys c l h b u z v f s e n r =
+        inner-through x ks ys c l h (b .1) u v (enter-ahead cap pcap base N P x ks (h .1) (b .1))
+        (λ f′ s′ a′ r′ n′. kids-through ks (ys ++ c ∷ []) (u .1) (u .0) f′ s′ a′ r′ n′) f s e n r
 
-    all-through : (bs : Buckets) (x g : ℕ) (ys : List ℕ) → Holds (cellsB cap base bs x g) N P → SoundB cap pcap bs g → FitsB bs ys → length ys < len
-        → ThroughAll bs x g ys
-    all-through end x g ys h b u v f s from r n = record {
-      done = s .frame;
-      empty = from .0;
-      last = from .1;
-      went = went-within w f s ys (λ a. 0) 0 0 (s .frame) 0 (nodeSteps * 0 + (8 - g)) (omega arith) (went-none w f s ys (r .leads));
-    }
-    all-through (bucket ch bs) x g ys h b u v f s from r n =
-        then-under ch bs x g ys (h .1) (b .1)
-        (λ f′ s′ e′ l′ g′ r′ n′. chain-through ch ys (headAt cap x g) 0 (32 * g) (32 * g + 32) (h .0) (b .0) (u .0) v f′ s′ e′ l′ g′ r′ n′)
-        (λ f′ s′ from′ r′ n′. all-through bs x (suc g) ys (h .1) (b .1) (u .1) v f′ s′ from′ r′ n′) f s from r n
-
-    chain-through : (ch : Chain) (ys : List ℕ) (at y lo hi : ℕ) → Holds (cellsC cap base ch at y) N P → SoundC cap pcap ch lo hi → FitsC ch ys
-        → length ys < len → Through ch ys lo hi
-    chain-through stop ys at y lo hi h b u v f s e l g r n = record {
-      done = s .frame;
-      node = refl;
-      group = refl;
-      empty = e;
-      went = went-none w f s ys (r .leads);
-    }
-    chain-through (link c t ch) ys at y lo hi h b u v f s e l g r n =
-        link-through t ch ys c hi
-        (λ f′ s′ e′ l′ g′ r′ n′. chain-through ch ys (chainAt (root t)) c (suc c) hi (h .1 .1) (b .3) (u .3) v f′ s′ e′ l′ g′ r′ n′) f s g r n
-        (tree-through t ys c (linkC ch) (h .1 .0) (b .2) (u .2) (u .1) v f s
-        (to-child N cap (w .rows .bits) (w .rows .length) (length (s .stack)) (s .frame) (root t) c (linkC ch) e (root-below cap pcap t (b .2))
-        (slot-word cap base N P ch (root t) c (h .1 .1)) (omega (arith, link-below cap pcap ch (suc c) hi (b .3))) (omega (arith, b .0)) (omega (arith, b .1))
-        (rw (r .level) (u .0))) (omega arith)
-        (ready-first w s ys (λ a. uses t a) (λ a. usesC ch a) (size t) (sizeC ch) (load t) (loadC ch) r))
+    kids-through : (ks : Kids) (ys : List ℕ) → FitsAmong ks ys → length ys < len → Through ks ys
+    kids-through noKid ys u v f s a r n = none-through ys f s a r n
+    kids-through (kid c t ks) ys u v f s a r n =
+        let q = reach (groupsLeft (s .frame)) f s c t ks refl (omega arith) a in
+        let s1 : State = at s (q .frame) in
+        kid-through t ks ys c (λ f′ s′ a′ r′ n′. kids-through ks ys (u .3) v f′ s′ a′ r′ n′) f s r n q
+        (went-from f s (q .frame) ys (λ x. uses t x) (size t) (load t) (pastChild (q .frame) c (q .link)) (q .cost) (nodeSteps * size t) (q .ran)
+        (tree-through t ys c (q .link) (q .held) (q .sound) (u .2) (u .1) v (q .ran .rest) s1
+        (to-child N cap (w .rows .bits) (w .rows .length) (length (s .stack)) (q .frame) (root t) c (q .link) (q .leads) (rw (r .level) (u .0)))
+        (omega (arith, q .spent, q .ran .enough))
+        (ready-at s (q .frame) ys (λ x. uses t x) (size t) (load t)
+        (ready-first w s ys (λ x. uses t x) (λ x. usesAmong ks x) (size t) (sizeAmong ks) (load t) (loadAmong ks) r))))
 
   -- ---- from the root
   record Answer (t : Phys) (map : List ℕ) (left total : ℕ) : Type 0 where
@@ -410,28 +423,28 @@ module _ (w : Given) (bytesOf : ℕ → List ℕ) (small : w .block .nodes ≤ m
       }
 
   -- no page may be left
-  root-end : (bs : Buckets) (f : ℕ) (map path : List ℕ) (left total : ℕ) (frame : Frame) → loadB bs ≡ total → nodeSteps * sizeB bs + 8 < f
-      → (under : Under w f (state map path (left - 1) total frame []) [] (λ a. usesB bs a) (sizeB bs) (loadB bs) (nodeSteps * sizeB bs + 8))
-      → run w f (state map path (left - 1) total frame []) ≡ tested (under .went .map) (budget.Some (left - (1 + sizeB bs)))
+  root-end : (ks : Kids) (f : ℕ) (map path : List ℕ) (left total : ℕ) (frame : Frame) → loadAmong ks ≡ total → nodeSteps * sizeAmong ks + 7 < f
+      → (under : Under w f (state map path (left - 1) total frame []) [] (λ a. usesAmong ks a) (sizeAmong ks) (loadAmong ks) (nodeSteps * sizeAmong ks + 7))
+      → run w f (state map path (left - 1) total frame []) ≡ tested (under .went .map) (budget.Some (left - (1 + sizeAmong ks)))
   unfolding leftIf
-  root-end bs f map path left total frame e n under =
-      let less : left - 1 - sizeB bs ≡ left - (1 + sizeB bs) = omega arith in
-      let none-left : total - loadB bs ≡ 0 = omega arith in
+  root-end ks f map path left total frame e n under =
+      let less : left - 1 - sizeAmong ks ≡ left - (1 + sizeAmong ks) = omega arith in
+      let none-left : total - loadAmong ks ≡ 0 = omega arith in
       under .went .ran .same
-      ∙ step-end w (under .went .ran .rest) (omega (arith, under .went .ran .enough)) (under .went .map) (under .went .path) (left - 1 - sizeB bs)
-      (total - loadB bs) (under .done) (to-up N cap (w .rows .bits) (w .rows .length) 0 (under .done) (under .empty) (under .last))
+      ∙ step-end w (under .went .ran .rest) (omega (arith, under .went .ran .enough)) (under .went .map) (under .went .path) (left - 1 - sizeAmong ks)
+      (total - loadAmong ks) (under .done) (to-up N cap (w .rows .bits) (w .rows .length) 0 (under .done) (under .up))
       ∙ ap₂ (λ a p. tested (under .went .map) (leftIf a (eqb p 0))) less none-left
 
-  root-inner : (x : ℕ) (bs : Buckets) (map : List ℕ) (left total : ℕ) → Holds (cells cap base (innerP x bs)) N P → SoundB cap pcap bs 0
-      → FitsT (innerP x bs) [] → w .window .size ≤ 32 * length map → Clear (w .window) (λ a. uses (innerP x bs) a) map → size (innerP x bs) ≤ left
-      → size (innerP x bs) ≤ cap → load (innerP x bs) ≡ total → Answer (innerP x bs) map left total
+  root-inner : (x : ℕ) (ks : Kids) (map : List ℕ) (left total : ℕ) → Holds (cells cap base (innerP x ks)) N P → SoundK cap pcap ks 0
+      → FitsT (innerP x ks) [] → w .window .size ≤ 32 * length map → Clear (w .window) (λ a. uses (innerP x ks) a) map → size (innerP x ks) ≤ left
+      → size (innerP x ks) ≤ cap → load (innerP x ks) ≡ total → Answer (innerP x ks) map left total
   unfolding testBelow
-  root-inner x bs map left total h b u room c l m e =
+  root-inner x ks map left total h b u room c l m e =
       let hx : ℕ → ℕ = λ a. hit x a in
-      let ub : ℕ → ℕ = λ a. usesB bs a in
+      let ub : ℕ → ℕ = λ a. usesAmong ks a in
       let fresh : Fresh (w .window) map x = mark-once (w .window) map x room (clear-first (w .window) hx ub map c) in
       let s : State = state (fresh .after) (replicate 64 0) (left - 1) total (entered N cap x) [] in
-      let ready : Ready w s [] ub (sizeB bs) (loadB bs) = record {
+      let ready : Ready w s [] ub (sizeAmong ks) (loadAmong ks) = record {
         level = refl;
         leads = leads-none;
         room = omega (arith, room, fresh .counted .long);
@@ -439,18 +452,19 @@ module _ (w : Given) (bytesOf : ℕ → List ℕ) (small : w .block .nodes ≤ m
         nodes = omega arith;
         pages = omega arith;
       } in
-      let under = all-through bs x 0 [] (h .1) b (u .1) (u .0) (stepsFor cap) s (entered-from bs x (h .1) b) ready (omega arith) in
+      let seven : groupsLeft (entered N cap x) ≡ 7 = seven-left x in
+      let under = rw seven at (kids-through ks [] (u .1) (u .0) (stepsFor cap) s (enter-ahead cap pcap base N P x ks (h .1) b) ready (omega (arith, seven))) in
       record {
         after = under .went .map;
-        same = root-kind x map left total (omega arith) (fresh .after) (fresh .same) kind.Inner (inner-kind N P cap base x bs h)
-            ∙ root-end bs (stepsFor cap) (fresh .after) (replicate 64 0) left total (entered N cap x) e (omega arith) under;
+        same = root-kind x map left total (omega arith) (fresh .after) (fresh .same) kind.Inner (inner-kind N P cap base x ks h)
+            ∙ root-end ks (stepsFor cap) (fresh .after) (replicate 64 0) left total (entered N cap x) e (omega arith) under;
         counted = counted-then (w .window) hx ub map (fresh .after) (under .went .map) (fresh .counted) (under .went .counted);
       }
 
   root-whole : (t : Phys) (map : List ℕ) (left total : ℕ) → Holds (cells cap base t) N P → SoundNodes cap pcap t → FitsT t []
       → w .window .size ≤ 32 * length map → Clear (w .window) (λ a. uses t a) map → size t ≤ left → size t ≤ cap → load t ≡ total → Answer t map left total
   root-whole (leafP x ps) map left total h b u room c l m e = root-leaf x ps map left total h (b .1) u room c l e
-  root-whole (innerP x bs) map left total h b u room c l m e = root-inner x bs map left total h (b .1) u room c l m e
+  root-whole (innerP x ks) map left total h b u room c l m e = root-inner x ks map left total h (b .1) u room c l m e
 
 -- a sound trie, of at most `left` nodes, none of which is marked yet
 pub test-whole : (w : Given) (bytesOf : ℕ → List ℕ) (root left total : ℕ) (map : List ℕ) (t : Phys) → Fitting w map → Reads w bytesOf

@@ -1,17 +1,13 @@
 -- How often a node stands in a trie.
 use Prim.Native.Nat.{ℕ, _+_}
 use Rattle.children.specs.Heap.{hit}
-use Rattle.children.specs.Phys.{Phys, leafP, innerP, Buckets, end, bucket, Chain, stop, link}
+use Rattle.children.specs.Phys.{Phys, Kids, leafP, innerP, noKid, kid}
 
 abbrev mutual
   pub uses : Phys → ℕ → ℕ
   uses (leafP n ps) x = hit n x
-  uses (innerP n bs) x = hit n x + usesB bs x
+  uses (innerP n ks) x = hit n x + usesAmong ks x
 
-  pub usesB : Buckets → ℕ → ℕ
-  usesB end x = 0
-  usesB (bucket ch bs) x = usesC ch x + usesB bs x
-
-  pub usesC : Chain → ℕ → ℕ
-  usesC stop x = 0
-  usesC (link b t ch) x = uses t x + usesC ch x
+  pub usesAmong : Kids → ℕ → ℕ
+  usesAmong noKid x = 0
+  usesAmong (kid b t ks) x = uses t x + usesAmong ks x

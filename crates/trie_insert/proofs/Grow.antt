@@ -16,7 +16,7 @@ use Rattle.children.specs.Heap.{Cells, node, page, _⊕_}
 use Rattle.blocks.specs.Tables.{RowTable}
 use Rattle.blocks.specs.Packed.{pageByte, levelAt}
 use Rattle.trie.specs.Model.{spanFrom}
-use Rattle.children.specs.Phys.{Phys, root, tree, empty, first, pageCells, noHeads, freeCells, cells, Below, State, leafP, innerP}
+use Rattle.children.specs.Phys.{Phys, noKid, root, tree, first, pageCells, noKids, freeCells, cells, Below, State, leafP, innerP}
 use Rattle.children.proofs.Frame.{Less, less, node-write, nodes-kept}
 use Rattle.trie.proofs.Context.{below}
 use Rattle.blocks.proofs.Bytes.{level-table, byte-small}
@@ -43,14 +43,13 @@ pub record Grown (cap pcap base n total : ℕ) (want : Tree) (G : Cells) (a : Af
 
 -- a leaf opened: its pages are loose
 module _ {cap pcap base : ℕ} {N P : List ℕ} {free n : ℕ} {ps fs : List ℕ} {G : Cells} (st : State cap pcap base N P free (leafP n ps) fs G) where
-  apart : Less (cells cap base (leafP n ps) ⊕ freeCells cap fs ⊕ G) (node (stateAt cap n) (leafState (first ps)) ⊕ noHeads cap n ⊕ freeCells cap fs ⊕ pageCells base ps ⊕ G)
+  apart : Less (cells cap base (leafP n ps) ⊕ freeCells cap fs ⊕ G) (node (stateAt cap n) (leafState (first ps)) ⊕ noKids cap n ⊕ freeCells cap fs ⊕ pageCells base ps ⊕ G)
   apart = record { holds = λ N P h. search; nodes = λ a. omega arith; pages = λ a. omega arith }
 
-  together : Less (node (stateAt cap n) innerState ⊕ noHeads cap n ⊕ freeCells cap fs ⊕ pageCells base ps ⊕ G) (cells cap base (innerP n empty) ⊕ freeCells cap fs ⊕ pageCells base ps ⊕ G)
-  unfolding noHeads
-  together = record { holds = λ N P h. ((h .0, h .1 .0), h .1 .1); nodes = λ a. omega arith; pages = λ a. omega arith }
+  together : Less (node (stateAt cap n) innerState ⊕ noKids cap n ⊕ freeCells cap fs ⊕ pageCells base ps ⊕ G) (cells cap base (innerP n noKid) ⊕ freeCells cap fs ⊕ pageCells base ps ⊕ G)
+  together = record { holds = λ N P h. ((h .0, (h .1 .0, tt)), h .1 .1); nodes = λ a. omega arith; pages = λ a. omega arith }
 
-  pub open-state : State cap pcap base (openLeaf N cap n) P free (innerP n empty) fs (pageCells base ps ⊕ G)
+  pub open-state : State cap pcap base (openLeaf N cap n) P free (innerP n noKid) fs (pageCells base ps ⊕ G)
   open-state =
       let t = st .nodeTable in
       let l : n < cap = st .sound .0 in
@@ -58,7 +57,7 @@ module _ {cap pcap base : ℕ} {N P : List ℕ} {free n : ℕ} {ps fs : List ℕ
         nodeTable = nodes-kept (simp length-set) t;
         pageTable = st .pageTable;
         heap = less together (node-write innerState (less apart (st .heap)) (omega arith));
-        sound = (l, (tt, (tt, (tt, (tt, (tt, (tt, (tt, (tt, refl)))))))));
+        sound = (l, tt);
         chain = st .chain;
         below = st .below;
       }
@@ -123,7 +122,7 @@ module _ (bytesOf : ℕ → List ℕ) (S τ : List ℕ) (r : Rows) (cap pcap bas
     unfolding nodes splitLeaf
     grow-inner e l m = wrap (split-right bytesOf S (levelAt r k) cap pcap base n k small (λ x. byte-small pcap (levelAt r k) S x (level-table pcap r S k rows)) (are l) (p ∷ ps) (p + 1) (pcap + 1) (open-state st1) tt (st1 .sound .1) refl (omega (arith, leaf-most st1)) (omega arith))
       where
-        wrap : SplitDone bytesOf cap pcap base n k (p ∷ ps) empty fs G (splitFrom S (levelAt r k) cap pcap base n (openLeaf N1 cap n) P1 (p + 1) free (pcap + 1)) →
+        wrap : SplitDone bytesOf cap pcap base n k (p ∷ ps) noKid fs G (splitFrom S (levelAt r k) cap pcap base n (openLeaf N1 cap n) P1 (p + 1) free (pcap + 1)) →
             Grown cap pcap base n (1 + length fs) (inner (split bytesOf k (p ∷ ps) none)) G (growLeaf S τ r cap pcap base N P k n p free)
         wrap E =
             record {
@@ -131,7 +130,7 @@ module _ (bytesOf : ℕ → List ℕ) (S τ : List ℕ) (r : Rows) (cap pcap bas
               pagesTo = E .pagesTo;
               leaf = n;
               freeTo = E .freeTo;
-              to = innerP n (E .bucketsTo);
+              to = innerP n (E .kidsTo);
               freesTo = E .freesTo;
               is = sym (grow-split S τ r cap pcap base N P k n p free N1 P1 true ok refl Enough (sym e) refl (E .nodesTo) (E .pagesTo) (Node n (E .freeTo)) (sym (E .is)));
               state = E .state;

@@ -13,11 +13,11 @@ use Rattle.children.specs.Heap.{Cells, page, _⊕_}
 use Rattle.blocks.specs.Tables.{RowTable}
 use Rattle.blocks.specs.Packed.{pageByte, levelAt}
 use Rattle.trie.specs.Model.{linkLeaf, made, freshLeaf}
-use Rattle.children.specs.Phys.{Phys, root, tree, childrenB, childrenC, Sound, SoundC, State, leafP, innerP, link, chainEnd}
+use Rattle.children.specs.Phys.{Phys, root, tree, childrenOf, Sound, State, leafP, innerP}
 use Rattle.children.proofs.Frame.{same-swap}
-use Rattle.children.proofs.Abstract.{Above}
 use Rattle.trie.proofs.Context.{Context, inside, enter, leave, beside}
-use Rattle.children.proofs.Spot.{past, tail-above}
+use Rattle.children.proofs.Spot.{gap, held}
+use Rattle.children.proofs.Spots.{spot-same}
 use Rattle.trie.proofs.Fresh.{fresh-state, fresh-is}
 use Rattle.trie.specs.declared.path.Reach.{Reach}
 use Rattle.trie.specs.declared.path.Reach.the-variants.{Leaf, Gap, Broken}
@@ -76,28 +76,25 @@ module _ (bytesOf : ℕ → List ℕ) (S τ Y : List ℕ) (r : Rows) (cap pcap b
     b = byteAt bytesOf j p
 
     abbrev K : Children
-    K = childrenC (a .spot .tail) (a .spot .later)
+    K = a .spot .later
 
     abbrev In : Children → Children
     In = insertIn bytesOf (r .bytes) τ j p
 
-    above : Above b K
-    above = tail-above cap pcap base small (a .spot .tail) b (chainEnd b) (a .spot .later) (a .gap) (a .spot .from) (a .spot .above)
+    here : tree t ≡ a .way .context .around (inner (childrenOf (a .kids)))
+    here = ap tree (sym (a .way .is)) ∙ a .way .context .trees (innerP n (a .kids))
 
-    here : tree t ≡ a .way .context .around (inner (childrenB (a .buckets)))
-    here = ap tree (sym (a .way .is)) ∙ a .way .context .trees (innerP n (a .buckets))
-
-    children-now : childrenB (a .buckets) ≡ a .spot .before K
-    children-now = ap childrenB (sym (a .spot .whole)) ∙ a .spot .childrenB (a .spot .tail)
+    children-now : childrenOf (a .kids) ≡ a .spot .before K
+    children-now = ap childrenOf (sym (spot-same cap pcap base small (a .spot) (a .none))) ∙ a .spot .children gap
 
     -- the children after the insertion, and that an empty leaf made first changes nothing
-    children-then : In (childrenB (a .buckets)) ≡ a .spot .before (child b (addLeaf bytesOf (r .bytes) τ (suc j) p []) K)
+    children-then : In (childrenOf (a .kids)) ≡ a .spot .before (child b (addLeaf bytesOf (r .bytes) τ (suc j) p []) K)
     children-then =
-        ap In children-now ∙ a .spot .skip In (insert-skips bytesOf p (r .bytes) τ j) K ∙ ap (a .spot .before) (insert-new bytesOf p (r .bytes) τ j K above)
+        ap In children-now ∙ a .spot .skip In (insert-skips bytesOf p (r .bytes) τ j) K ∙ ap (a .spot .before) (insert-new bytesOf p (r .bytes) τ j K (a .spot .above))
 
-    children-made : In (a .spot .before (child b (leaf []) K)) ≡ In (childrenB (a .buckets))
+    children-made : In (a .spot .before (child b (leaf []) K)) ≡ In (childrenOf (a .kids))
     children-made =
-        a .spot .skip In (insert-skips bytesOf p (r .bytes) τ j) (child b (leaf []) K) ∙ ap (a .spot .before) (insert-empty bytesOf p (r .bytes) τ j K above)
+        a .spot .skip In (insert-skips bytesOf p (r .bytes) τ j) (child b (leaf []) K) ∙ ap (a .spot .before) (insert-empty bytesOf p (r .bytes) τ j K (a .spot .above))
         ∙ sym (a .spot .skip In (insert-skips bytesOf p (r .bytes) τ j) K) ∙ ap In (sym children-now)
 
     inner-lift : (cs : Children) → insert bytesOf (r .bytes) τ 0 p (a .way .context .around (inner cs)) ≡ a .way .context .around (inner (In cs))
@@ -109,46 +106,43 @@ module _ (bytesOf : ℕ → List ℕ) (S τ Y : List ℕ) (r : Rows) (cap pcap b
 
     same-want : insert bytesOf (r .bytes) τ 0 p With ≡ insert bytesOf (r .bytes) τ 0 p (tree t)
     same-want =
-        inner-lift (a .spot .before (child b (leaf []) K)) ∙ ap (λ (cs : Children). a .way .context .around (inner cs)) children-made ∙ sym (inner-lift (childrenB (a .buckets)))
+        inner-lift (a .spot .before (child b (leaf []) K)) ∙ ap (λ (cs : Children). a .way .context .around (inner cs)) children-made ∙ sym (inner-lift (childrenOf (a .kids)))
         ∙ ap (insert bytesOf (r .bytes) τ 0 p) (sym here)
 
     with-count : nodes With ≡ 1 + nodes (tree t)
     unfolding nodes
     with-count =
         rw here
-        (omega (arith, a .way .context .count (inner (a .spot .before (child b (leaf []) K))) (inner (childrenB (a .buckets))), a .spot .count (child b (leaf []) K) K, ap nodesIn children-now))
+        (omega (arith, a .way .context .count (inner (a .spot .before (child b (leaf []) K))) (inner (childrenOf (a .kids))), a .spot .count (child b (leaf []) K) K, ap nodesIn children-now))
 
     want-count : 1 + nodes (tree t) ≤ nodes (insert bytesOf (r .bytes) τ 0 p (tree t))
     unfolding nodes
     want-count =
         let A : Tree = addLeaf bytesOf (r .bytes) τ (suc j) p [] in
         let w : insert bytesOf (r .bytes) τ 0 p (tree t) ≡ a .way .context .around (inner (a .spot .before (child b A K))) =
-        ap (insert bytesOf (r .bytes) τ 0 p) here ∙ inner-lift (childrenB (a .buckets)) ∙ ap (λ (cs : Children). a .way .context .around (inner cs)) children-then in
+        ap (insert bytesOf (r .bytes) τ 0 p) here ∙ inner-lift (childrenOf (a .kids)) ∙ ap (λ (cs : Children). a .way .context .around (inner cs)) children-then in
         rw (w, here)
-        (omega (arith, a .way .context .count (inner (a .spot .before (child b A K))) (inner (childrenB (a .buckets))), a .spot .count (child b A K) K, nodes-some A, ap nodesIn children-now))
+        (omega (arith, a .way .context .count (inner (a .spot .before (child b A K))) (inner (childrenOf (a .kids))), a .spot .count (child b A K) K, nodes-some A, ap nodesIn children-now))
 
     -- the first free node is made the leaf, and the page put in
     module _ {N P : List ℕ} {free v f : ℕ} {fs : List ℕ} {G : Cells} (st : State cap pcap base N P free t (f ∷ fs) (page (base + p) v ⊕ G)) where
       abbrev N1 : List ℕ
       N1 = linkLeaf N cap (a .spot .slot) f b
 
-      entered-gap : State cap pcap base N P free (innerP n (a .buckets)) (f ∷ fs) (a .way .context .rest ⊕ page (base + p) v ⊕ G)
+      entered-gap : State cap pcap base N P free (innerP n (a .kids)) (f ∷ fs) (a .way .context .rest ⊕ page (base + p) v ⊕ G)
       entered-gap = go-in cap pcap base small bytesOf p (a .way) st
 
       pub gap-is : freshLeaf N cap (a .spot .slot) b free ≡ made N1 (Node f (getD N f 0))
-      gap-is = fresh-is cap pcap base small entered-gap (a .spot) (a .octet) (a .gap)
-
-      sound-tail : SoundC cap pcap (a .spot .tail) (suc b) (chainEnd b)
-      sound-tail = past cap pcap base small (a .spot .tail) b (chainEnd b) (a .gap) (a .spot .from)
+      gap-is = fresh-is cap pcap base small entered-gap (a .spot) (a .none)
 
       C : Context cap pcap base small byte 0 (root t) (suc j) f
-      C = inside cap pcap base small byte (a .way .context) (a .buckets) (a .spot) f (a .spot .tail) (a .way .sound .0) (a .octet) sound-tail
+      C = inside cap pcap base small byte (a .way .context) (a .kids) (a .spot) f (a .way .sound .0)
 
       gap-state : State cap pcap base N1 P (getD N f 0) (C .put (leafP f [])) fs (page (base + p) v ⊕ G)
       unfolding C inside
       gap-state =
-          leave cap pcap base small byte (a .way .context) (innerP n (a .spot .put (link b (leafP f []) (a .spot .tail)))) refl
-          (fresh-state cap pcap base small entered-gap (a .spot) (a .octet) (a .gap))
+          leave cap pcap base small byte (a .way .context) (innerP n (a .spot .put (held (leafP f [])))) refl
+          (fresh-state cap pcap base small entered-gap (a .spot) (a .none))
 
       around-leaf : C .around (leaf []) ≡ With
       unfolding C inside
@@ -192,7 +186,7 @@ module _ (bytesOf : ℕ → List ℕ) (S τ Y : List ℕ) (r : Rows) (cap pcap b
     at-gap n s k a e m = go fs st m
       where
         same-byte : byteAt bytesOf k p ≡ getD Y k 0
-        same-byte = y .bytes k (y .shallow k (childrenB (a .buckets)) (a .way .path) (a .way .sub))
+        same-byte = y .bytes k (y .shallow k (childrenOf (a .kids)) (a .way .path) (a .way .sub))
 
         same-leaf : freshLeaf N cap s (getD Y k 0) free ≡ freshLeaf N cap (a .spot .slot) (byteAt bytesOf k p) free
         same-leaf = rw (a .slot, same-byte) refl

@@ -11,7 +11,7 @@ use Rattle.layout.specs.States.{kindOf}
 use Rattle.layout.specs.declared.nodes.Kind.the-variants as kind
 use Rattle.layout.proofs.States.{kind-state}
 use Rattle.children.specs.Heap.{Cells, Heap, node, page, _⊕_}
-use Rattle.children.specs.Phys.{first, pageCells, noHeads, freeCells, cells, State, leafP}
+use Rattle.children.specs.Phys.{first, pageCells, noKids, freeCells, cells, State, leafP}
 use Rattle.children.proofs.Frame.{Less, less, same-swap, node-write, page-write, nodes-kept, pages-kept}
 use Rattle.trie.proofs.Context.{below}
 use Rattle.trie_insert.specs.Pages.{pushNodes, pushPages, pushPage, pushed}
@@ -20,7 +20,7 @@ use Rattle.trie_insert.proofs.Steps.{push-done}
 module _ {cap pcap base : ℕ} {N P : List ℕ} {free c p v : ℕ} {ps fs : List ℕ} {G : Cells}
     (st : State cap pcap base N P free (leafP c ps) fs (page (base + p) v ⊕ G)) (lp : p < pcap) where
   R : Cells
-  R = noHeads cap c ⊕ pageCells base ps ⊕ freeCells cap fs ⊕ G
+  R = noKids cap c ⊕ pageCells base ps ⊕ freeCells cap fs ⊕ G
 
   apart : Less (cells cap base (leafP c ps) ⊕ freeCells cap fs ⊕ page (base + p) v ⊕ G) (page (base + p) v ⊕ node (stateAt cap c) (leafState (first ps)) ⊕ R)
   unfolding R

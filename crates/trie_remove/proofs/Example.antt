@@ -13,7 +13,7 @@ use Rattle.meaning.specs.Trie.{byteAt, pagesIn}
 use Rattle.layout.specs.States.{kindOf}
 use Rattle.children.specs.Heap.{Cells, hit, nodeClaims, pageClaims, nil, node, page, _⊕_}
 use Rattle.children.specs.Places.{placeFrom, findPlace}
-use Rattle.children.specs.Phys.{Phys, Buckets, tree, noHeads, cells, State, leafP, innerP, end, bucket, stop, link}
+use Rattle.children.specs.Phys.{Phys, noKid, kid, tree, headsFrom, cells, State, leafP, innerP}
 use Rattle.trie_laws.specs.Sound.{filled, soundTrie}
 use Rattle.meaning.proofs.Lists.{and-first, and-second, count-append, eqb-comm}
 use Rattle.trie_laws.proofs.Lists.{holds, fails, truth, any-none}
@@ -83,20 +83,17 @@ N = 0 ∷ 524291 ∷ 1048576 ∷ 1 ∷ 3 ∷ 4 ∷ 2 ∷ replicate 23 0
 abbrev P : List ℕ
 P = 0 ∷ 0 ∷ []
 
-abbrev empty : Buckets
-empty = bucket stop (bucket stop (bucket stop (bucket stop (bucket stop (bucket stop (bucket stop end))))))
-
 abbrev t : Phys
-t = innerP 0 (bucket (link 1 (leafP 1 (0 ∷ [])) (link 2 (leafP 2 (1 ∷ [])) stop)) empty)
+t = innerP 0 (kid 1 (leafP 1 (0 ∷ [])) (kid 2 (leafP 2 (1 ∷ [])) noKid))
 
 state : State 3 2 0 N P 0 t [] nil
-unfolding noHeads any
+unfolding headsFrom any
 state =
     record {
       nodeTable = record { long = lit≤ tt; small = lit≤ tt };
       pageTable = record { long = lit≤ tt; small = lit≤ tt };
       heap = record {
-        holds = ((refl, ((refl, ((refl, (search, (refl, tt))), (refl, ((refl, (search, (refl, tt))), refl)))), search)), (tt, tt));
+        holds = ((refl, (search, (refl, (search, (refl, (search, tt)))))), (tt, tt));
         nodes = λ a. rw (node-claims (cells 3 0 t ⊕ nil ⊕ nil) a) (once-count a (nodesOf (cells 3 0 t ⊕ nil ⊕ nil)) refl);
         pages = λ a. rw (page-claims (cells 3 0 t ⊕ nil ⊕ nil) a) (once-count a (pagesOf (cells 3 0 t ⊕ nil ⊕ nil)) refl);
       };

@@ -13,7 +13,7 @@ use Rattle.layout.specs.States.{kindOf, firstOf}
 use Rattle.layout.specs.declared.nodes.Kind.the-variants as kind
 use Rattle.layout.proofs.States.{kind-state}
 use Rattle.children.specs.Heap.{Cells, Heap, node, page, _⊕_}
-use Rattle.children.specs.Phys.{first, pageCells, noHeads, freeCells, cells, Below, State, leafP}
+use Rattle.children.specs.Phys.{first, pageCells, noKids, freeCells, cells, Below, State, leafP}
 use Rattle.children.proofs.Frame.{Less, less, node-write, nodes-kept, pages-kept}
 use Rattle.trie_remove.specs.declared.Taken.{Taken}
 use Rattle.trie_remove.specs.declared.Taken.the-variants.{First, Inside, Missing, Broken}
@@ -52,7 +52,7 @@ below-without m p (x ∷ ps) l = go (eqb x p) (below-without m p ps (l .1))
 
 module _ {cap pcap base : ℕ} {N P : List ℕ} {free c : ℕ} {ps fs : List ℕ} {G : Cells} (st : State cap pcap base N P free (leafP c ps) fs G) (p s k : ℕ) (m : any (eqb p) ps ≡ true) where
   R : Cells
-  R = noHeads cap c ⊕ freeCells cap fs ⊕ G
+  R = noKids cap c ⊕ freeCells cap fs ⊕ G
 
   apart : Less (cells cap base (leafP c ps) ⊕ freeCells cap fs ⊕ G) (pageCells base ps ⊕ node (stateAt cap c) (leafState (first ps)) ⊕ R)
   unfolding R

@@ -11,7 +11,7 @@ use Rattle.meaning.specs.Lists.{any}
 use Rattle.meaning.specs.Trie.{Children, leaf, inner, without, byteAt, remove, pagesIn}
 use Rattle.layout.specs.Nodes.{mostNodes}
 use Rattle.children.specs.Heap.{Cells, page, _⊕_}
-use Rattle.children.specs.Phys.{Phys, Chain, root, tree, childrenB, first, SoundC, State, leafP, innerP, link, chainEnd}
+use Rattle.children.specs.Phys.{Phys, root, tree, childrenOf, first, State, leafP, innerP}
 use Rattle.children.proofs.Frame.{same-swap}
 use Rattle.trie.proofs.Context.{enter, beside}
 use Rattle.trie_laws.specs.Sound.{filled, soundTrie}
@@ -22,7 +22,8 @@ use Rattle.trie_laws.proofs.Reach.{reach-leaf}
 use Rattle.trie.specs.declared.path.Reach.{Reach}
 use Rattle.trie.specs.declared.path.Reach.the-variants.{Leaf, Gap, Broken}
 use Rattle.trie.specs.Descend.{descendTo}
-use Rattle.children.proofs.Spots.{from-here, spot-has, spot-child, spot-drop}
+use Rattle.children.proofs.Spot.{gap, held}
+use Rattle.children.proofs.Spots.{spot-has, spot-child, spot-drop}
 use Rattle.trie.proofs.Way.{Way, onward, onward-put, go-in, go-out}
 use Rattle.trie.proofs.Arrival.{Leads, Parent, AtLeaf, Arrives, arrives}
 use Rattle.trie_remove.specs.declared.Removed.the-variants.{Done}
@@ -106,42 +107,36 @@ module _ {cap pcap base : ℕ} (small : cap ≤ mostNodes) (bytesOf : ℕ → Li
 
   -- at a leaf that is emptied and is not the root
   module _ {j n s : ℕ} {ps : List ℕ} (a : Parent cap pcap base small bytesOf p t j (leafP n ps) s) (m : any (eqb p) ps ≡ true) (z : first (without p ps) ≡ 0) where
-    abbrev y : ℕ
-    y = byteAt bytesOf j p
-
     w : Way cap pcap base small bytesOf p t (suc j) (leafP n ps)
-    w = onward cap pcap base small bytesOf p (a .way) (a .spot) (a .octet) (leafP n ps) (a .after) (a .here)
+    w = onward cap pcap base small bytesOf p (a .way) (a .spot) (leafP n ps) (a .here)
 
     abbrev d : LeafDone cap pcap base N P free n p s (suc j) ps fs (w .context .rest ⊕ G) (removeAt N P cap pcap base n s (suc j) p free)
     d = done w s m
 
     abbrev rest : Phys
-    rest = innerP (a .node) (a .spot .put (a .after))
+    rest = innerP (a .node) (a .spot .put gap)
 
-    empty : SoundC cap pcap (link y (leafP n []) (a .after)) y (chainEnd y)
-    empty = let g = from-here cap pcap base small (a .spot) (leafP n ps) (a .after) (a .here) in (g .0, g .1, (g .2 .0, tt), g .3)
-
-    empty-put : w .context .put (leafP n (without p ps)) ≡ a .way .context .put (innerP (a .node) (a .spot .put (link y (leafP n []) (a .after))))
+    empty-put : w .context .put (leafP n (without p ps)) ≡ a .way .context .put (innerP (a .node) (a .spot .put (held (leafP n []))))
     unfolding w
     empty-put =
         ap (λ (qs : List ℕ). w .context .put (leafP n qs)) (first-none (without p ps) z)
-        ∙ onward-put cap pcap base small bytesOf p (a .way) (a .spot) (a .octet) (leafP n ps) (a .after) (a .here) (leafP n [])
+        ∙ onward-put cap pcap base small bytesOf p (a .way) (a .spot) (leafP n ps) (a .here) (leafP n [])
 
     freed : State cap pcap base (freeChild (d .nodesTo) cap (a .spot .slot) n free) (d .pagesTo) (n + 1) rest (n ∷ fs) (a .way .context .rest ⊕ page (base + p) (d .linkTo) ⊕ G)
     freed =
-        let x : Chain = link y (leafP n []) (a .after) in
-        let b : State cap pcap base (d .nodesTo) (d .pagesTo) free (a .way .context .put (innerP (a .node) (a .spot .put x))) fs (page (base + p) (d .linkTo) ⊕ G) =
+        let b : State cap pcap base (d .nodesTo) (d .pagesTo) free (a .way .context .put (innerP (a .node) (a .spot .put (held (leafP n []))))) fs (page (base + p) (d .linkTo) ⊕ G) =
         subst (λ (u : Phys). State cap pcap base (d .nodesTo) (d .pagesTo) free u fs (page (base + p) (d .linkTo) ⊕ G)) empty-put (back w s m) in
+        let l : n < cap = w .sound .0 in
         free-state cap pcap base small (a .spot)
-        (enter cap pcap base small (λ k. byteAt bytesOf k p) (a .way .context) (innerP (a .node) (a .spot .put x)) refl b (a .way .sound .0, a .spot .sound x empty))
-        empty
+        (enter cap pcap base small (λ k. byteAt bytesOf k p) (a .way .context) (innerP (a .node) (a .spot .put (held (leafP n [])))) refl b (a .way .sound .0, a .spot .sound (held (leafP n [])) (l, tt)))
+        l
 
     at-last : RemoveDone cap pcap base bytesOf p N P t fs G (removeAt N P cap pcap base n s (suc j) p free)
     unfolding freeChild filled
     at-last =
         let M : List ℕ = freeChild (d .nodesTo) cap (a .spot .slot) n free in
-        let i : has (byteAt bytesOf (0 + j) p) (childrenB (a .buckets)) ≡ true = rw (zero-add j) (spot-has cap pcap base small (a .spot) (leafP n ps) (a .after) (a .here)) in
-        let l : childBy (byteAt bytesOf (0 + j) p) (childrenB (a .buckets)) ≡ leaf ps = rw (zero-add j) (spot-child cap pcap base small (a .spot) (leafP n ps) (a .after) (a .here)) in
+        let i : has (byteAt bytesOf (0 + j) p) (childrenOf (a .kids)) ≡ true = rw (zero-add j) (spot-has cap pcap base small (a .spot) (leafP n ps) (a .here)) in
+        let l : childBy (byteAt bytesOf (0 + j) p) (childrenOf (a .kids)) ≡ leaf ps = rw (zero-add j) (spot-child cap pcap base small (a .spot) (leafP n ps) (a .here)) in
         let f : filled (leaf (without p ps)) ≡ false = rw (first-none (without p ps) z) refl in
         record {
           nodesTo = M;
@@ -154,9 +149,9 @@ module _ {cap pcap base : ℕ} (small : cap ≤ mostNodes) (bytesOf : ℕ → Li
           state = go-out cap pcap base small bytesOf p (a .way) rest refl freed;
           root = a .way .context .roots rest refl;
           removed =
-              a .way .rep rest ∙ ap (λ (cs : Children). replace (pathOf bytesOf 0 p j) (tree t) (inner cs)) (spot-drop cap pcap base small (a .spot) (leafP n ps) (a .after) (a .here))
-              ∙ sym (rw (zero-add j) at (remove-at-last bytesOf p j 0 (tree t) (a .way .path) (childrenB (a .buckets)) ps (a .way .sub) i l f));
-          count = rw (frees-at-last bytesOf p j 0 (tree t) (a .way .path) (childrenB (a .buckets)) ps (a .way .sub) i l f) (omega arith);
+              a .way .rep rest ∙ ap (λ (cs : Children). replace (pathOf bytesOf 0 p j) (tree t) (inner cs)) (spot-drop cap pcap base small (a .spot) (leafP n ps) (a .here))
+              ∙ sym (rw (zero-add j) at (remove-at-last bytesOf p j 0 (tree t) (a .way .path) (childrenOf (a .kids)) ps (a .way .sub) i l f));
+          count = rw (frees-at-last bytesOf p j 0 (tree t) (a .way .path) (childrenOf (a .kids)) ps (a .way .sub) i l f) (omega arith);
           nodesLength = simp length-set (d .nodesLength);
           pagesLength = d .pagesLength;
         }
@@ -190,7 +185,7 @@ module _ {cap pcap base : ℕ} (bytesOf : ℕ → List ℕ) (p : ℕ) {N P : Lis
           (at-leaf (st .nodeTable .small) bytesOf p st n s k a (rw q (x .2)))
       go (Gap n s k) e a =
           let x = reached k (a .deep) in
-          let o : inner (childrenB (a .buckets)) ≡ leaf (x .0) = sym (a .way .sub) ∙ x .1 in
+          let o : inner (childrenOf (a .kids)) ≡ leaf (x .0) = sym (a .way .sub) ∙ x .1 in
           let i : _≡_ {A = ℕ} 0 1 = cc in
           absurd (omega arith)
       go Broken e a = absurd a

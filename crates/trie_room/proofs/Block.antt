@@ -19,7 +19,7 @@ use Rattle.blocks.specs.declared.Rows.{Rows}
 use Rattle.children.specs.Heap.{Cells, _⊕_}
 use Rattle.blocks.specs.Packed.{pageByte, levelAt}
 use Rattle.trie.specs.Model.{spanFrom}
-use Rattle.children.specs.Phys.{Phys, root, tree, childrenB, first, Below, State, leafP}
+use Rattle.children.specs.Phys.{Phys, root, tree, childrenOf, first, Below, State, leafP}
 use Rattle.trie.proofs.Context.{enter}
 use Rattle.trie.proofs.Spans.{Linked, spanOf, span-right, pages-linked, frees-linked, leaf-most}
 use Rattle.trie_laws.specs.Sound.{Agree}
@@ -95,7 +95,7 @@ module _ {cap pcap base : ℕ} (small : cap ≤ mostNodes) (bytesOf : ℕ → Li
         (leaf-right bytesOf P S τ pcap base r Y p (y .bytes) k ps (pages-linked N P base ps (u .heap .holds .0 .1 .1)) (u .sound .1) (leaf-most u)
         (λ x m. reads k x (inside (a .way) x m)))
     at-right (Gap n s k) a =
-        rw (needed-at-gap bytesOf (length Y) τ p k 0 (tree t) (a .way .path) (childrenB (a .buckets)) (a .way .sub) (rw (zero-add k) (spot-none cap pcap base small (a .spot) (a .gap))), zero-add k)
+        rw (needed-at-gap bytesOf (length Y) τ p k 0 (tree t) (a .way .path) (childrenOf (a .kids)) (a .way .sub) (rw (zero-add k) (spot-none cap pcap base small (a .spot) (a .none))), zero-add k)
         (ap Nodes (gap-right bytesOf τ (length Y) p (suc k)))
     at-right Broken a = absurd a
 
