@@ -5,7 +5,8 @@ use mathlib.Core.Bool.{Bool, _&&_, _||_}
 use mathlib.Core.List.{List, map}
 use lib.Dec.{eqb}
 use lib.ListN.{length, getD, take, drop}
-use Rattle.meaning.specs.Lists.{any}
+use Rattle.meaning.specs.Lists.{any, upto}
+use Rattle.layout.specs.Pages.{nextAt}
 use Rattle.words.specs.Bits.{flag}
 use Rattle.marks.specs.Marks.{summaryOf, Room, Summarised, listOf}
 use Rattle.hits.specs.Hit.{Fitting}
@@ -52,3 +53,12 @@ pub record Inside (cap long : ℕ) (cs : List Chain) (n : ℕ) : Type 0 where
 pub record ChainsAt (base : ℕ) (links : List ℕ) (cs : Chains) : Type 0 where
   pub same : take (cs .n) (cs .each) ≡ map (chain base) links
   pub inside : (cap long : ℕ) → base + cap ≤ long → Inside cap long (cs .each) (cs .n)
+
+-- the chain of block j, in a table of cap pages, by the link to its first page
+abbrev pub chainIn : ℕ → List ℕ → ℕ → Chain
+chainIn cap firsts j = chain (nextAt cap j) (getD firsts j 0)
+
+-- a chain in each of q blocks
+pub record ChainsIn (cap : ℕ) (firsts : List ℕ) (q : ℕ) (cs : Chains) : Type 0 where
+  pub same : take (cs .n) (cs .each) ≡ map (chainIn cap firsts) (upto q)
+  pub inside : (long : ℕ) → (2 + q) * cap ≤ long → Inside cap long (cs .each) (cs .n)
