@@ -8,7 +8,7 @@ use Rattle.children.specs.Heap.{Holds}
 use Rattle.children.specs.Phys.{first, pageCells, Below}
 use Rattle.meeting.specs.declared.Chain.{Chain}
 use Rattle.meeting.specs.Meets.{Meets, met, after, andThen, chainOf, chainsOf, chain}
-use Rattle.meeting.specs.Held.{HeldChain, HeldChains, HeldAt}
+use Rattle.meeting.specs.Held.{HeldChains, HeldAt}
 use Rattle.meeting.proofs.Links.{chain-ended, chain-more}
 
 module _ (N P : List ℕ) (cap : ℕ) where
