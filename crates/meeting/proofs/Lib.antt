@@ -6,3 +6,4 @@ pub mod Made
 pub mod Held
 pub mod Listed
 pub mod Example
+pub mod Answers
