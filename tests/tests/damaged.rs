@@ -1,20 +1,26 @@
-//! Question 14: where it refuses a search, against a plain walk with the same budgets; and that no damage makes a search slow.
+//! Question 14: where it refuses a search, against a plain walk with the same budgets; which pages wrong signatures hide; and that no
+//! damage makes a search slow.
 use std::time::Duration;
 use vetchdawn_tests::calls::{self, Given};
 use vetchdawn_tests::clock::processor_time;
 use vetchdawn_tests::random::Random;
-use vetchdawn_tests::stores::{damaged, small_settings};
+use vetchdawn_tests::stores::{damaged, filled, small_settings};
 use vetchdawn_tests::tables::{is_hit, Settings, Tables};
 use vetchdawn_tests::walks::met;
 
-/// Tables of zeros, opened; reader 0 is open to all classes.
+/// All classes are open to reader 0.
+fn open_all(t: &mut Tables) {
+    assert_eq!(calls::join(t, 0, 0), 0);
+    for class in 0..64 {
+        assert_eq!(calls::grant(t, 0, class), 0);
+    }
+}
+
+/// Tables of zeros, opened, all classes open to reader 0.
 fn opened(s: &Settings) -> Tables {
     let mut t = Tables::filled_with(0, s);
     assert_eq!(calls::open(&mut t, s), 0);
-    assert_eq!(calls::join(&mut t, 0, 0), 0);
-    for class in 0..64 {
-        assert_eq!(calls::grant(&mut t, 0, class), 0);
-    }
+    open_all(&mut t);
     t
 }
 
@@ -61,6 +67,33 @@ fn as_a_plain_walk_has_it() {
         }
     }
     assert!(numbers[0] > 1_000 && numbers[13] > 1_000 && numbers[14] > 1_000, "{numbers:?}");
+}
+
+/// Signatures alone are damaged: of the hits those are left out whose signature is too far, and no others.
+#[test]
+fn left_out_by_its_signature() {
+    let mut random = Random::new(73);
+    let (mut listed, mut left_out) = (0, 0);
+    for _ in 0..1_000 {
+        let s = small_settings(&mut random);
+        let (mut t, _, sketches) = filled(&mut random, &s, 60);
+        open_all(&mut t);
+        let p = s.pages as usize;
+        for word in &mut t.pages[p..2 * p] {
+            if random.below(2) == 0 {
+                *word ^= (random.next() & random.next()) as u32;
+            }
+        }
+        for _ in 0..8 {
+            let (radius, query) = (random.below(12) as u32, sketches.near(&mut random, 5));
+            let want = wanted(&t, &s, 0, radius, &query, p);
+            assert_eq!(search(&mut t, 0, radius, &query, p), want, "{s:?}");
+            let hits = (0..p).filter(|&page| is_hit(&t.settings, &t.pages, &t.sketches, 0, radius, &query, page)).count();
+            listed += want.1.len();
+            left_out += hits - want.1.len();
+        }
+    }
+    assert!(listed > 5_000 && left_out > 5_000, "{listed} {left_out}");
 }
 
 /// Node x of a chain: its link, byte, state and the link of all its heads.

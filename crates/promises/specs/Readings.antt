@@ -22,7 +22,7 @@ unfoldable pub workingLeft : Tables → Reading → List ℕ
 workingLeft T q = cond (eqb (firstNo (entered T (reading q))) 0) (onto (replicate (workingLength (given T)) 0) (T .working)) (T .working)
 
 -- what a search may list on any tables: pages marked live, open to the reader and within the radius of their rows, once each and
--- rising; `met` says which of them it met
+-- rising; `met` says which of them it met and measured
 unfoldable pub listedOf : (ℕ → Bool) → Tables → ℕ → ℕ → List ℕ → List ℕ
 listedOf met T reader radius x =
     keep (λ p. met p && (isShown T reader p && leb (distance (pageRow T p) x) radius)) (upto (given T .pages))
@@ -40,7 +40,7 @@ earlyNumber T reader radius x = number T [] (reading (search reader radius x (sc
 pub record SearchPromise (T : Tables) (reader radius : ℕ) (x before : List ℕ) (n count : ℕ) (after working : List ℕ) : Type 0 where
   pub early : earlyNumber T reader radius x ≢ 0 → n ≡ earlyNumber T reader radius x
   pub sound : (F : List Tree) → Sound T F → earlyNumber T reader radius x ≡ 0 → Lists (scan T reader radius x) before n count after
-  -- on unsound tables which pages it meets is left open, and it may be refused by 14
+  -- on unsound tables which pages it meets and measures is left open, and it may be refused by 14
   pub open-list : earlyNumber T reader radius x ≡ 0 → (n ≡ 14) ⊎ ((met : ℕ → Bool) × Lists (listedOf met T reader radius x) before n count after)
   pub refused : n ≢ 0 → n ≢ 13 → (count ≡ 0) × (after ≡ before)
   pub working-left : working ≡ workingLeft T (search reader radius x before)
