@@ -6,15 +6,13 @@ use mathlib.Core.List.{List, [], _∷_, map}
 use Prim.Native.Nat.{ℕ}
 use native.Mathlib.Omega.{arith}
 use Rattle.meaning.specs.Lists.{count, from, upto, sum}
-use Rattle.meaning.specs.Sketch.{distance, perByte, packedLength, packByte, packBytes, pack, group, byteDistance, symbolsAt}
+use Rattle.meaning.specs.Sketch.{distance, perByte, packedLength, packByte, packBytes, pack, group, byteDistance}
 use Rattle.words.specs.Bits.{bit}
 use Rattle.layout.specs.Lengths.{pagesLength, sketchesLength}
 use Rattle.layout.specs.Pages.{isLive, classOf, signatureAt, rowOf}
 use Rattle.layout.specs.Signature.{foldedByte, folded, signature}
-use Rattle.rights.specs.declared.Classes.{Classes}
 use Rattle.rights.specs.Open.{isOpen}
 use Rattle.signature.specs.Distance.{signatureDistance}
-use Rattle.layout.specs.declared.Header.{Header}
 use Rattle.hits.specs.declared.Probe.{Probe}
 use Rattle.hits.specs.Hit.{Test, Fitting, isHit, isNear, passes}
 use Rattle.hits.specs.Probes.{probeOf, Prepared, testBy}

@@ -4,14 +4,14 @@ use native.Mathlib.Omega.{arith}
 use mathlib.Core.Path.{_≡_, refl, sym, ap, _∙_}
 use mathlib.Core.Bool.{Bool, true, false, _&&_, and-assoc}
 use mathlib.Core.List.{List}
-use lib.Dec.{leb, eqb}
+use lib.Dec.{eqb}
 use Rattle.meaning.specs.Lists.{any, keep, upto}
-use Rattle.meaning.specs.Sketch.{distance, inRange}
+use Rattle.meaning.specs.Sketch.{inRange}
 use Rattle.words.specs.Bits.{flag}
 use Rattle.words.proofs.Rising.{rising-same}
 use Rattle.marks.specs.Marks.{listOf}
 use Rattle.marks.proofs.Pages.{rising-keep}
-use Rattle.promises.specs.Tables.{Tables, given, pageRow, isShown, scan}
+use Rattle.promises.specs.Tables.{Tables, given, scan}
 use Rattle.promises.specs.Sound.{livePage, SoundPage}
 use Rattle.promises.specs.Readings.{listedOf}
 use Rattle.hits.specs.Hit.{Fitting, nearQuery, passes}

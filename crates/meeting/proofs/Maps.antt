@@ -3,16 +3,16 @@ use Prim.Native.Nat.{ℕ, _+_, _*_, _/_, _<_, _≤_}
 use native.Mathlib.Omega.{arith}
 use native.Mathlib.Nat.{add-zero, zero-add}
 use mathlib.Core.Path.{_≡_, refl, sym, ap, subst, _∙_}
-use mathlib.Core.Bool.{Bool, true, false, cond, _&&_, _||_, or-assoc, or-false}
+use mathlib.Core.Bool.{Bool, true, false, cond, _&&_, _||_, or-false}
 use mathlib.Core.List.{List, [], _∷_, _++_}
 use lib.Dec.{eqb}
-use lib.ListN.{length, drop}
+use lib.ListN.{length}
 use borrow.Author.Tests.{eqb-true}
 use Rattle.meaning.specs.Lists.{any, keep, upto}
 use Rattle.meaning.proofs.Lists.{any-append}
-use Rattle.words.specs.Bits.{rising, flag, zeroed}
+use Rattle.words.specs.Bits.{flag, zeroed}
 use Rattle.words.proofs.Rising.{rising-same, rising-length}
-use Rattle.marks.specs.Marks.{summaryOf, Room, Summarised, marked, fresh, listOf}
+use Rattle.marks.specs.Marks.{summaryOf, Room, marked, fresh, listOf}
 use Rattle.marks.proofs.Marked.{marked-length, marked-behind, marked-flag, marked-count, marked-summarised}
 use Rattle.marks.proofs.Pages.{rising-over, rising-keep}
 use Rattle.meeting.specs.Mets.{Kept, Met}
