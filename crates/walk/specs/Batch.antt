@@ -40,12 +40,17 @@ module _ (w : Given) (stack : List ℕ) where
     pub level : p .depth < length (w .bytes)
     pub few : p .nodes < w .cap
 
-  -- a batch gives the first leaves of what was to come, and a place that it leads to has fewer steps to go
+  -- the place where a walk goes on is in order, and has fewer steps to go than so many
+  abbrev pub Ready : ℕ → Rest → Type 0
+  Ready steps (More p) = Standing p × (p .steps < steps)
+  Ready steps (Done nodes) = Unit {0}
+  Ready steps Broken = Unit {0}
+
+  -- a batch gives the first leaves of what was to come
   pub record Gives (all : Leaves) (steps : ℕ) (r : Batch) : Type 0 where
     pub few : r .n ≤ 16
     pub same : before (linksOf r) (still (r .rest)) ≡ all
-    pub stands : (p : Place) → r .rest ≡ More p → Standing p
-    pub less : (p : Place) → r .rest ≡ More p → p .steps < steps
+    pub ready : Ready steps (r .rest)
 
 -- the first batch, with any stack
 abbrev pub Begins : Given → Leaves → Batch → Type 0
