@@ -14,6 +14,8 @@ pub mod StepWords
 pub mod Ahead
 pub mod AheadOrder
 pub mod Cursors
+pub mod Looks
 pub mod AheadCursor
+pub mod Reach
 pub mod Alike
 pub mod Example
