@@ -1,5 +1,5 @@
 -- An example with two levels: an inner node below the root at distance 1 from the query's first byte, and a leaf below it. So a walk at radius 1
--- goes on from the inner node by an exact descent, and one at radius 2 through its chains.
+-- goes on from the inner node by an exact descent, and one at radius 2 through its children.
 use Prim.Native.Nat.{ℕ, zero, suc, _*_, _^_, _<_}
 use native.Mathlib.Omega.{arith}
 use mathlib.Core.Path.{_≡_, refl, _∙_}
@@ -10,14 +10,14 @@ use Rattle.meaning.specs.Sketch.{perByte, group, byteDistance}
 use Rattle.layout.specs.States.{kindOf}
 use Rattle.children.specs.Cursors.{allOf, lookAt, nextOf, firstFor}
 use Rattle.children.specs.Heap.{Holds}
-use Rattle.children.specs.Phys.{Phys, leafP, innerP, end, bucket, stop, link, cells, noHeads, Sound}
+use Rattle.children.specs.Phys.{Phys, leafP, innerP, noKid, kid, headsFrom, noKids, cells, Sound}
 use Rattle.walk.specs.declared.turn.Move.the-variants.{Leaf, Down}
 use Rattle.walk.specs.Given.{Given, given, exactFrom}
 use Rattle.walk.specs.Leaves.{leaves, broken}
 use Rattle.walk.specs.Turn.{reached, found}
 use Rattle.walk.specs.Walk.{run, walkBelow, walkFrom}
 use Rattle.descent.specs.Cursor.{arrive, advance, descended, drawn, leafOf}
-use Rattle.walk_laws.specs.Near.{near, nearB, nearC}
+use Rattle.walk_laws.specs.Near.{near, nearK}
 use Rattle.walk_laws.specs.Trail.{trailFrom}
 use Rattle.walk_laws.proofs.Fit.{Fit}
 use Rattle.walk_laws.proofs.Leads.{steps-below}
@@ -37,31 +37,23 @@ abbrev w : ℕ → Given
 w y = given nodeTable 3 2 (181 ∷ y ∷ [])
 
 abbrev t₁ : Phys
-t₁ =
-    innerP 1
-    (bucket (link 27 (leafP 2 (7 ∷ [])) stop)
-    (bucket stop (bucket stop (bucket stop (bucket stop (bucket stop (bucket stop (bucket stop end))))))))
+t₁ = innerP 1 (kid 27 (leafP 2 (7 ∷ [])) noKid)
 
 abbrev t : Phys
-t =
-    innerP 0
-    (bucket stop (bucket stop (bucket stop (bucket stop (bucket stop (bucket (link 180 t₁ stop) (bucket stop (bucket stop end))))))))
-
-heads : Holds (noHeads 3 2) nodeTable pageTable
-unfolding noHeads
-heads = (refl, (refl, (refl, (refl, (refl, (refl, (refl, (refl, tt))))))))
+t = innerP 0 (kid 180 t₁ noKid)
 
 holds₁ : Holds (cells 3 16 t₁) nodeTable pageTable
-holds₁ = (refl, ((refl, ((refl, (heads, (refl, tt))), refl)), (refl, (refl, (refl, (refl, (refl, (refl, (refl, tt)))))))))
+unfolding headsFrom
+holds₁ =
+    let bare : Holds (noKids 3 2) nodeTable pageTable = (refl, (refl, (refl, (refl, (refl, (refl, (refl, (refl, tt)))))))) in
+    (refl, ((refl, (refl, (refl, (refl, (refl, (refl, (refl, (refl, tt)))))))), (refl, ((refl, (bare, (refl, tt))), tt))))
 
 holds : Holds (cells 3 16 t) nodeTable pageTable
-holds = (refl, (refl, (refl, (refl, (refl, (refl, ((refl, (holds₁, refl)), (refl, (refl, tt)))))))))
-
-sound₁ : Sound 3 8 t₁
-sound₁ = (omega arith, ((omega arith, omega arith, (omega arith, (omega arith, tt)), tt), (tt, (tt, (tt, (tt, (tt, (tt, (tt, refl)))))))))
+unfolding headsFrom
+holds = (refl, ((refl, (refl, (refl, (refl, (refl, (refl, (refl, (refl, tt)))))))), (refl, (holds₁, tt))))
 
 sound : Sound 3 8 t
-sound = (omega arith, (tt, (tt, (tt, (tt, (tt, ((omega arith, omega arith, sound₁, tt), (tt, (tt, refl)))))))))
+sound = search arith
 
 query : (y : ℕ) → y < 256 → (k : ℕ) → getD (w y .bytes) k 0 < 2 ^ (2 * perByte 2)
 unfolding perByte
@@ -69,13 +61,9 @@ query y l zero = omega arith
 query y l (suc zero) = omega arith
 query y l (suc (suc k)) = omega arith
 
-fits₁ : Fit 2 2 t₁ 1
-unfolding perByte
-fits₁ = (omega arith, ((omega arith, tt, tt), (tt, (tt, (tt, (tt, (tt, (tt, (tt, tt)))))))))
-
 fits : Fit 2 2 t 0
 unfolding perByte
-fits = (omega arith, (tt, (tt, (tt, (tt, (tt, ((omega arith, fits₁, tt), (tt, (tt, tt)))))))))
+fits = (omega arith, (omega arith, (omega arith, (omega arith, tt, tt)), tt))
 
 -- ---- the leaves: two nodes are behind the root, and a walk reads both
 pub deeper : WalkRight (w 27) 16 8 pageTable t 1 2
@@ -94,18 +82,18 @@ pub deeper-two : walkFrom (w 26) 0 2 2 ≡ leaves (8 ∷ []) 0
 unfolding walkFrom walkBelow run found reached kindOf allOf nextOf lookAt arrive firstFor advance descended drawn leafOf byteDistance count upto from perByte group
 deeper-two = refl
 
--- with one node alone an exact descent below the first stops, and so does a walk through its chains
+-- with one node alone an exact descent below the first stops, and so does a walk through its children
 pub deeper-short : (walkFrom (w 27) 0 1 1 ≡ broken) × (walkFrom (w 27) 0 2 1 ≡ broken)
 unfolding walkFrom walkBelow run found reached kindOf allOf nextOf lookAt arrive firstFor advance descended drawn leafOf byteDistance count upto from perByte group
 deeper-short = (refl, refl)
 
 -- ---- the nodes
 near-one : near 2 1 t (181 ∷ 27 ∷ []) ≡ 0 ∷ 1 ∷ 2 ∷ []
-unfolding near nearB nearC byteDistance count upto from perByte group
+unfolding near nearK byteDistance count upto from perByte group
 near-one = refl
 
 near-off : near 2 1 t (181 ∷ 26 ∷ []) ≡ 0 ∷ 1 ∷ []
-unfolding near nearB nearC byteDistance count upto from perByte group
+unfolding near nearK byteDistance count upto from perByte group
 near-off = refl
 
 pub deeper-trail : trailFrom (w 27) 0 1 ≡ 0 ∷ 1 ∷ 2 ∷ []

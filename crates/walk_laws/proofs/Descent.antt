@@ -1,5 +1,5 @@
 -- An exact descent from one cursor on: that it ends, with which link, the nodes it goes to, and how many it reads; and its single steps.
-use Prim.Native.Nat.{ℕ, zero, suc, _+_, _-_, _≤_, _<_}
+use Prim.Native.Nat.{ℕ, zero, suc, _+_, _≤_, _<_}
 use native.Mathlib.Omega.{arith}
 use mathlib.Core.Path.{_≡_, refl, sym, ap, _∙_, subst}
 use mathlib.Core.Logic.{_≢_}
@@ -107,7 +107,7 @@ module _ (nodes : List ℕ) (cap : ℕ) (bytes : List ℕ) where
     unfolding reached
     there e = rw (ne-eqb (x + 1) 0 some, saw, here, eq-eqb c y e)
 
-    -- on along the chain
+    -- past it
     pub led-less : (leaf cost : ℕ) (xs : List ℕ) → c < y → Led (ahead l at last) leaf cost xs → Led at-child leaf (suc cost) xs
     led-less leaf cost xs m led =
         led-step at-child (ahead l at last) leaf cost [] xs

@@ -10,13 +10,13 @@ use Rattle.meaning.specs.Trie.{met, metIn}
 use Rattle.layout.specs.States.{kindOf}
 use Rattle.children.specs.Cursors.{allOf, lookAt, nextOf, firstFor}
 use Rattle.children.specs.Heap.{Holds}
-use Rattle.children.specs.Phys.{Phys, leafP, innerP, end, bucket, stop, link, first, tree, cells, noHeads, Sound}
+use Rattle.children.specs.Phys.{Phys, leafP, innerP, noKid, kid, first, tree, headsFrom, noKids, cells, Sound}
 use Rattle.walk.specs.Given.{Given, given}
 use Rattle.walk.specs.Leaves.{leaves, broken}
 use Rattle.walk.specs.Turn.{reached, found}
 use Rattle.walk.specs.Walk.{run, walkBelow, walkFrom}
 use Rattle.descent.specs.Cursor.{arrive, advance, descended, drawn, leafOf}
-use Rattle.walk_laws.specs.Near.{near, nearB, nearC, nearNodes, nearNodesIn, pathsIn, pathsAmong}
+use Rattle.walk_laws.specs.Near.{near, nearK, nearNodes, nearNodesIn, pathsIn, pathsAmong}
 use Rattle.walk_laws.specs.Trail.{trailFrom, exactTrail}
 use Rattle.walk_laws.proofs.Fit.{Fit}
 use Rattle.walk_laws.proofs.Leads.{steps-below}
@@ -38,25 +38,22 @@ abbrev w : Given
 w = given nodeTable 3 2 (228 ∷ [])
 
 abbrev t : Phys
-t =
-    innerP 0
-    (bucket stop
-    (bucket stop
-    (bucket stop
-    (bucket stop
-    (bucket stop (bucket (link 180 (leafP 1 (2 ∷ [])) stop) (bucket stop (bucket (link 228 (leafP 2 (7 ∷ [])) stop) end))))))))
-
-heads : Holds (noHeads 3 1) nodeTable pageTable × Holds (noHeads 3 2) nodeTable pageTable
-unfolding noHeads
-heads = ((refl, (refl, (refl, (refl, (refl, (refl, (refl, (refl, tt)))))))), (refl, (refl, (refl, (refl, (refl, (refl, (refl, (refl, tt)))))))))
+t = innerP 0 (kid 180 (leafP 1 (2 ∷ [])) (kid 228 (leafP 2 (7 ∷ [])) noKid))
 
 holds : Holds (cells 3 16 t) nodeTable pageTable
+unfolding headsFrom
 holds =
-    (refl, (refl, (refl, (refl, (refl, (refl, ((refl, ((refl, (heads .0, (refl, tt))), refl)), (refl, ((refl, ((refl, (heads .1, (refl, tt))), refl)), tt)))))))))
+    let bare₁ : Holds (noKids 3 1) nodeTable pageTable = (refl, (refl, (refl, (refl, (refl, (refl, (refl, (refl, tt)))))))) in
+    let bare₂ : Holds (noKids 3 2) nodeTable pageTable = (refl, (refl, (refl, (refl, (refl, (refl, (refl, (refl, tt)))))))) in (
+      refl,
+      (
+        (refl, (refl, (refl, (refl, (refl, (refl, (refl, (refl, tt)))))))),
+        (refl, ((refl, (bare₁, (refl, tt))), (refl, ((refl, (bare₂, (refl, tt))), tt)))),
+      ),
+    )
 
 sound : Sound 3 8 t
-sound =
-    (omega arith, (tt, (tt, (tt, (tt, (tt, ((omega arith, omega arith, (omega arith, (omega arith, tt)), tt), (tt, ((omega arith, omega arith, (omega arith, (omega arith, tt)), tt), refl)))))))))
+sound = search arith
 
 query : (k : ℕ) → getD (w .bytes) k 0 < 2 ^ (2 * perByte 2)
 unfolding perByte
@@ -65,7 +62,7 @@ query (suc k) = omega arith
 
 fits : Fit 2 1 t 0
 unfolding perByte
-fits = (omega arith, (tt, (tt, (tt, (tt, (tt, ((omega arith, tt, tt), (tt, ((omega arith, tt, tt), tt)))))))))
+fits = (omega arith, (omega arith, tt, (omega arith, tt, tt)))
 
 -- both pages within 2 of 228, the second alone within 1
 met-two : met 2 2 (tree t) (228 ∷ []) ≡ 2 ∷ 7 ∷ []
@@ -95,11 +92,11 @@ example-short = refl
 
 -- ---- the nodes gone through: the root and both leaves within 2, without the first leaf within 1
 near-two : near 2 2 t (228 ∷ []) ≡ 0 ∷ 1 ∷ 2 ∷ []
-unfolding near nearB nearC byteDistance count upto from perByte group
+unfolding near nearK byteDistance count upto from perByte group
 near-two = refl
 
 near-one : near 2 1 t (228 ∷ []) ≡ 0 ∷ 2 ∷ []
-unfolding near nearB nearC byteDistance count upto from perByte group
+unfolding near nearK byteDistance count upto from perByte group
 near-one = refl
 
 pub example-trail : trailFrom w 0 2 ≡ 0 ∷ 1 ∷ 2 ∷ []
@@ -138,7 +135,7 @@ unfolding met metIn byteDistance count upto from perByte group
 met-none = refl
 
 near-none : near 2 0 t (228 ∷ []) ≡ 0 ∷ 2 ∷ []
-unfolding near nearB nearC byteDistance count upto from perByte group
+unfolding near nearK byteDistance count upto from perByte group
 near-none = refl
 
 pub example-exact : leafLink 228 ≡ 8

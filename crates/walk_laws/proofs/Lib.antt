@@ -1,13 +1,14 @@
 pub mod Apart
-pub mod Chains
 pub mod Descent
 pub mod Fit
 pub mod Spelt
 pub mod Leads
 pub mod Near
 pub mod Lists
+pub mod Found
 pub mod Ran
 pub mod Exact
+pub mod Pages
 pub mod Right
 pub mod Walk
 pub mod Left

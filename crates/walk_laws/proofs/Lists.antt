@@ -8,7 +8,6 @@ use lib.Dec.{leb, eqb}
 use borrow.Author.Tests.{eq-eqb, ne-eqb}
 use Rattle.meaning.specs.Sketch.{byteDistance}
 use Rattle.meaning.specs.Trie.{Tree, leaf, inner, Children, none, child, met, metIn}
-use Rattle.children.specs.Phys.{Chain, stop, link, tree, childrenC}
 use Rattle.walk_laws.specs.Held.{Held}
 
 unfoldable mutual
@@ -62,16 +61,6 @@ module _ (b : ℕ) where
   pub lists-some : (cs : Children) (r : ℕ) (ys : List ℕ) → (r ≡ 0 → ⊥) → lists b r (inner cs) ys ≡ listsIn b r cs ys
   unfolding lists
   lists-some cs r ys n = rw (ne-eqb r 0 n)
-
-  -- in a chain, and in the chains after it
-  pub lists-chain : (r y : ℕ) (ys : List ℕ) (ch : Chain) (cs : Children)
-      → listsIn b r (childrenC ch cs) (y ∷ ys) ≡ listsIn b r (childrenC ch none) (y ∷ ys) ++ listsIn b r cs (y ∷ ys)
-  unfolding listsIn
-  lists-chain r y ys stop cs = refl
-  lists-chain r y ys (link c t ch) cs =
-      let here : List (List ℕ) = cond (leb (byteDistance b (bitXor c y)) r) (lists b (r - byteDistance b (bitXor c y)) (tree t) ys) [] in
-      ap (λ ps. here ++ ps) (lists-chain r y ys ch cs)
-      ∙ sym (append-assoc here (listsIn b r (childrenC ch none) (y ∷ ys)) (listsIn b r cs (y ∷ ys)))
 
 -- ---- they lie in the tables
 module _ (base pcap : ℕ) (N P : List ℕ) where

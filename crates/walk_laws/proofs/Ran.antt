@@ -1,5 +1,5 @@
 -- The machine of a walk from one state to another: the steps and the nodes that it costs, the leaves it gives, the nodes it goes to; and its single steps.
-use Prim.Native.Nat.{ℕ, _+_, _-_, _≤_, _<_}
+use Prim.Native.Nat.{ℕ, zero, suc, _+_, _-_, _≤_, _<_}
 use native.Mathlib.Omega.{arith}
 use mathlib.Core.Path.{_≡_, refl, sym, ap, ap₂, _∙_}
 use mathlib.Core.List.{List, [], _∷_, _++_, append-assoc}
@@ -9,6 +9,8 @@ use Rattle.meaning.proofs.Stacks.{suc-pred}
 use Rattle.layout.specs.Nodes.{stepsFor}
 use Rattle.layout.specs.States.{kindOf}
 use Rattle.layout.specs.declared.nodes.Kind.the-variants as kind
+use Rattle.children.specs.declared.cursor.Cursor.{Cursor as Place}
+use Rattle.children.proofs.Reach.{Over}
 use Rattle.descent.specs.declared.Cursor.{Cursor}
 use Rattle.walk.specs.declared.frame.Frame.{Frame}
 use Rattle.walk.specs.declared.turn.Move.{Move}
@@ -19,6 +21,7 @@ use Rattle.walk.specs.Turn.{entered, atChain, atLink, found, reads}
 use Rattle.walk.specs.Walk.{State, state, follow, run}
 use Rattle.walk.proofs.Spend.{before-none, before-both, spend-paid}
 use Rattle.walk.proofs.Run.{run-by}
+use Rattle.walk_laws.proofs.Found.{found-chain}
 use Rattle.walk_laws.specs.Trail.{exactAfter, goes, trace, trail, trailBelow, trailAs, trailFrom}
 
 -- ---- from state to state, in f steps and n nodes
@@ -161,6 +164,20 @@ module _ (w : Given) (f n : ℕ) (some : 0 < f) (frame : Frame) where
 
   pub trail-end : found w 0 frame ≡ move.Up → trail w f (state frame []) ≡ []
   trail-end e = trail-by w f n some frame [] move.Up e
+
+-- ---- over to where a cursor finds a child, or the end
+-- a frame at another cursor
+abbrev pub placed : Frame → Place → Frame
+placed frame c = record { cursor = c; radius = frame .radius }
+
+pub ran-over : (w : Given) (k f n : ℕ) (frame : Frame) (stack : List Frame) (c : Place) → k ≤ f → Over (w .nodes) (w .cap) k (frame .cursor) c
+    → Ran w f n (state frame stack) (state (placed frame c) stack) k 0 [] []
+ran-over w zero f n frame stack c l e = ran-to (ap (λ d. state (placed frame d) stack) e) ran-none
+ran-over w (suc k) f n frame stack c l o =
+    let at : ℕ = frame .cursor .at + 1 in
+    let one = step-chain w f n (omega arith) frame stack at (o .0) (found-chain w (length stack) frame at (o .0) (o .1)) in
+    ran-within {c = 1 + k} {d = 0 + 0} (omega arith) (omega arith)
+    (ran-then one (ran-over w k (one .rest) (one .over) (atChain frame at (o .0)) stack c (omega (arith, one .enough)) (o .2)))
 
 -- ---- from a root, by what it is
 module _ (w : Given) (root radius : ℕ) where

@@ -10,11 +10,11 @@ use lib.ListN.{length, getD}
 use lib.Bits.{bitXor}
 use Rattle.meaning.specs.Lists.{all, count}
 use Rattle.meaning.specs.Sketch.{perByte, byteDistance}
-use Rattle.meaning.specs.Trie.{Children, met, metIn, nodes}
+use Rattle.meaning.specs.Trie.{met, metIn, nodes}
 use Rattle.meaning.proofs.Lists.{all-append, and-intro}
 use Rattle.layout.specs.Nodes.{mostNodes}
 use Rattle.children.specs.Heap.{Holds}
-use Rattle.children.specs.Phys.{Phys, leafP, innerP, Buckets, end, bucket, Chain, stop, link, root, tree, childrenB, childrenC, cells, Sound, SoundB, SoundC}
+use Rattle.children.specs.Phys.{Phys, Kids, leafP, innerP, noKid, kid, root, tree, childrenOf, cells, Sound, SoundK}
 use Rattle.children.proofs.Claims.{below-all}
 use Rattle.trie_laws.specs.Sound.{soundTrie}
 use Rattle.walk.specs.Given.{Given}
@@ -33,14 +33,14 @@ module _ (w : Given) (base pcap : ℕ) (P : List ℕ) (bytesOf : ℕ → List �
   pub walk-right : (budget : ℕ) → nodes (tree t) ≤ budget + 1 → WalkRight w base pcap P t radius budget
   walk-right budget lasts =
       right w P pcap base small query t radius h s (fit bytesOf (w .b) n (length (w .bytes)) t 0 sound) (omega (arith, steps-below t))
-      (omega (arith, steps-nodes (w .cap) pcap t s)) budget lasts
+      (omega (arith, steps-nodes t)) budget lasts
 
   -- ---- the nodes it goes through there
   -- those of `near`, in order
   pub walk-trail : trailFrom w (root t) radius ≡ near (w .b) radius t (w .bytes)
   walk-trail =
       right-trail w P pcap base small query t radius h s (fit bytesOf (w .b) n (length (w .bytes)) t 0 sound) (omega (arith, steps-below t))
-      (omega (arith, steps-nodes (w .cap) pcap t s))
+      (omega (arith, steps-nodes t))
 
   pub walk-count : length (trailFrom w (root t) radius) ≡ nearNodes (w .b) radius (tree t) (w .bytes)
   walk-count = ap length walk-trail ∙ near-count (w .b) t radius (w .bytes)
@@ -81,19 +81,12 @@ module _ (cap pcap b : ℕ) where
 
     pub met-small : (t : Phys) (r : ℕ) (ys : List ℕ) → Sound cap pcap t → small (met b r (tree t) ys) ≡ true
     met-small (leafP x ps) r ys s = below-all pcap ps (s .1)
-    met-small (innerP x bs) r ys s = met-small-buckets bs r ys 0 (s .1)
+    met-small (innerP x ks) r ys s = met-small-kids ks r ys 0 (s .1)
 
-    met-small-buckets : (bs : Buckets) (r : ℕ) (ys : List ℕ) (g : ℕ) → SoundB cap pcap bs g → small (metIn b r (childrenB bs) ys) ≡ true
-    met-small-buckets end r ys g s = refl
-    met-small-buckets (bucket ch bs) r ys g s =
-        met-small-chain ch r ys (childrenB bs) (32 * g) (32 * g + 32) (s .0) (met-small-buckets bs r ys (suc g) (s .1))
-
-    met-small-chain : (ch : Chain) (r : ℕ) (ys : List ℕ) (cs : Children) (lo hi : ℕ) → SoundC cap pcap ch lo hi → small (metIn b r cs ys) ≡ true
-        → small (metIn b r (childrenC ch cs) ys) ≡ true
-    met-small-chain stop r ys cs lo hi s h = h
-    met-small-chain (link c t ch) r [] cs lo hi s h = refl
-    met-small-chain (link c t ch) r (y ∷ ys) cs lo hi s h =
-        both-small (cond (leb (byteDistance b (bitXor c y)) r) (met b (r - byteDistance b (bitXor c y)) (tree t) ys) []) (metIn b r (childrenC ch cs) (y ∷ ys))
-        (cond-small (leb (byteDistance b (bitXor c y)) r) (met b (r - byteDistance b (bitXor c y)) (tree t) ys)
-        (met-small t (r - byteDistance b (bitXor c y)) ys (s .2)))
-        (met-small-chain ch r (y ∷ ys) cs (suc c) hi (s .3) h)
+    met-small-kids : (ks : Kids) (r : ℕ) (ys : List ℕ) (lo : ℕ) → SoundK cap pcap ks lo → small (metIn b r (childrenOf ks) ys) ≡ true
+    met-small-kids noKid r ys lo s = refl
+    met-small-kids (kid c t ks) r [] lo s = refl
+    met-small-kids (kid c t ks) r (y ∷ ys) lo s =
+        let d : ℕ = byteDistance b (bitXor c y) in
+        both-small (cond (leb d r) (met b (r - d) (tree t) ys) []) (metIn b r (childrenOf ks) (y ∷ ys))
+        (cond-small (leb d r) (met b (r - d) (tree t) ys) (met-small t (r - d) ys (s .2))) (met-small-kids ks r (y ∷ ys) (suc c) (s .3))
