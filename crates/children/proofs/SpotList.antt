@@ -67,12 +67,18 @@ module _ (cap pcap base : ℕ) (small : cap ≤ mostNodes) where
   kids-above noKid b h = tt
   kids-above (kid c t ks) b h = h .0
 
-  -- The word of a slot that links to the first of some children in chain g
+  -- the word of a slot that links to the first of some children in chain g
   slot-link : (N : List ℕ) (ks : Kids) (s y lo g : ℕ) → SoundK cap pcap ks lo → getD N s 0 ≡ chainWord y (firstIn ks g) → linkAt N s ≡ firstIn ks g
   slot-link N ks s y lo g h e = omega (arith, link-below cap pcap ks lo g h)
 
   slot-byte : (N : List ℕ) (ks : Kids) (s y lo g : ℕ) → SoundK cap pcap ks lo → getD N s 0 ≡ chainWord y (firstIn ks g) → byteOf (getD N s 0) ≡ y
   slot-byte N ks s y lo g h e = omega (arith, link-below cap pcap ks lo g h)
+
+  -- a walk from slot s over fewer than f links finds x at slot r; no byte of the chain is below m
+  abbrev Finds : Kids → ℕ → ℕ → ℕ → ℕ → Held → ℕ → Type 0
+  Finds ks b s y lo x r =
+      (N P : List ℕ) (f m : ℕ) → ((c : ℕ) → lo ≤ c → c / 32 ≡ b / 32 → m ≤ c) → m ≤ b → b < m + f → getD N s 0 ≡ chainWord y (firstIn ks (b / 32)) →
+      Holds (linkedCells cap base ks) N P → placeFrom N cap b s f ≡ answer x r
 
   -- among children with bytes from lo on: slot s has the byte y, and links to the first of them in the chain of b
   pub record SpotL (ks : Kids) (b s y lo : ℕ) : Type 0 where
@@ -90,16 +96,10 @@ module _ (cap pcap base : ℕ) (small : cap ≤ mostNodes) where
     pub soundThere : SoundH cap pcap there
     pub sound : (x : Held) → SoundH cap pcap x → SoundK cap pcap (put x) lo
     pub around : Around b put
-    pub find : (N P : List ℕ) (f m : ℕ) → ((c : ℕ) → lo ≤ c → c / 32 ≡ b / 32 → m ≤ c) → m ≤ b → b < m + f → getD N s 0 ≡ chainWord y (firstIn ks (b / 32)) →
-        Holds (linkedCells cap base ks) N P → placeFrom N cap b s f ≡ answer there slot
-
-  abbrev Finds : Kids → ℕ → ℕ → ℕ → ℕ → Held → Type 0
-  Finds ks b s y lo x =
-      (N P : List ℕ) (f m : ℕ) → ((c : ℕ) → lo ≤ c → c / 32 ≡ b / 32 → m ≤ c) → m ≤ b → b < m + f → getD N s 0 ≡ chainWord y (firstIn ks (b / 32)) →
-      Holds (linkedCells cap base ks) N P → placeFrom N cap b s f ≡ answer x s
+    pub find : Finds ks b s y lo there slot
 
   -- before the first child
-  here : (x : Held) (after : Kids) (b s y lo : ℕ) → lo ≤ b → b < 256 → SoundH cap pcap x → SoundK cap pcap after (suc b) → Finds (entry b x after) b s y lo x → SpotL (entry b x after) b s y lo
+  here : (x : Held) (after : Kids) (b s y lo : ℕ) → lo ≤ b → b < 256 → SoundH cap pcap x → SoundK cap pcap after (suc b) → Finds (entry b x after) b s y lo x s → SpotL (entry b x after) b s y lo
   here x after b s y lo l m z g f =
       record {
         there = x;
@@ -141,11 +141,12 @@ module _ (cap pcap base : ℕ) (small : cap ≤ mostNodes) where
       sound-here gap h = lower cap pcap after lo (suc b) (omega arith) g
       sound-here (held u) h = (l, m, h, g)
 
-  -- past a child with a lower byte, in the chain of b
+  -- past a child with a lower byte
   module _ (c : ℕ) (t : Phys) (ks : Kids) (b s y lo : ℕ) (k : c < b) (g : SoundK cap pcap (kid c t ks) lo) where
     word-of : (N P : List ℕ) → Holds (linkedCells cap base (kid c t ks)) N P → byteOf (getD N (root t) 0) ≡ c
     word-of N P h = slot-byte N ks (root t) c (suc c) (c / 32) (g .3) (h .0)
 
+    -- in the chain of b
     past-here : c / 32 ≡ b / 32 → SpotL ks b (root t) c (suc c) → SpotL (kid c t ks) b s y lo
     past-here e r =
         record {
@@ -182,7 +183,7 @@ module _ (cap pcap base : ℕ) (small : cap ≤ mostNodes) where
               let d : linkAt N s - 1 ≡ root t = omega arith in
               let q : byteOf (getD N (root t) 0) ≡ c = word-of N P h in
               let u = root-below cap pcap t (g .2) in
-              let z' = low c (g .0) e in
+              let n = low c (g .0) e in
               let z = place-go N cap b s f _ refl (omega arith) (omega arith) (omega arith) (rw (d, q) k) in
               sym z ∙ rw d (r .find N P (f - 1) (suc c) (λ c' l' e'. l') k (omega arith) (rw e at (h .0)) (h .1 .1));
         }
@@ -228,32 +229,32 @@ module _ (cap pcap base : ℕ) (small : cap ≤ mostNodes) where
         others-past xs ys h e = rw e refl
 
   -- no child in the chain from here on
-  ends : (ks : Kids) (b s y lo : ℕ) → SoundK cap pcap ks lo → firstIn ks (b / 32) ≡ 0 → Finds ks b s y lo gap
+  ends : (ks : Kids) (b s y lo : ℕ) → SoundK cap pcap ks lo → firstIn ks (b / 32) ≡ 0 → Finds ks b s y lo gap s
   ends ks b s y lo g e N P f m low o j w h = sym (place-none N cap b s f _ refl (omega arith) (slot-link N ks s y lo (b / 32) g w ∙ e))
 
   -- the child at the byte's place, or one behind it in its chain
   module _ (c : ℕ) (t : Phys) (ks : Kids) (b s y lo : ℕ) (g : SoundK cap pcap (kid c t ks) lo) (e : c / 32 ≡ b / 32) (l : b ≤ c) where
-    at-child : (N P : List ℕ) (f m : ℕ) → m ≤ b → b < m + f → getD N s 0 ≡ chainWord y (firstIn (kid c t ks) (b / 32)) →
+    at-child : (N P : List ℕ) → getD N s 0 ≡ chainWord y (firstIn (kid c t ks) (b / 32)) →
         Holds (linkedCells cap base (kid c t ks)) N P → (linkAt N s ≡ root t + 1) × (byteOf (getD N (root t) 0) ≡ c)
-    at-child N P f m o j w h = (slot-link N (kid c t ks) s y lo (b / 32) g w ∙ first-here c t ks (b / 32) e, slot-byte N ks (root t) c (suc c) (c / 32) (g .3) (h .0))
+    at-child N P w h = (slot-link N (kid c t ks) s y lo (b / 32) g w ∙ first-here c t ks (b / 32) e, slot-byte N ks (root t) c (suc c) (c / 32) (g .3) (h .0))
 
-    found-here : c ≡ b → Finds (kid c t ks) b s y lo (held t)
+    found-here : c ≡ b → Finds (kid c t ks) b s y lo (held t) s
     found-here q N P f m low o j w h =
-        let a = at-child N P f m o j w h in
+        let a = at-child N P w h in
         let v : linkAt N s ≡ root t + 1 = a .0 in
         let d : linkAt N s - 1 ≡ root t = omega arith in
         let u = root-below cap pcap t (g .2) in
         sym (place-found N cap b s f _ refl (omega arith) (omega arith) (omega arith) (rw (d, a .1) l) (rw (d, a .1) q)) ∙ rw d refl
 
-    behind-here : (c ≡ b → ⊥) → Finds (kid c t ks) b s y lo gap
+    behind-here : (c ≡ b → ⊥) → Finds (kid c t ks) b s y lo gap s
     behind-here q N P f m low o j w h =
-        let a = at-child N P f m o j w h in
+        let a = at-child N P w h in
         let v : linkAt N s ≡ root t + 1 = a .0 in
         let d : linkAt N s - 1 ≡ root t = omega arith in
         let u = root-below cap pcap t (g .2) in
         sym (place-past N cap b s f _ refl (omega arith) (omega arith) (omega arith) (rw (d, a .1) l) (rw (d, a .1) q))
 
-  stops : (c : ℕ) (t : Phys) (ks : Kids) (b s y lo : ℕ) → SoundK cap pcap (kid c t ks) lo → b < c → Finds (kid c t ks) b s y lo gap
+  stops : (c : ℕ) (t : Phys) (ks : Kids) (b s y lo : ℕ) → SoundK cap pcap (kid c t ks) lo → b < c → Finds (kid c t ks) b s y lo gap s
   stops c t ks b s y lo g l = elim (truth (eqb (c / 32) (b / 32))) [
     | holds e ↦ behind-here c t ks b s y lo g (eqb-true (c / 32) (b / 32) e) (omega arith) (omega arith)
     | fails e ↦
