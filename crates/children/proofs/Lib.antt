@@ -5,6 +5,8 @@ pub mod Steps
 pub mod Places
 pub mod Kids
 pub mod Claims
+pub mod Held
+pub mod SpotList
 pub mod Spot
 pub mod Spots
 pub mod Joins
