@@ -36,7 +36,7 @@ module _ (w : Given) (P : List ℕ) (pcap base : ℕ) (small : w .cap ≤ mostNo
       tree-leads (w .nodes) P (w .cap) pcap base (w .b) (length (w .bytes)) (w .bytes) (length (w .bytes) - 1) small t ys k k h s u
       (omega (arith, length-drop k (w .bytes))) (spelt-drop (w .b) (w .bytes) query k)
 
-  -- their chain lies in the page table
+  -- their links lie in the page table
   pub exact-held : Holds (pageCells base pages) (w .nodes) P
   exact-held = leads .held
 

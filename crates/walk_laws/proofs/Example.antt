@@ -114,7 +114,7 @@ most : nearNodes 2 0 (tree t) (228 ∷ []) ≡ 1 + 1
 unfolding nearNodes nearNodesIn byteDistance count upto from perByte group
 most = refl
 
--- ---- exact descents: to the leaf of page 7; to none for a byte before or behind the only child of its chain
+-- ---- exact descents: to the leaf of page 7; to none for the bytes beside 228
 abbrev leafLink : ℕ → ℕ
 leafLink y = leafOf (descended nodeTable 3 (y ∷ []) 3 (arrive nodeTable 3 (y ∷ []) 0 0 0))
 

@@ -9,6 +9,7 @@ pub mod Found
 pub mod Ran
 pub mod Exact
 pub mod Pages
+pub mod Through
 pub mod Right
 pub mod Walk
 pub mod Left

@@ -23,7 +23,8 @@ use Rattle.walk_laws.specs.Trail.{trailFrom}
 use Rattle.walk_laws.proofs.Fit.{fit}
 use Rattle.walk_laws.proofs.Leads.{steps-below}
 use Rattle.walk_laws.proofs.Near.{near-count, near-le, near-path, near-zero}
-use Rattle.walk_laws.proofs.Right.{WalkRight, right, right-trail, steps-nodes}
+use Rattle.walk_laws.proofs.Through.{steps-nodes}
+use Rattle.walk_laws.proofs.Right.{WalkRight, right, right-trail}
 
 -- ---- on tables that hold a sound trie
 module _ (w : Given) (base pcap : ℕ) (P : List ℕ) (bytesOf : ℕ → List ℕ) (n : ℕ) (t : Phys) (radius : ℕ) (small : w .cap ≤ mostNodes)
