@@ -7,11 +7,10 @@ use mathlib.Core.List.{List}
 use borrow.Author.Tests.{eqb-true, eqb-false}
 use lib.Dec.{eqb}
 use lib.ListN.{getD}
-use Rattle.layout.specs.Nodes.{linkOf, chainWord, headAt, linkBase, mostNodes}
+use Rattle.layout.specs.Nodes.{chainWord, headAt, mostNodes}
 use Rattle.children.specs.Heap.{Holds}
-use Rattle.children.specs.Places.{linkAt}
 use Rattle.children.specs.Cursors.{firstFor}
-use Rattle.children.specs.Phys.{Phys, Kids, noKid, kid, root, firstIn, cells, linkedCells, kidCells, Sound, SoundK}
+use Rattle.children.specs.Phys.{Phys, Kids, kid, root, firstIn, cells, linkedCells, kidCells, Sound, SoundK}
 use Rattle.trie_laws.proofs.Lists.{holds, fails, truth}
 use Rattle.children.proofs.Kids.{first-here, first-other, root-below, link-below, none-below, past-chain, head-held}
 

@@ -6,20 +6,26 @@ use mathlib.Core.List.{List}
 use borrow.Author.Tests.{eqb-true, eqb-false}
 use lib.Dec.{eqb}
 use lib.ListN.{getD}
-use Rattle.layout.specs.Nodes.{linkOf, byteOf, headAt, mostNodes}
+use Rattle.layout.specs.Nodes.{linkOf, headAt, mostNodes}
 use Rattle.children.specs.declared.cursor.Cursor.{Cursor}
+use Rattle.children.specs.declared.cursor.Seen.the-variants as seen
 use Rattle.children.specs.declared.cursor.Next.the-variants.{Child, Chain, End}
 use Rattle.children.specs.Heap.{Holds}
-use Rattle.children.specs.Cursors.{allOf, nextOf}
+use Rattle.children.specs.Cursors.{allOf, lookAt, nextOf}
 use Rattle.children.specs.Phys.{Phys, Kids, noKid, kid, root, firstIn, cells, kidCells, Sound, SoundK}
 use Rattle.trie_laws.proofs.Lists.{holds, fails, truth}
 use Rattle.children.proofs.Kids.{link-below, head-held}
-use Rattle.children.proofs.Cursors.{step-child, step-end, step-chain}
+use Rattle.children.proofs.Cursors.{step-along, step-end, step-chain}
 use Rattle.children.proofs.Ahead.{Ahead, ahead-all, ahead-chain, ahead-more, ahead-kid}
+use Rattle.children.proofs.Looks.{look-there}
 
 -- the steps to other chains that a cursor may still make: 7 in all for a node
 abbrev pub chainsLeft : Cursor → ℕ
 chainsLeft c = c .last - c .at
+
+-- a cursor at another place of the same node
+abbrev pub moved : Cursor → ℕ → ℕ → Cursor
+moved c at link = record { at = at; last = c .last; link = link }
 
 module _ (cap pcap base : ℕ) (small : cap ≤ mostNodes) (N P : List ℕ) where
   -- the children that are still to come for a cursor
@@ -43,14 +49,10 @@ module _ (cap pcap base : ℕ) (small : cap ≤ mostNodes) (N P : List ℕ) wher
   unfolding allOf
   all-chains x = omega arith
 
-  -- a cursor at another place of the same node
-  abbrev pub moved : Cursor → ℕ → ℕ → Cursor
-  moved c at link = record { at = at; last = c .last; link = link }
-
   -- where a child is to come: to the next chain, or to the child
   pub data NextKid (c : Cursor) (b : ℕ) (t : Phys) (ks : Kids) : Type 0 where
     toChain : (l : ℕ) → 0 < chainsLeft c → nextOf N cap c ≡ Chain (c .at + 1) l → AheadC (moved c (c .at + 1) l) (kid b t ks) → NextKid c b t ks
-    toKid : (l : ℕ) → nextOf N cap c ≡ Child (root t) b l → Holds (cells cap base t) N P → Sound cap pcap t → AheadC (moved c (c .at) l) ks → NextKid c b t ks
+    toKid : (l : ℕ) → c .link ≡ root t + 1 → nextOf N cap c ≡ Child (root t) b l → Holds (cells cap base t) N P → Sound cap pcap t → AheadC (moved c (c .at) l) ks → NextKid c b t ks
 
   -- where none is: to the next chain, or to the end
   pub data NextEnd (c : Cursor) : Type 0 where
@@ -87,11 +89,9 @@ module _ (cap pcap base : ℕ) (small : cap ≤ mostNodes) (N P : List ℕ) wher
       | fails q ↦
           let some : c .link ≡ 0 → ⊥ = eqb-false (c .link) 0 q in
           let k = ahead-kid cap pcap base N P (a .ahead) some in
-          let x : c .link - 1 ≡ root t = omega (arith, k .at) in
-          let byte : b ≡ byteOf (getD N (c .link - 1) 0) = rw x (omega (arith, k .word, k .short)) in
-          let next : k .next ≡ linkOf (getD N (c .link - 1) 0) = rw x (omega (arith, k .word, k .short)) in
-          toKid (k .next)
-          (sym (step-child N cap c some (omega (arith, k .inside)) b (k .next) byte next) ∙ ap (λ n. Child n b (k .next)) x)
+          let saw : lookAt N cap (c .link) ≡ seen.Child (root t) b (k .next) =
+          ap (lookAt N cap) (k .at) ∙ look-there cap small N (root t) b (k .next) (k .inside) (k .word) (k .short) in
+          toKid (k .next) (k .at) (sym (step-along N cap c some (lookAt N cap (c .link)) refl (seen.Child (root t) b (k .next)) saw))
           (k .tree) (k .sound)
           (record { node = a .node; chain = a .chain; low = suc b; eight = a .eight; at = a .at; last = a .last; ahead = k .onward })
     ]

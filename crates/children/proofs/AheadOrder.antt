@@ -3,17 +3,17 @@ use Prim.Native.Nat.{ℕ, zero, suc, _+_, _-_, _*_, _/_, _<_, _≤_}
 use native.Mathlib.Decide.{ℕ-discrete}
 use native.Mathlib.Numerals.{add-one}
 use native.Mathlib.Omega.{arith}
-use mathlib.Core.Path.{_≡_, refl, sym, ap, _∙_, subst}
+use mathlib.Core.Path.{_≡_, refl, sym, ap, _∙_}
 use mathlib.Core.List.{List}
 use borrow.Author.Tests.{eqb-true, eqb-false}
 use lib.Dec.{eqb}
 use lib.ListN.{getD}
-use Rattle.layout.specs.Nodes.{chainWord, headAt, linkBase, mostNodes}
+use Rattle.layout.specs.Nodes.{chainWord, headAt, mostNodes}
 use Rattle.children.specs.declared.order.Frame.{Frame}
 use Rattle.children.specs.declared.order.Step.the-variants.{Chain, Child, Up}
 use Rattle.children.specs.Heap.{Holds}
 use Rattle.children.specs.Order.{entered, pastChild, nextChain, nextChild}
-use Rattle.children.specs.Phys.{Phys, Kids, noKid, kid, root, firstIn, cells, linkedCells, kidCells, Sound, SoundK}
+use Rattle.children.specs.Phys.{Phys, Kids, noKid, kid, root, firstIn, cells, kidCells, Sound, SoundK}
 use Rattle.trie_laws.proofs.Lists.{holds, fails, truth}
 use Rattle.children.proofs.Kids.{first-here, first-other, lower, none-below, head-held, held-heads}
 use Rattle.children.proofs.Ahead.{Ahead, ahead-all, ahead-chain, ahead-more, ahead-kid}

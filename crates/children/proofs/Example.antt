@@ -1,5 +1,5 @@
 -- An example, computed: four nodes, the first inner with children of the bytes 1 and 2, in chain 0, and 40, in chain 1.
-use Prim.Native.Nat.{ℕ, _+_}
+use Prim.Native.Nat.{ℕ}
 use native.Mathlib.Omega.{arith}
 use mathlib.Core.Path.{_≡_, refl}
 use mathlib.Core.List.{List, [], _∷_}

@@ -12,7 +12,8 @@ use Rattle.children.specs.Places.{linkAt}
 use Rattle.children.specs.Links.{putIn, takeOut}
 use Rattle.children.specs.Phys.{Phys, Kids, root, cells, kidCells}
 use Rattle.children.proofs.Frame.{Less, less, Same, same-swap, node-write}
-use Rattle.children.proofs.Spot.{gap, held, SpotK}
+use Rattle.children.proofs.Held.{gap, held}
+use Rattle.children.proofs.Spot.{SpotK}
 
 module _ (cap pcap base : ℕ) (small : cap ≤ mostNodes) {ks : Kids} {n b : ℕ} (s : SpotK cap pcap base small ks n b) where
   abbrev slotWord : ℕ → Cells

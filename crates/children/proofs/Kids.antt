@@ -1,14 +1,14 @@
 -- The links to the children of a node, chain by chain, and the heads that hold them.
 use Prim.Native.Nat.{ℕ, zero, suc, _+_, _*_, _/_, _<_, _≤_}
 use native.Mathlib.Omega.{arith}
-use mathlib.Core.Path.{_≡_, refl, ap, ap₂, _∙_}
+use mathlib.Core.Path.{_≡_, refl, ap₂, _∙_}
 use mathlib.Core.Bool.{Bool, true, false, cond}
 use mathlib.Core.List.{List}
 use borrow.Author.Tests.{eq-eqb, ne-eqb, eqb-true, eqb-false}
 use lib.Dec.{eqb}
 use lib.ListN.{getD}
 use Rattle.layout.specs.Nodes.{headAt}
-use Rattle.children.specs.Heap.{Cells, Holds, nil, node, _⊕_}
+use Rattle.children.specs.Heap.{Holds, node, _⊕_}
 use Rattle.children.specs.Phys.{Phys, Kids, leafP, innerP, noKid, kid, root, firstIn, headsFrom, Sound, SoundK}
 use Rattle.children.proofs.Frame.{Same}
 

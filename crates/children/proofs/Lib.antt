@@ -5,6 +5,8 @@ pub mod Steps
 pub mod Places
 pub mod Kids
 pub mod Claims
+pub mod Held
+pub mod SpotList
 pub mod Spot
 pub mod Spots
 pub mod Joins
@@ -14,6 +16,8 @@ pub mod StepWords
 pub mod Ahead
 pub mod AheadOrder
 pub mod Cursors
+pub mod Looks
 pub mod AheadCursor
+pub mod Reach
 pub mod Alike
 pub mod Example

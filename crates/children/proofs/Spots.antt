@@ -8,7 +8,8 @@ use Rattle.meaning.specs.Trie.{Tree, Children, none, child}
 use Rattle.layout.specs.Nodes.{mostNodes}
 use Rattle.children.specs.Phys.{Phys, Kids, tree, childrenOf, Sound}
 use Rattle.children.proofs.Abstract.{Skips, Above}
-use Rattle.children.proofs.Spot.{gap, held, SpotK}
+use Rattle.children.proofs.Held.{gap, held}
+use Rattle.children.proofs.Spot.{SpotK}
 use Rattle.trie_laws.specs.Path.{has, childBy, setChild, dropChild, putChild}
 use Rattle.trie_laws.proofs.Lists.{holds, fails, truth}
 use Rattle.trie_laws.proofs.Nodes.{nodes-some}

@@ -43,8 +43,7 @@ abbrev pub pageCells : ℕ → List ℕ → Cells
 pageCells base [] = nil
 pageCells base (p ∷ ps) = page (base + p) (first ps) ⊕ pageCells base ps
 
--- How the children of a node stand in the tables: in eight chains, those with bytes from 32g to 32g + 31 in chain g, in rising byte.
--- The link to the first child in chain g
+-- The children of a node stand in eight chains, each of 32 bytes. The link to the first child in chain g, that of the bytes from 32g on:
 abbrev pub firstIn : Kids → ℕ → ℕ
 firstIn noKid g = 0
 firstIn (kid b t ks) g = cond (eqb (b / 32) g) (root t + 1) (firstIn ks g)

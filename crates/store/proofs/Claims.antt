@@ -1,5 +1,5 @@
 -- Which links a trie claims of the page table: those of its pages, once for each time that a page stands in it. Free nodes claim none.
-use Prim.Native.Nat.{ℕ, suc, _+_, _*_, _<_}
+use Prim.Native.Nat.{ℕ, suc, _+_, _<_}
 use native.Mathlib.Decide.{decLt, ℕ-discrete}
 use native.Mathlib.Nat.{suc-mul}
 use native.Mathlib.Omega.{arith}

@@ -16,7 +16,8 @@ use Rattle.children.specs.declared.place.Place.the-variants.{Found, Missing}
 use Rattle.children.specs.Heap.{Cells, Holds, node}
 use Rattle.children.specs.Places.{findPlace}
 use Rattle.children.specs.Phys.{Phys, Kids, root, tree, childrenOf, first, cells, State, leafP, innerP}
-use Rattle.children.proofs.Spot.{Held, gap, held, answer, SpotK, spot}
+use Rattle.children.proofs.Held.{Held, gap, held, answer}
+use Rattle.children.proofs.Spot.{SpotK, spot}
 use Rattle.trie_laws.specs.Path.{hasBelow, hasPath, subtree, pathOf, depth}
 use Rattle.trie_laws.specs.Sound.{soundTrie}
 use Rattle.trie_laws.proofs.Sound.{inner-parts}

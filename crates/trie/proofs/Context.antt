@@ -9,7 +9,8 @@ use Rattle.children.specs.Heap.{Cells, nil, node, _⊕_}
 use Rattle.children.specs.Phys.{Phys, Kids, root, tree, freeCells, cells, Sound, State, innerP}
 use Rattle.children.proofs.Frame.{Less, less, less-right, Same}
 use Rattle.trie.proofs.Abstract.{Kept, Walks}
-use Rattle.children.proofs.Spot.{held, SpotK}
+use Rattle.children.proofs.Held.{held}
+use Rattle.children.proofs.Spot.{SpotK}
 use Rattle.children.proofs.Joins.{siblings, child-same}
 
 module _ (cap pcap base : ℕ) (small : cap ≤ mostNodes) (byte : ℕ → ℕ) where

@@ -8,7 +8,8 @@ use Rattle.layout.specs.Nodes.{stateAt, freeState, innerState, leafState, mostN
 use Rattle.children.specs.Heap.{Cells, node, _⊕_}
 use Rattle.children.specs.Phys.{Kids, first, noKids, freeCells, cells, kidCells, State, leafP, innerP}
 use Rattle.children.proofs.Frame.{Less, less, same-swap, node-write, nodes-kept}
-use Rattle.children.proofs.Spot.{gap, held, SpotK}
+use Rattle.children.proofs.Held.{gap, held}
+use Rattle.children.proofs.Spot.{SpotK}
 use Rattle.children.proofs.Joins.{kidWord, take-out}
 use Rattle.trie.specs.Model.{freeChild}
 

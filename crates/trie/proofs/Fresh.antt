@@ -13,7 +13,8 @@ use Rattle.children.specs.Phys.{Phys, Kids, first, noKids, freeCells, cells, ki
 use Rattle.children.proofs.Frame.{Less, less, node-write, nodes-kept}
 use Rattle.trie.proofs.Steps.{fresh-made}
 use Rattle.children.proofs.Joins.{put-in}
-use Rattle.children.proofs.Spot.{gap, held, SpotK}
+use Rattle.children.proofs.Held.{gap, held}
+use Rattle.children.proofs.Spot.{SpotK}
 use Rattle.children.proofs.Spots.{spot-same}
 
 module _ (cap pcap base : ℕ) (small : cap ≤ mostNodes) where

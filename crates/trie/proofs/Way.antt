@@ -8,7 +8,8 @@ use Rattle.meaning.specs.Trie.{byteAt}
 use Rattle.layout.specs.Nodes.{mostNodes}
 use Rattle.children.specs.Heap.{Cells, _⊕_}
 use Rattle.children.specs.Phys.{Phys, Kids, root, tree, Sound, State, innerP}
-use Rattle.children.proofs.Spot.{Held, held, SpotK}
+use Rattle.children.proofs.Held.{Held, held}
+use Rattle.children.proofs.Spot.{SpotK}
 use Rattle.trie.proofs.Context.{Context, whole, inside, enter, leave}
 use Rattle.trie_laws.specs.Path.{hasBelow, below, setBelow, hasPath, subtree, replace, pathOf}
 use Rattle.trie.proofs.Paths.{path-next, sub-next, rep-next}

@@ -39,7 +39,7 @@ use Rattle.children.proofs.AheadOrder.{placed-enter}
 use Rattle.trie_check_laws.proofs.RightStep.{AtChild, step-child, step-chain, step-up}
 use Rattle.trie_check_laws.proofs.RightMark.{Once, mark-fresh}
 use Rattle.trie_check_laws.proofs.RightLeaf.{kind-inner, kind-leaf, AtLeaf, LeafPages, leaf-right}
-use Rattle.trie_check_laws.proofs.RightRest.{nodesAll, pagesAll, usesAll, Covers, Hangs, inner-held, inner-sound, inner-walked}
+use Rattle.trie_check_laws.proofs.RightRest.{nodesAll, pagesAll, usesAll, Hangs, inner-held, inner-sound, inner-walked}
 use Rattle.trie_check_laws.proofs.RightRun.{Above, Covered, Completes, complete-done, complete-up, complete-chain, complete-child, Returned, return}
 
 -- a leaf with a first page is not empty

@@ -1,19 +1,18 @@
 -- On tables that hold a sound trie the test says yes, and marks each of its nodes.
 use Prim.Native.Nat.{ℕ, zero, suc, _+_, _-_, _*_, _≤_, _<_}
 use native.Mathlib.Omega.{arith}
-use native.Mathlib.Numerals.{add-one}
 use mathlib.Core.Path.{_≡_, refl, sym, ap, ap₂, _∙_}
 use mathlib.Core.Bool.{true, cond, false≢true}
 use mathlib.Core.List.{List, [], _∷_, _++_}
 use lib.Dec.{eqb}
-use lib.ListN.{length, getD, set, replicate, length-append}
+use lib.ListN.{length, set, replicate, length-append}
 use borrow.Author.Tests.{ne-eqb, lt-ltb}
 use Rattle.meaning.specs.Trie.{nodes}
 use Rattle.words.specs.Bits.{flag}
 use Rattle.layout.specs.Nodes.{stepsFor, mostNodes, nodeSteps}
 use Rattle.layout.specs.Pages.{isLive}
 use Rattle.children.specs.Heap.{Holds, hit}
-use Rattle.children.specs.Phys.{Phys, Kids, leafP, innerP, noKid, kid, root, first, tree, cells, kidCells, Below, SoundK}
+use Rattle.children.specs.Phys.{Phys, Kids, leafP, innerP, noKid, kid, root, first, tree, cells, Below, SoundK}
 use Rattle.children.specs.Phys.{Sound as SoundNodes}
 use Rattle.children.proofs.AheadOrder.{groupsLeft, AheadF, enter-ahead, StepKid, toChain, toKid, step-kid, StepEnd, endChain, toUp, step-end as end-step}
 use Rattle.trie_laws.specs.Sound.{filled}

@@ -16,7 +16,7 @@ use Rattle.trie.specs.Model.{linkLeaf, made, freshLeaf}
 use Rattle.children.specs.Phys.{Phys, root, tree, childrenOf, Sound, State, leafP, innerP}
 use Rattle.children.proofs.Frame.{same-swap}
 use Rattle.trie.proofs.Context.{Context, inside, enter, leave, beside}
-use Rattle.children.proofs.Spot.{gap, held}
+use Rattle.children.proofs.Held.{gap, held}
 use Rattle.children.proofs.Spots.{spot-same}
 use Rattle.trie.proofs.Fresh.{fresh-state, fresh-is}
 use Rattle.trie.specs.declared.path.Reach.{Reach}

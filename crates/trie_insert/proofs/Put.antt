@@ -16,7 +16,8 @@ use Rattle.children.specs.Phys.{Phys, Kids, childrenOf, first, Sound, State, le
 use Rattle.children.proofs.Frame.{same-swap}
 use Rattle.children.proofs.Abstract.{Leaves}
 use Rattle.trie.proofs.Steps.{child-found, child-made}
-use Rattle.children.proofs.Spot.{Held, gap, held, onto, answer, SpotK}
+use Rattle.children.proofs.Held.{Held, gap, held, onto, answer}
+use Rattle.children.proofs.Spot.{SpotK}
 use Rattle.children.proofs.Spots.{spot-sound}
 use Rattle.trie.proofs.Context.{Context, whole, below, rest, inside, enter, leave, beside}
 use Rattle.trie.proofs.Fresh.{fresh-state, fresh-is}

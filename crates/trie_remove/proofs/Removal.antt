@@ -22,7 +22,7 @@ use Rattle.trie_laws.proofs.Reach.{reach-leaf}
 use Rattle.trie.specs.declared.path.Reach.{Reach}
 use Rattle.trie.specs.declared.path.Reach.the-variants.{Leaf, Gap, Broken}
 use Rattle.trie.specs.Descend.{descendTo}
-use Rattle.children.proofs.Spot.{gap, held}
+use Rattle.children.proofs.Held.{gap, held}
 use Rattle.children.proofs.Spots.{spot-has, spot-child, spot-drop}
 use Rattle.trie.proofs.Way.{Way, onward, onward-put, go-in, go-out}
 use Rattle.trie.proofs.Arrival.{Leads, Parent, AtLeaf, Arrives, arrives}

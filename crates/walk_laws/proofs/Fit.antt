@@ -1,5 +1,5 @@
 -- What a walk asks of a trie: inner nodes above the last level, and bytes of z symbols. A sound trie is such.
-use Prim.Native.Nat.{ℕ, suc, _+_, _-_, _*_, _^_, _≤_, _<_}
+use Prim.Native.Nat.{ℕ, suc, _-_, _*_, _^_, _≤_, _<_}
 use native.Mathlib.Omega.{arith}
 use native.Mathlib.Nat.{min-le-left, mul-le-mul-left, lt-of-lt-of-le}
 use lib.Pow.{pow-mono}
@@ -10,29 +10,24 @@ use mathlib.Core.List.{List, [], _∷_}
 use lib.Bits.{bitXor}
 use borrow.Author.Tests.{ltb-true, lt-leb}
 use Rattle.meaning.specs.Sketch.{perByte, symbolsAt, packable, byteDistance}
-use Rattle.meaning.specs.Trie.{Children, none, metIn}
-use Rattle.children.specs.Phys.{Phys, leafP, innerP, Buckets, end, bucket, Chain, stop, link, tree, childrenB, childrenC, SoundB, SoundC}
+use Rattle.meaning.specs.Trie.{metIn}
+use Rattle.children.specs.Phys.{Phys, Kids, leafP, innerP, noKid, kid, tree, childrenOf, SoundK}
 use Rattle.trie_laws.specs.Sound.{soundTrie, soundFrom}
 use Rattle.trie_laws.proofs.Sound.{inner-parts, child-parts}
 use Rattle.sketch_laws.proofs.Packing.{per-byte-le}
-use Rattle.walk_laws.specs.Near.{nearB, nearC}
+use Rattle.walk_laws.specs.Near.{nearK}
 use Rattle.walk_laws.proofs.Apart.{apart}
-use Rattle.walk_laws.proofs.Chains.{met-chain}
 
 module _ (b len : ℕ) where
   abbrev mutual
     -- a node at level k
     pub Fit : Phys → ℕ → Type 0
     Fit (leafP n ps) k = Unit {0}
-    Fit (innerP n bs) k = (k < len) × FitB bs k
+    Fit (innerP n ks) k = (k < len) × FitK ks k
 
-    pub FitB : Buckets → ℕ → Type 0
-    FitB end k = Unit {0}
-    FitB (bucket ch bs) k = FitC ch k × FitB bs k
-
-    pub FitC : Chain → ℕ → Type 0
-    FitC stop k = Unit {0}
-    FitC (link c t ch) k = (c < 2 ^ (b * perByte b)) × Fit t (suc k) × FitC ch k
+    pub FitK : Kids → ℕ → Type 0
+    FitK noKid k = Unit {0}
+    FitK (kid c t ks) k = (c < 2 ^ (b * perByte b)) × Fit t (suc k) × FitK ks k
 
 -- ---- a sound trie
 pub packable-below : (b n k c : ℕ) → packable b n k c ≡ true → c < 2 ^ (b * perByte b)
@@ -45,63 +40,41 @@ pub byte-small : (b : ℕ) → 2 ^ (b * perByte b) ≤ 256
 byte-small b = pow-mono {i = b * perByte b} {j = 8} (omega (arith, per-byte-le b))
 
 module _ (bytesOf : ℕ → List ℕ) (b n len : ℕ) where
-  -- the children after a chain are sound from some byte on
-  pub record Rest (cs : Children) (k : ℕ) : Type 0 where
-    pub lo : ℕ
-    pub sound : soundFrom bytesOf b n len k lo cs ≡ true
-
   mutual
     pub fit : (t : Phys) (k : ℕ) → soundTrie bytesOf b n len k (tree t) ≡ true → Fit b len t k
     fit (leafP x ps) k h = tt
-    fit (innerP x bs) k h =
-        let parts = inner-parts bytesOf b n len k (childrenB bs) h in
-        (parts .level, fit-buckets bs k (record { lo = 0; sound = parts .childrenB }))
+    fit (innerP x ks) k h = let s = inner-parts bytesOf b n len k (childrenOf ks) h in (s .level, fit-kids ks k 0 (s .childrenB))
 
-    fit-buckets : (bs : Buckets) (k : ℕ) → Rest (childrenB bs) k → FitB b len bs k
-    fit-buckets end k h = tt
-    fit-buckets (bucket ch bs) k h =
-        let both = fit-chain ch (childrenB bs) k h in
-        (both .0, fit-buckets bs k (both .1))
+    fit-kids : (ks : Kids) (k lo : ℕ) → soundFrom bytesOf b n len k lo (childrenOf ks) ≡ true → FitK b len ks k
+    fit-kids noKid k lo h = tt
+    fit-kids (kid c t ks) k lo h =
+        let s = child-parts bytesOf b n len k lo c (tree t) (childrenOf ks) h in
+        (packable-below b n k c (s .here .packing), fit t (suc k) (s .here .sub), fit-kids ks k (suc c) (s .rest))
 
-    fit-chain : (ch : Chain) (cs : Children) (k : ℕ) → Rest (childrenC ch cs) k → FitC b len ch k × Rest cs k
-    fit-chain stop cs k h = (tt, h)
-    fit-chain (link c t ch) cs k h =
-        let parts = child-parts bytesOf b n len k (h .lo) c (tree t) (childrenC ch cs) (h .sound) in
-        let both = fit-chain ch cs k (record { lo = suc c; sound = parts .rest }) in
-        ((packable-below b n k c (parts .here .packing), fit t (suc k) (parts .here .sub), both .0), both .1)
+-- ---- children of other bytes than the query's, at radius 0
+module _ (b y : ℕ) (ys : List ℕ) (query : y < 2 ^ (b * perByte b)) where
+  -- one
+  module _ (c : ℕ) (t : Phys) (ks : Kids) (l : c < 2 ^ (b * perByte b)) (n : c ≢ y) where
+    pub apart-met : metIn b 0 (childrenOf (kid c t ks)) (y ∷ ys) ≡ metIn b 0 (childrenOf ks) (y ∷ ys)
+    unfolding metIn
+    apart-met = rw (lt-leb (byteDistance b (bitXor c y)) 0 (apart b c y l query n))
 
--- ---- what cannot be met at radius 0
-module _ (cap pcap b len y : ℕ) (ys : List ℕ) (query : y < 2 ^ (b * perByte b)) where
-  -- a chain without the query's byte
-  pub unmet : (ch : Chain) (lo hi k : ℕ) → SoundC cap pcap ch lo hi → FitC b len ch k → ((c : ℕ) → lo ≤ c → c < hi → c ≢ y)
-      → metIn b 0 (childrenC ch none) (y ∷ ys) ≡ []
-  unfolding metIn
-  unmet stop lo hi k s f away = refl
-  unmet (link c t ch) lo hi k s f away =
-      rw (lt-leb (byteDistance b (bitXor c y)) 0 (apart b c y (f .0) query (away c (s .0) (s .1))))
-      (unmet ch (suc c) hi k (s .3) (f .2) (λ e l m. away e (omega (arith, s .0)) m))
+    pub apart-near : nearK b 0 (kid c t ks) (y ∷ ys) ≡ nearK b 0 ks (y ∷ ys)
+    unfolding nearK
+    apart-near = rw (lt-leb (byteDistance b (bitXor c y)) 0 (apart b c y l query n))
 
-  -- the chains past it
-  pub unmet-past : (bs : Buckets) (g k : ℕ) → SoundB cap pcap bs g → FitB b len bs k → y < 32 * g → metIn b 0 (childrenB bs) (y ∷ ys) ≡ []
-  unfolding metIn
-  unmet-past end g k s f l = refl
-  unmet-past (bucket ch bs) g k s f l =
-      met-chain b 0 y ys ch (childrenB bs)
-      ∙ rw (unmet ch (32 * g) (32 * g + 32) k (s .0) (f .0) (λ c u v e. absurd (omega arith)))
-      (unmet-past bs (suc g) k (s .1) (f .1) (omega arith))
+  -- all that are past it
+  module _ (cap pcap len : ℕ) where
+    pub unmet : (ks : Kids) (lo k : ℕ) → SoundK cap pcap ks lo → FitK b len ks k → y < lo → metIn b 0 (childrenOf ks) (y ∷ ys) ≡ []
+    unfolding metIn
+    unmet noKid lo k s u l = refl
+    unmet (kid c t ks) lo k s u l =
+        let past : y < c = omega (arith, s .0) in
+        apart-met c t ks (u .0) (omega arith) ∙ unmet ks (suc c) k (s .3) (u .2) (omega arith)
 
-  -- nor does the walk go there
-  pub none-near : (ch : Chain) (lo hi k : ℕ) → SoundC cap pcap ch lo hi → FitC b len ch k → ((c : ℕ) → lo ≤ c → c < hi → c ≢ y)
-      → nearC b 0 ch (y ∷ ys) ≡ []
-  unfolding nearC
-  none-near stop lo hi k s f away = refl
-  none-near (link c t ch) lo hi k s f away =
-      rw (lt-leb (byteDistance b (bitXor c y)) 0 (apart b c y (f .0) query (away c (s .0) (s .1))))
-      (none-near ch (suc c) hi k (s .3) (f .2) (λ e l m. away e (omega (arith, s .0)) m))
-
-  pub none-near-past : (bs : Buckets) (g k : ℕ) → SoundB cap pcap bs g → FitB b len bs k → y < 32 * g → nearB b 0 bs (y ∷ ys) ≡ []
-  unfolding nearB
-  none-near-past end g k s f l = refl
-  none-near-past (bucket ch bs) g k s f l =
-      rw (none-near ch (32 * g) (32 * g + 32) k (s .0) (f .0) (λ c u v e. absurd (omega arith)))
-      (none-near-past bs (suc g) k (s .1) (f .1) (omega arith))
+    pub none-near : (ks : Kids) (lo k : ℕ) → SoundK cap pcap ks lo → FitK b len ks k → y < lo → nearK b 0 ks (y ∷ ys) ≡ []
+    unfolding nearK
+    none-near noKid lo k s u l = refl
+    none-near (kid c t ks) lo k s u l =
+        let past : y < c = omega (arith, s .0) in
+        apart-near c t ks (u .0) (omega arith) ∙ none-near ks (suc c) k (s .3) (u .2) (omega arith)

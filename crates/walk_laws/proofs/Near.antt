@@ -14,49 +14,38 @@ use Rattle.meaning.specs.Sketch.{perByte, byteDistance}
 use Rattle.meaning.specs.Trie.{Tree, leaf, inner, Children, none, child, nodes, nodesIn}
 use Rattle.meaning.proofs.Lists.{count-append}
 use Rattle.sketch_laws.specs.Packed.{sumPairs, packedDistance}
-use Rattle.children.specs.Phys.{Phys, leafP, innerP, Buckets, end, bucket, Chain, stop, link, tree, childrenB, childrenC}
+use Rattle.children.specs.Phys.{Phys, Kids, leafP, innerP, noKid, kid, tree, childrenOf}
 use Rattle.trie_laws.specs.Sound.{soundTrie, soundFrom}
 use Rattle.trie_laws.specs.Path.{has, childBy, hasBelow, below, hasPath}
 use Rattle.trie_laws.proofs.Lists.{less, same, more, compared, count-none}
 use Rattle.trie_laws.proofs.Sound.{SoundChild, inner-parts, child-parts}
-use Rattle.walk_laws.specs.Near.{near, nearB, nearC, nearNodes, nearNodesIn, pathsIn, pathsAmong, pathNear, samePath}
+use Rattle.walk_laws.specs.Near.{near, nearK, nearNodes, nearNodesIn, pathsIn, pathsAmong, pathNear, samePath}
 use Rattle.walk_laws.proofs.Apart.{counted, apart}
 use Rattle.walk_laws.proofs.Fit.{packable-below}
 
 module _ (b : ℕ) where
   -- ---- their number
-  none-below : (r : ℕ) (cs : Children) → nearNodesIn b r cs [] ≡ 0
-  unfolding nearNodesIn
-  none-below r none = refl
-  none-below r (child c t cs) = refl
-
   cond-length : (q : Bool) (xs : List ℕ) (n : ℕ) → length xs ≡ n → length (cond q xs []) ≡ cond q n 0
   cond-length true xs n e = e
   cond-length false xs n e = refl
 
   mutual
-    unfolding near nearB nearC nearNodes nearNodesIn
+    unfolding near nearK nearNodes nearNodesIn
 
     pub near-count : (t : Phys) (r : ℕ) (ys : List ℕ) → length (near b r t ys) ≡ nearNodes b r (tree t) ys
     near-count (leafP x ps) r ys = refl
-    near-count (innerP x bs) r ys = ap suc (count-buckets bs r ys)
+    near-count (innerP x ks) r ys = ap suc (count-kids ks r ys)
 
-    count-buckets : (bs : Buckets) (r : ℕ) (ys : List ℕ) → length (nearB b r bs ys) ≡ nearNodesIn b r (childrenB bs) ys
-    count-buckets end r ys = refl
-    count-buckets (bucket ch bs) r ys =
-        omega (arith, length-append (nearC b r ch ys) (nearB b r bs ys), count-buckets bs r ys, count-chain ch (childrenB bs) r ys)
-
-    count-chain : (ch : Chain) (cs : Children) (r : ℕ) (ys : List ℕ)
-        → length (nearC b r ch ys) + nearNodesIn b r cs ys ≡ nearNodesIn b r (childrenC ch cs) ys
-    count-chain stop cs r ys = omega arith
-    count-chain (link c t ch) cs r [] = omega (arith, none-below r cs)
-    count-chain (link c t ch) cs r (y ∷ ys) =
+    count-kids : (ks : Kids) (r : ℕ) (ys : List ℕ) → length (nearK b r ks ys) ≡ nearNodesIn b r (childrenOf ks) ys
+    count-kids noKid r ys = refl
+    count-kids (kid c t ks) r [] = refl
+    count-kids (kid c t ks) r (y ∷ ys) =
         let d : ℕ = byteDistance b (bitXor c y) in
         omega (
           arith,
-          length-append (cond (leb d r) (near b (r - d) t ys) []) (nearC b r ch (y ∷ ys)),
+          length-append (cond (leb d r) (near b (r - d) t ys) []) (nearK b r ks (y ∷ ys)),
           cond-length (leb d r) (near b (r - d) t ys) (nearNodes b (r - d) (tree t) ys) (near-count t (r - d) ys),
-          count-chain ch cs r (y ∷ ys),
+          count-kids ks r (y ∷ ys),
         )
 
   -- at most all

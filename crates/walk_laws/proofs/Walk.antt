@@ -1,5 +1,5 @@
--- The walk over one block's trie, on tables that hold a sound one: it marks exactly what is met, all of it below the page capacity, goes through
--- exactly the nodes within the radius, and reads each node behind the root at most once.
+-- The walk over one block's trie, on tables that hold a sound one: it gives exactly the leaves whose pages are met, all of them below the page
+-- capacity, goes through exactly the nodes within the radius, and reads each node behind the root at most once.
 use Prim.Native.Nat.{ℕ, suc, _+_, _-_, _*_, _^_, _≤_, _<_}
 use native.Mathlib.Omega.{arith}
 use mathlib.Core.Path.{_≡_, refl, ap, _∙_}
@@ -10,57 +10,52 @@ use lib.ListN.{length, getD}
 use lib.Bits.{bitXor}
 use Rattle.meaning.specs.Lists.{all, count}
 use Rattle.meaning.specs.Sketch.{perByte, byteDistance}
-use Rattle.meaning.specs.Trie.{Children, met, metIn, nodes}
+use Rattle.meaning.specs.Trie.{met, metIn, nodes}
 use Rattle.meaning.proofs.Lists.{all-append, and-intro}
 use Rattle.layout.specs.Nodes.{mostNodes}
 use Rattle.children.specs.Heap.{Holds}
-use Rattle.children.specs.Phys.{Phys, leafP, innerP, Buckets, end, bucket, Chain, stop, link, root, tree, childrenB, childrenC, cells, Below, Sound, SoundB, SoundC}
+use Rattle.children.specs.Phys.{Phys, Kids, leafP, innerP, noKid, kid, root, tree, childrenOf, cells, Sound, SoundK}
 use Rattle.children.proofs.Claims.{below-all}
 use Rattle.trie_laws.specs.Sound.{soundTrie}
-use Rattle.marking.specs.Given.{Given}
+use Rattle.walk.specs.Given.{Given}
 use Rattle.walk_laws.specs.Near.{near, nearNodes, pathsIn, pathNear}
 use Rattle.walk_laws.specs.Trail.{trailFrom}
 use Rattle.walk_laws.proofs.Fit.{fit}
 use Rattle.walk_laws.proofs.Leads.{steps-below}
 use Rattle.walk_laws.proofs.Near.{near-count, near-le, near-path, near-zero}
-use Rattle.walk_laws.proofs.Right.{WalkRight, right, right-trail, steps-nodes}
+use Rattle.walk_laws.proofs.Through.{steps-nodes}
+use Rattle.walk_laws.proofs.Right.{WalkRight, right, right-trail}
 
 -- ---- on tables that hold a sound trie
-pub walk-right : (w : Given) (bytesOf : ℕ → List ℕ) (n : ℕ) (t : Phys) (radius budget : ℕ) (map : List ℕ) → w .block .nodes ≤ mostNodes
-    → ((k : ℕ) → getD (w .bytes) k 0 < 2 ^ (w .b * perByte (w .b)))
-    → Holds (cells (w .block .nodes) (w .block .base) t) (w .nodes) (w .pages) → Sound (w .block .nodes) (w .block .pages) t
-    → soundTrie bytesOf (w .b) n (length (w .bytes)) 0 (tree t) ≡ true
-    → nodes (tree t) ≤ w .block .nodes → length (met (w .b) radius (tree t) (w .bytes)) ≤ w .block .pages → nodes (tree t) ≤ budget + 1
-    → WalkRight w t radius budget map
-walk-right w bytesOf n t radius budget map small query h s sound few pages lasts =
-    right w small query t radius map h s (fit bytesOf (w .b) n (length (w .bytes)) t 0 sound) (omega (arith, steps-below t))
-    (omega (arith, steps-nodes (w .block .nodes) (w .block .pages) t s)) pages budget lasts
-
--- ---- the nodes it goes through there
-module _ (w : Given) (bytesOf : ℕ → List ℕ) (n : ℕ) (t : Phys) (radius : ℕ) (map : List ℕ) (small : w .block .nodes ≤ mostNodes)
+module _ (w : Given) (base pcap : ℕ) (P : List ℕ) (bytesOf : ℕ → List ℕ) (n : ℕ) (t : Phys) (radius : ℕ) (small : w .cap ≤ mostNodes)
     (query : (k : ℕ) → getD (w .bytes) k 0 < 2 ^ (w .b * perByte (w .b)))
-    (h : Holds (cells (w .block .nodes) (w .block .base) t) (w .nodes) (w .pages)) (s : Sound (w .block .nodes) (w .block .pages) t)
-    (sound : soundTrie bytesOf (w .b) n (length (w .bytes)) 0 (tree t) ≡ true)
-    (few : nodes (tree t) ≤ w .block .nodes) (pages : length (met (w .b) radius (tree t) (w .bytes)) ≤ w .block .pages) where
-  -- those of `near`, in order
-  pub walk-trail : trailFrom w (root t) radius map ≡ near (w .b) radius t (w .bytes)
-  walk-trail =
-      right-trail w small query t radius map h s (fit bytesOf (w .b) n (length (w .bytes)) t 0 sound) (omega (arith, steps-below t))
-      (omega (arith, steps-nodes (w .block .nodes) (w .block .pages) t s)) pages
+    (h : Holds (cells (w .cap) base t) (w .nodes) P) (s : Sound (w .cap) pcap t)
+    (sound : soundTrie bytesOf (w .b) n (length (w .bytes)) 0 (tree t) ≡ true) (few : nodes (tree t) ≤ w .cap) where
+  pub walk-right : (budget : ℕ) → nodes (tree t) ≤ budget + 1 → WalkRight w base pcap P t radius budget
+  walk-right budget lasts =
+      right w P pcap base small query t radius h s (fit bytesOf (w .b) n (length (w .bytes)) t 0 sound) (omega (arith, steps-below t))
+      (omega (arith, steps-nodes t)) budget lasts
 
-  pub walk-count : length (trailFrom w (root t) radius map) ≡ nearNodes (w .b) radius (tree t) (w .bytes)
+  -- ---- the nodes it goes through there
+  -- those of `near`, in order
+  pub walk-trail : trailFrom w (root t) radius ≡ near (w .b) radius t (w .bytes)
+  walk-trail =
+      right-trail w P pcap base small query t radius h s (fit bytesOf (w .b) n (length (w .bytes)) t 0 sound) (omega (arith, steps-below t))
+      (omega (arith, steps-nodes t))
+
+  pub walk-count : length (trailFrom w (root t) radius) ≡ nearNodes (w .b) radius (tree t) (w .bytes)
   walk-count = ap length walk-trail ∙ near-count (w .b) t radius (w .bytes)
 
   -- as many as there are paths that differ from the query's symbols on them in at most the radius
-  pub walk-paths : length (trailFrom w (root t) radius map) ≡ count (pathNear (w .b) radius (w .bytes)) (pathsIn (tree t))
+  pub walk-paths : length (trailFrom w (root t) radius) ≡ count (pathNear (w .b) radius (w .bytes)) (pathsIn (tree t))
   walk-paths = walk-count ∙ near-path bytesOf (w .b) n (tree t) radius (w .bytes) sound
 
   -- no more than the table has
-  pub walk-few : length (trailFrom w (root t) radius map) ≤ w .block .nodes
+  pub walk-few : length (trailFrom w (root t) radius) ≤ w .cap
   walk-few = omega (arith, walk-count, near-le (w .b) (tree t) radius (w .bytes))
 
   -- at radius 0 at most the packed length and the root
-  pub walk-zero : radius ≡ 0 → length (trailFrom w (root t) radius map) ≤ length (w .bytes) + 1
+  pub walk-zero : radius ≡ 0 → length (trailFrom w (root t) radius) ≤ length (w .bytes) + 1
   walk-zero z =
       omega (
         arith,
@@ -87,19 +82,12 @@ module _ (cap pcap b : ℕ) where
 
     pub met-small : (t : Phys) (r : ℕ) (ys : List ℕ) → Sound cap pcap t → small (met b r (tree t) ys) ≡ true
     met-small (leafP x ps) r ys s = below-all pcap ps (s .1)
-    met-small (innerP x bs) r ys s = met-small-buckets bs r ys 0 (s .1)
+    met-small (innerP x ks) r ys s = met-small-kids ks r ys 0 (s .1)
 
-    met-small-buckets : (bs : Buckets) (r : ℕ) (ys : List ℕ) (g : ℕ) → SoundB cap pcap bs g → small (metIn b r (childrenB bs) ys) ≡ true
-    met-small-buckets end r ys g s = refl
-    met-small-buckets (bucket ch bs) r ys g s =
-        met-small-chain ch r ys (childrenB bs) (32 * g) (32 * g + 32) (s .0) (met-small-buckets bs r ys (suc g) (s .1))
-
-    met-small-chain : (ch : Chain) (r : ℕ) (ys : List ℕ) (cs : Children) (lo hi : ℕ) → SoundC cap pcap ch lo hi → small (metIn b r cs ys) ≡ true
-        → small (metIn b r (childrenC ch cs) ys) ≡ true
-    met-small-chain stop r ys cs lo hi s h = h
-    met-small-chain (link c t ch) r [] cs lo hi s h = refl
-    met-small-chain (link c t ch) r (y ∷ ys) cs lo hi s h =
-        both-small (cond (leb (byteDistance b (bitXor c y)) r) (met b (r - byteDistance b (bitXor c y)) (tree t) ys) []) (metIn b r (childrenC ch cs) (y ∷ ys))
-        (cond-small (leb (byteDistance b (bitXor c y)) r) (met b (r - byteDistance b (bitXor c y)) (tree t) ys)
-        (met-small t (r - byteDistance b (bitXor c y)) ys (s .2)))
-        (met-small-chain ch r (y ∷ ys) cs (suc c) hi (s .3) h)
+    met-small-kids : (ks : Kids) (r : ℕ) (ys : List ℕ) (lo : ℕ) → SoundK cap pcap ks lo → small (metIn b r (childrenOf ks) ys) ≡ true
+    met-small-kids noKid r ys lo s = refl
+    met-small-kids (kid c t ks) r [] lo s = refl
+    met-small-kids (kid c t ks) r (y ∷ ys) lo s =
+        let d : ℕ = byteDistance b (bitXor c y) in
+        both-small (cond (leb d r) (met b (r - d) (tree t) ys) []) (metIn b r (childrenOf ks) (y ∷ ys))
+        (cond-small (leb d r) (met b (r - d) (tree t) ys) (met-small t (r - d) ys (s .2))) (met-small-kids ks r (y ∷ ys) (suc c) (s .3))

@@ -8,23 +8,19 @@ use lib.ListN.{length, take}
 use Rattle.meaning.specs.Sketch.{byteDistance}
 use Rattle.meaning.specs.Trie.{Tree, leaf, inner, Children, none, child}
 use Rattle.sketch_laws.specs.Packed.{packedDistance}
-use Rattle.children.specs.Phys.{Phys, leafP, innerP, Buckets, end, bucket, Chain, stop, link}
+use Rattle.children.specs.Phys.{Phys, Kids, leafP, innerP, noKid, kid}
 
 unfoldable mutual
   -- their numbers, within r, in the order of the walk
   pub near : ℕ → ℕ → Phys → List ℕ → List ℕ
   near b r (leafP n ps) ys = n ∷ []
-  near b r (innerP n bs) ys = n ∷ nearB b r bs ys
+  near b r (innerP n ks) ys = n ∷ nearK b r ks ys
 
-  pub nearB : ℕ → ℕ → Buckets → List ℕ → List ℕ
-  nearB b r end ys = []
-  nearB b r (bucket ch bs) ys = nearC b r ch ys ++ nearB b r bs ys
-
-  pub nearC : ℕ → ℕ → Chain → List ℕ → List ℕ
-  nearC b r stop ys = []
-  nearC b r (link c t ch) [] = []
-  nearC b r (link c t ch) (y ∷ ys) =
-      cond (leb (byteDistance b (bitXor c y)) r) (near b (r - byteDistance b (bitXor c y)) t ys) [] ++ nearC b r ch (y ∷ ys)
+  pub nearK : ℕ → ℕ → Kids → List ℕ → List ℕ
+  nearK b r noKid ys = []
+  nearK b r (kid c t ks) [] = []
+  nearK b r (kid c t ks) (y ∷ ys) =
+      cond (leb (byteDistance b (bitXor c y)) r) (near b (r - byteDistance b (bitXor c y)) t ys) [] ++ nearK b r ks (y ∷ ys)
 
 unfoldable mutual
   -- how many they are, in the abstract trie
