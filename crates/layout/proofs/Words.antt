@@ -1,132 +1,128 @@
--- The words of the page table: each is one field of one page, and a store changes no other.
-use Prim.Native.Nat.{ℕ, _+_, _*_, _/_, _%_, _≤_, _<_}
+-- The words of the page table: page words, signatures and links, and what a store to one leaves of the others.
+use Prim.Native.Nat.{ℕ, _+_, _-_, _*_, _≤_, _<_}
 use native.Mathlib.Omega.{arith}
 use native.Mathlib.Nat.{zero-mul, one-mul, zero-add, mul-le-mul-right, le-add-right}
 use mathlib.Core.Path.{_≡_, sym, ap, _∙_}
 use mathlib.Core.Bool.{true, false}
 use mathlib.Core.Logic.{_≢_}
 use mathlib.Core.List.{List}
-use lib.Arith.{digits-lt, digits-div, digits-mod}
-use lib.Dec.{eqb}
+use borrow.Author.Tests.{lt-ltb}
+use lib.Arith.{digits-lt}
+use lib.Dec.{ltb}
 use lib.ListN.{length, getD, set, take, length-set}
 use lib.Seq.{getD-set-same, getD-set-other, getD-take, take-set-le}
 use Rattle.meaning.specs.Ledger.{Settings}
-use Rattle.layout.specs.Pages.{wordAt, nextAt, isLive, classOf, withPage, withoutPage}
+use Rattle.layout.specs.Pages.{wordAt, nextAt, isLive, classOf, signatureAt, withPage, withoutPage}
 use Rattle.layout.specs.Lengths.{pagesLength}
 
 -- ---- where the words stand
-live-word : (P p : ℕ) → wordAt P 0 p ≡ p
-live-word P p = rw (zero-mul, zero-add)
-
-class-word : (P p : ℕ) → wordAt P 1 p ≡ P + p
-class-word P p = rw one-mul
-
 pub word-inside : (s : Settings) {k p : ℕ} → k < 2 + s .blocks → p < s .pages → wordAt (s .pages) k p < pagesLength s
 unfolding pagesLength
 word-inside s hk hp = digits-lt hk hp
 
-pub live-inside : (s : Settings) {p : ℕ} → p < s .pages → p < pagesLength s
-live-inside s {p} h = rw (live-word (s .pages) p) at (word-inside s {k = 0} (omega arith) h)
+pub page-inside : (s : Settings) {p : ℕ} → p < s .pages → p < pagesLength s
+page-inside s {p} h = rw (zero-mul, zero-add) at (word-inside s {k = 0} {p = p} (omega arith) h)
 
-pub class-inside : (s : Settings) {p : ℕ} → p < s .pages → s .pages + p < pagesLength s
-class-inside s {p} h = rw (class-word (s .pages) p) at (word-inside s {k = 1} (omega arith) h)
+pub signature-inside : (s : Settings) {p : ℕ} → p < s .pages → s .pages + p < pagesLength s
+signature-inside s {p} h = rw one-mul at (word-inside s {k = 1} {p = p} (omega arith) h)
 
 pub link-inside : (s : Settings) (j : ℕ) {p : ℕ} → j < s .blocks → p < s .pages → nextAt (s .pages) j + p < pagesLength s
 link-inside s j hj h = word-inside s {k = 2 + j} (omega arith) h
 
--- a word has one field and one page
-pub word-field : (P k l : ℕ) {p r : ℕ} → p < P → r < P → wordAt P k p ≡ wordAt P l r → k ≡ l
-word-field P k l hp hr e = sym (digits-div k hp) ∙ ap (λ (w : ℕ). w / P) e ∙ digits-div l hr
-
-pub word-page : (P k l : ℕ) {p r : ℕ} → p < P → r < P → wordAt P k p ≡ wordAt P l r → p ≡ r
-word-page P k l hp hr e = sym (digits-mod k hp) ∙ ap (λ (w : ℕ). w % P) e ∙ digits-mod l hr
-
--- ---- a store to field k of page p
-module _ (P : ℕ) (pages : List ℕ) (k p v : ℕ) (page : p < P) where
-  pub word-other : (l r : ℕ) → r < P → (l ≡ k → r ≡ p → ⊥)
-      → getD (set pages (wordAt P k p) v) (wordAt P l r) 0 ≡ getD pages (wordAt P l r) 0
-  word-other l r h apart =
-      getD-set-other pages (wordAt P k p) (wordAt P l r) v 0 (λ e. apart (word-field P l k h page e) (word-page P l k h page e))
-
-  pub live-other : (r : ℕ) → r < P → (0 ≡ k → r ≡ p → ⊥) → isLive (set pages (wordAt P k p) v) r ≡ isLive pages r
+-- ---- a page is live, and has its class, by its page word
+module _ (pages others : List ℕ) (p r : ℕ) (same : getD pages p 0 ≡ getD others r 0) where
+  live-same : isLive pages p ≡ isLive others r
   unfolding isLive
-  live-other r h apart = ap (λ w. eqb w 1) (rw (live-word P r) at (word-other 0 r h apart))
+  live-same = ap (λ w. ltb 0 w) same
 
-  pub class-other : (r : ℕ) → r < P → (1 ≡ k → r ≡ p → ⊥) → classOf (set pages (wordAt P k p) v) P r ≡ classOf pages P r
+  class-same : classOf pages p ≡ classOf others r
   unfolding classOf
-  class-other r h apart = rw (class-word P r) at (word-other 1 r h apart)
-
--- the same by name: the live word, and the class
-module _ (P : ℕ) (pages : List ℕ) (p v : ℕ) (page : p < P) where
-  live-live : (r : ℕ) → r < P → r ≢ p → isLive (set pages p v) r ≡ isLive pages r
-  live-live r h apart = rw (live-word P p) at (live-other P pages 0 p v page r h (λ e. apart))
-
-  class-live : (r : ℕ) → r < P → classOf (set pages p v) P r ≡ classOf pages P r
-  class-live r h = rw (live-word P p) at (class-other P pages 0 p v page r h (omega arith))
-
-  live-class : (r : ℕ) → r < P → isLive (set pages (P + p) v) r ≡ isLive pages r
-  live-class r h = rw (class-word P p) at (live-other P pages 1 p v page r h (omega arith))
-
-  class-class : (r : ℕ) → r < P → r ≢ p → classOf (set pages (P + p) v) P r ≡ classOf pages P r
-  class-class r h apart = rw (class-word P p) at (class-other P pages 1 p v page r h (λ e. apart))
-
-live-same : (pages : List ℕ) (p v : ℕ) → p < length pages → isLive (set pages p v) p ≡ eqb v 1
-unfolding isLive
-live-same pages p v h = ap (λ w. eqb w 1) (getD-set-same pages p v 0 h)
+  class-same = ap (λ (w : ℕ). w - 1) same
 
 -- ---- page p written, or struck out
 module _ (P : ℕ) (pages : List ℕ) (p : ℕ) (page : p < P) (long : P + p < length pages) where
-  module _ (c : ℕ) where
-    pub live-written : isLive (withPage P pages p c) p ≡ true
+  module _ (c s : ℕ) where
+    word-written : getD (withPage P pages p c s) p 0 ≡ 1 + c
     unfolding withPage
-    live-written = live-class P (set pages p 1) p c page p page ∙ live-same pages p 1 (omega arith)
+    word-written =
+        getD-set-other (set pages p (1 + c)) (P + p) p s 0 (omega arith) ∙ getD-set-same pages p (1 + c) 0 (omega arith)
 
-    pub class-written : classOf (withPage P pages p c) P p ≡ c
-    unfolding withPage classOf
-    class-written = getD-set-same (set pages p 1) (P + p) c 0 (simp length-set long)
+    pub live-written : isLive (withPage P pages p c s) p ≡ true
+    unfolding isLive
+    live-written = rw word-written (lt-ltb 0 (1 + c) (omega arith))
 
-    pub live-written-other : (r : ℕ) → r < P → r ≢ p → isLive (withPage P pages p c) r ≡ isLive pages r
-    unfolding withPage
-    live-written-other r h apart = live-class P (set pages p 1) p c page r h ∙ live-live P pages p 1 page r h apart
+    pub class-written : classOf (withPage P pages p c s) p ≡ c
+    unfolding classOf
+    class-written = rw word-written (omega arith)
 
-    pub class-written-other : (r : ℕ) → r < P → r ≢ p → classOf (withPage P pages p c) P r ≡ classOf pages P r
-    unfolding withPage
-    class-written-other r h apart = class-class P (set pages p 1) p c page r h apart ∙ class-live P pages p 1 page r h
+    pub signature-written : signatureAt (withPage P pages p c s) P p ≡ s
+    unfolding withPage signatureAt
+    signature-written = getD-set-same (set pages p (1 + c)) (P + p) s 0 (simp length-set long)
+
+    -- every other page
+    module _ (r : ℕ) (h : r < P) (apart : r ≢ p) where
+      word-written-other : getD (withPage P pages p c s) r 0 ≡ getD pages r 0
+      unfolding withPage
+      word-written-other =
+          getD-set-other (set pages p (1 + c)) (P + p) r s 0 (omega arith) ∙ getD-set-other pages p r (1 + c) 0 apart
+
+      pub live-written-other : isLive (withPage P pages p c s) r ≡ isLive pages r
+      live-written-other = live-same (withPage P pages p c s) pages r r word-written-other
+
+      pub class-written-other : classOf (withPage P pages p c s) r ≡ classOf pages r
+      class-written-other = class-same (withPage P pages p c s) pages r r word-written-other
+
+      pub signature-written-other : signatureAt (withPage P pages p c s) P r ≡ signatureAt pages P r
+      unfolding withPage signatureAt
+      signature-written-other =
+          getD-set-other (set pages p (1 + c)) (P + p) (P + r) s 0 (omega arith)
+          ∙ getD-set-other pages p (P + r) (1 + c) 0 (omega arith)
 
     -- the links stand behind
-    pub behind-written : (i : ℕ) → 2 * P ≤ i → getD (withPage P pages p c) i 0 ≡ getD pages i 0
+    pub behind-written : (i : ℕ) → 2 * P ≤ i → getD (withPage P pages p c s) i 0 ≡ getD pages i 0
     unfolding withPage
     behind-written i h =
-        getD-set-other (set pages p 1) (P + p) i c 0 (omega arith) ∙ getD-set-other pages p i 1 0 (omega arith)
+        getD-set-other (set pages p (1 + c)) (P + p) i s 0 (omega arith) ∙ getD-set-other pages p i (1 + c) 0 (omega arith)
 
   pub live-struck : isLive (withoutPage pages p) p ≡ false
-  unfolding withoutPage
-  live-struck = live-same pages p 0 (omega arith)
+  unfolding withoutPage isLive
+  live-struck = rw (getD-set-same pages p 0 0 (omega arith))
 
-  pub live-struck-other : (r : ℕ) → r < P → r ≢ p → isLive (withoutPage pages p) r ≡ isLive pages r
-  unfolding withoutPage
-  live-struck-other r h apart = live-live P pages p 0 page r h apart
+  module _ (r : ℕ) (h : r < P) where
+    module _ (apart : r ≢ p) where
+      word-struck-other : getD (withoutPage pages p) r 0 ≡ getD pages r 0
+      unfolding withoutPage
+      word-struck-other = getD-set-other pages p r 0 0 apart
 
-  pub class-struck : (r : ℕ) → r < P → classOf (withoutPage pages p) P r ≡ classOf pages P r
-  unfolding withoutPage
-  class-struck r h = class-live P pages p 0 page r h
+      pub live-struck-other : isLive (withoutPage pages p) r ≡ isLive pages r
+      live-struck-other = live-same (withoutPage pages p) pages r r word-struck-other
+
+      pub class-struck-other : classOf (withoutPage pages p) r ≡ classOf pages r
+      class-struck-other = class-same (withoutPage pages p) pages r r word-struck-other
+
+    pub signature-struck : signatureAt (withoutPage pages p) P r ≡ signatureAt pages P r
+    unfolding withoutPage signatureAt
+    signature-struck = getD-set-other pages p (P + r) 0 0 (omega arith)
 
   pub behind-struck : (i : ℕ) → 2 * P ≤ i → getD (withoutPage pages p) i 0 ≡ getD pages i 0
   unfolding withoutPage
   behind-struck i h = getD-set-other pages p i 0 0 (omega arith)
 
--- ---- live words and classes are the first 2 × P words; the links stand behind them
+-- ---- page words and signatures are the first 2 × P words; the links stand behind them
 module _ (P : ℕ) (pages others : List ℕ) (same : take (2 * P) pages ≡ take (2 * P) others) where
   kept : (i : ℕ) → i < 2 * P → getD pages i 0 ≡ getD others i 0
   kept i h = sym (getD-take (2 * P) pages i 0 h) ∙ ap (λ l. getD l i 0) same ∙ getD-take (2 * P) others i 0 h
 
-  pub live-kept : (p : ℕ) → p < P → isLive pages p ≡ isLive others p
-  unfolding isLive
-  live-kept p h = ap (λ w. eqb w 1) (kept p (omega arith))
+  module _ (p : ℕ) (h : p < P) where
+    pub live-kept : isLive pages p ≡ isLive others p
+    live-kept = live-same pages others p p (kept p (omega arith))
 
-  pub class-kept : (p : ℕ) → p < P → classOf pages P p ≡ classOf others P p
-  unfolding classOf
-  class-kept p h = kept (P + p) (omega arith)
+    pub class-kept : classOf pages p ≡ classOf others p
+    class-kept = class-same pages others p p (kept p (omega arith))
+
+    pub signature-kept : signatureAt pages P p ≡ signatureAt others P p
+    unfolding signatureAt
+    signature-kept = kept (P + p) (omega arith)
 
 pub link-behind : (P j p : ℕ) → 2 * P ≤ nextAt P j + p
 link-behind P j p = omega (arith, mul-le-mul-right P (le-add-right 2 j))

@@ -2,6 +2,7 @@ pub mod Settings
 pub mod Limits
 pub mod Header
 pub mod Nodes
+pub mod Signature
 pub mod Pages
 pub mod Working
 pub mod Lengths

@@ -1,20 +1,37 @@
 // The words of the page table, and the rows of the sketch table.
 ghost use mathlib.Core.Path.{_≡_};
 ghost use Prim.Native.Nat.{_+_, _*_, _≤_, _<_};
-ghost use lib.ListN.{length};
-ghost use Rattle.layout.specs.Pages.{mostPages, isLive, classOf, nextAt, rowOf, withPage, withoutPage, withRow};
+ghost use lib.ListN.{length, getD};
+ghost use Rattle.layout.specs.Pages.{mostPages, isLive, classOf, signatureAt, nextAt, rowOf, withPage, withoutPage, withRow};
+
+// The page word of page p: 0 for a page that is not live, else 1 + its class.
+pub fn page_word(pages: &[u32], p: usize) -> u32
+    requires { ⌜ p < length (now pages) ⌝ }
+    ensures { λ r. ⌜ r ≡ getD (now (pages .entry)) p 0 ⌝ }
+{
+    pages[p]
+}
 
 pub fn is_live(pages: &[u32], p: usize) -> bool
     requires { ⌜ p < length (now pages) ⌝ }
     ensures { λ r. ⌜ r ≡ isLive (now (pages .entry)) p ⌝ }
 {
-    pages[p] == 1
+    page_word(pages, p) > 0
 }
 
-// The class of page p, of a table of cap pages.
-pub fn class_of(pages: &[u32], cap: usize, p: usize) -> u32
+// The class of page p; 0 of a page that is not live.
+pub fn class_of(pages: &[u32], p: usize) -> u32
+    requires { ⌜ p < length (now pages) ⌝ }
+    ensures { λ r. ⌜ r ≡ classOf (now (pages .entry)) p ⌝ }
+{
+    let word = page_word(pages, p);
+    if word > 0 { word - 1 } else { 0 }
+}
+
+// The signature that is stored for page p, in a table of cap pages.
+pub fn signature_word(pages: &[u32], cap: usize, p: usize) -> u32
     requires { ⌜ cap + p < length (now pages) ⌝ }
-    ensures { λ r. ⌜ r ≡ classOf (now (pages .entry)) cap p ⌝ }
+    ensures { λ r. ⌜ r ≡ signatureAt (now (pages .entry)) cap p ⌝ }
 {
     pages[cap + p]
 }
@@ -39,14 +56,15 @@ pub fn row(sketches: &[u8], m: usize, p: usize) -> &[u8]
     &sketches[start..end]
 }
 
-// Page p is live, in this class.
-pub fn write_page(pages: &mut [u32], cap: usize, p: usize, class: u32)
+// Page p is live, in this class, and its row has this signature.
+pub fn write_page(pages: &mut [u32], cap: usize, p: usize, class: u32, signature: u32)
     requires { ⌜ (p < cap) × (cap + p < length (now pages)) ⌝ }
-    ensures { λ r. ⌜ now (pages .exit) ≡ withPage cap (now (pages .entry)) p class ⌝ }
+    requires { ⌜ class < 64 ⌝ }
+    ensures { λ r. ⌜ now (pages .exit) ≡ withPage cap (now (pages .entry)) p class signature ⌝ }
 {
-    let class_at = cap + p;
-    pages[p] = 1;
-    pages[class_at] = class;
+    let signature_at = cap + p;
+    pages[p] = 1 + class;
+    pages[signature_at] = signature;
 }
 
 // Page p is not live.

@@ -11,7 +11,7 @@ ghost use Rattle.layout.specs.Header.{headerOf, withThresholds, openingO
 use crate::Header;
 use crate::Opening;
 
-const MARK: u32 = 0x56440001;
+const MARK: u32 = 0x56440002;
 
 // How many words the table needs.
 pub const LENGTH: usize = 391;

@@ -10,7 +10,8 @@ use Rattle.meaning.specs.Sketch.{inRange}
 use Rattle.meaning.specs.Trie.{Tree}
 use Rattle.meaning.specs.Forest.{bytesOfSketch, totalNodes}
 use Rattle.layout.specs.Settings.{freeAt}
-use Rattle.layout.specs.Pages.{nextAt, isLive}
+use Rattle.layout.specs.Pages.{nextAt, isLive, signatureAt}
+use Rattle.layout.specs.Signature.{signature}
 use Rattle.children.specs.Heap.{Cells, nil, _⊕_, Heap}
 use Rattle.children.specs.Phys.{Phys, root, tree, first, cells, freeCells, Below}
 use Rattle.children.specs.Phys.{Sound as SoundNodes}
@@ -46,10 +47,11 @@ livePage T p = ltb p (given T .pages) && isLive (T .pages) p
 unfoldable pub pageBytes : Tables → ℕ → ℕ → List ℕ
 pageBytes T j p = bytesOfSketch (given T) j (pageRow T p)
 
--- a live page has a class below 64 and symbols below 2^b
+-- a live page has a class below 64 and symbols below 2^b, and the signature stored for it is that of its row
 pub record SoundPage (T : Tables) (p : ℕ) : Type 0 where
   pub class : pageClass T p < 64
   pub symbols : inRange (given T .bits) (pageRow T p) ≡ true
+  pub signature : signatureAt (T .pages) (given T .pages) p ≡ signature (given T .bits) (pageRow T p)
 
 -- the store is sound, and its tries are these
 pub record Sound (T : Tables) (F : List Tree) : Type 0 where

@@ -15,6 +15,7 @@ use Rattle.meaning.specs.Ledger.{add, drop}
 use Rattle.meaning.specs.Forest.{forestAfter}
 use Rattle.layout.specs.Settings.{freeAt}
 use Rattle.layout.specs.Pages.{withRow, withPage, withoutPage, linksAt}
+use Rattle.layout.specs.Signature.{signature}
 use Rattle.layout.specs.Lengths.{nodesLength, pagesLength}
 use Rattle.promises.specs.Tables.{Tables, given, rowsOf}
 use Rattle.promises.specs.Answers.{number}
@@ -38,16 +39,16 @@ pub record SameRest (T T′ : Tables) : Type 0 where
 pub data Outcome : Type 0 where
   outcome : ℕ → Tables → Outcome
 
--- the live words and classes of a page table, by the capacity that T gives; the words behind them are links
+-- the page words and signatures of a page table, by the capacity that T gives; the words behind them are links
 abbrev pub pageWords : Tables → List ℕ → List ℕ
 pageWords T pages = take (linksAt (given T .pages)) pages
 
--- page p has its live word, class and row; those of every other page are as they were
+-- page p has its class, its row and the signature of that; those of every other page are as they were
 pub record PageAdded (T T′ : Tables) (p c : ℕ) (x : List ℕ) : Type 0 where
-  pub pages : pageWords T (T′ .pages) ≡ pageWords T (withPage (given T .pages) (T .pages) p c)
+  pub pages : pageWords T (T′ .pages) ≡ pageWords T (withPage (given T .pages) (T .pages) p c (signature (given T .bits) x))
   pub sketches : T′ .sketches ≡ withRow (given T .symbols) (T .sketches) p x
 
--- after 14: words of the tries may have changed, but no live word, no class and no word of the settings table
+-- after 14: words of the tries may have changed, but no page word, no signature and no word of the settings table
 pub record Unfinished (T T′ : Tables) : Type 0 where
   pub settings : T′ .settings ≡ T .settings
   pub pages : pageWords T (T′ .pages) ≡ pageWords T (T .pages)
@@ -83,7 +84,7 @@ pub record DroppedFrom (T : Tables) (F : List Tree) (p n : ℕ) (T′ : Tables) 
 pub record DropPromise (T : Tables) (p n : ℕ) (T′ : Tables) : Type 0 where
   pub early : number T [] (drop p) ≢ 0 → n ≡ number T [] (drop p)
   pub sound : (F : List Tree) → Sound T F → DroppedFrom T F p n T′
-  -- on any tables, as is all that follows: page p is not live; every other live word, and every class, is as it was
+  -- on any tables, as is all that follows: page p is not live; every other page word, and every signature, is as it was
   pub page : n ≡ 0 → pageWords T (T′ .pages) ≡ pageWords T (withoutPage (T .pages) p)
   pub refused : n ≢ 0 → n ≢ 14 → T′ ≡ T
   pub stopped : n ≡ 14 → Unfinished T T′

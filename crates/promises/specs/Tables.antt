@@ -77,7 +77,7 @@ given T = settingsOf (T .settings)
 
 -- a page's class and row
 unfoldable pub pageClass : Tables → ℕ → ℕ
-pageClass T p = classOf (T .pages) (given T .pages) p
+pageClass T p = classOf (T .pages) p
 
 unfoldable pub pageRow : Tables → ℕ → List ℕ
 pageRow T p = rowOf (given T .symbols) (T .sketches) p

@@ -20,7 +20,7 @@ use Rattle.layout.specs.Limits.{HeaderLimits}
 use Rattle.layout.specs.Lengths.{pagesLength, sketchesLength}
 use Rattle.layout.specs.Pages.{isLive, classOf, rowOf}
 use Rattle.layout.proofs.Openings.{shown, shown-number, refused-number, refused-range}
-use Rattle.layout.proofs.Words.{word-inside}
+use Rattle.layout.proofs.Words.{page-inside}
 use Rattle.layout.proofs.Rows.{row-inside}
 use Rattle.rights.specs.Register.{opens}
 use Rattle.promises.specs.Tables.{Tables, showTables, given, byTables, isShown, pageClass, pageRow}
@@ -34,10 +34,10 @@ abbrev pub longFor6 : Header → List ℕ → List ℕ → Bool
 longFor6 h pages sketches = leb (pagesLength (bare h)) (length pages) && leb (sketchesLength (bare h)) (length sketches)
 
 module _ (h : Header) (p : ℕ) (page : p < h .pages) where
-  pub class-inside : (pages sketches : List ℕ) → longFor6 h pages sketches ≡ true → h .pages + p < length pages
-  class-inside pages sketches long =
+  pub word-inside : (pages sketches : List ℕ) → longFor6 h pages sketches ≡ true → p < length pages
+  word-inside pages sketches long =
       let pages-long = leb-true (pagesLength (bare h)) (length pages) (and-first _ (leb (sketchesLength (bare h)) (length sketches)) long) in
-      omega (arith, word-inside (bare h) {k = 1} {p = p} (omega arith) page, pages-long)
+      omega (arith, page-inside (bare h) page, pages-long)
 
   pub start-fits : HeaderLimits h → p * h .m < 2 ^ 32
   start-fits l =
@@ -77,7 +77,7 @@ module _ (ws pages sketches : List ℕ) (r p : ℕ) where
         cond (longFor6 g pages sketches)
         (cond (ltb r 256)
         (cond (ltb p (g .pages))
-        (cond (isLive pages p && opens ws r (classOf pages (g .pages) p)) 0 9) 8) 7) 6
+        (cond (isLive pages p && opens ws r (classOf pages p)) 0 9) 8) 7) 6
 
     by-header : number T [] (reading (show r p)) ≡ from6 h
     unfolding from6 longPages pagesLength sketchesLength asked byTables isShown pageClass firstNo
@@ -106,7 +106,7 @@ module _ (ws pages sketches : List ℕ) (r p : ℕ) where
           row-missing live =
               refused-place T r p 9 (by-header ∙ rw (long, lt-ltb r 256 hr, lt-ltb p (h .pages) hp, live)) (omega arith)
 
-          module _ (live : isLive pages p ≡ true) (class : ℕ) (of-page : class ≡ classOf pages (h .pages) p) where
+          module _ (live : isLive pages p ≡ true) (class : ℕ) (of-page : class ≡ classOf pages p) where
             pub row-closed : opens ws r class ≡ false → noRow 9 ≡ placeOf T r p
             unfolding from6
             row-closed shut =

@@ -52,7 +52,7 @@ pub fn find_row(settings: &[u32], pages: &[u32], sketches: &[u8], reader: u32, p
     if !layout::pages::is_live(pages, p) {
         return refused(9); // no such page
     }
-    let class = layout::pages::class_of(pages, cap, p);
+    let class = layout::pages::class_of(pages, p);
     if !rights::is_open_to(settings, reader as usize, class) {
         return refused(9); // closed to the reader
     }

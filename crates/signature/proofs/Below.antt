@@ -14,7 +14,8 @@ use Rattle.meaning.specs.Sketch.{distance, inRange, perByte, pack, group, byteD
 use Rattle.sketch_laws.specs.Packed.{sumPairs, packedDistance}
 use Rattle.sketch_laws.proofs.Packing.{pack-length}
 use Rattle.sketch_laws.proofs.ByteDistance.{xor-group, byte-distance, byte-distance-zero, distance-packed}
-use Rattle.signature.specs.Signature.{foldedByte, folded, signature, signatureDistance}
+use Rattle.layout.specs.Signature.{foldedByte, folded, signature}
+use Rattle.signature.specs.Distance.{signatureDistance}
 use Rattle.signature.proofs.Folded.{packed-range, folded-at}
 
 -- 1 where two numbers differ

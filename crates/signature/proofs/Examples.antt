@@ -5,7 +5,8 @@ use mathlib.Core.List.{[], _∷_, _++_}
 use lib.ListN.{replicate}
 use Rattle.meaning.specs.Lists.{count, from, upto, sum}
 use Rattle.meaning.specs.Sketch.{distance, perByte, packedLength, packByte, packBytes, pack, group, byteDistance}
-use Rattle.signature.specs.Signature.{foldedByte, folded, signature, signatureDistance}
+use Rattle.layout.specs.Signature.{foldedByte, folded, signature}
+use Rattle.signature.specs.Distance.{signatureDistance}
 
 pub record Examples : Type 0 where
   -- b 2: 0 1 2 3 packs to 228; at most four packed bytes stay as they are

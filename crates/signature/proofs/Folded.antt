@@ -13,7 +13,7 @@ use Rattle.meaning.specs.Lists.{all, from, upto}
 use Rattle.meaning.specs.Sketch.{inRange, packByte, pack, group}
 use Rattle.meaning.proofs.Lists.{and-first, and-second, length-upto, upto-at}
 use Rattle.sketch_laws.proofs.Packing.{range-of, group-byte, pack-byte}
-use Rattle.signature.specs.Signature.{foldedByte, folded}
+use Rattle.layout.specs.Signature.{foldedByte, folded}
 
 -- the bytes of a packing are numbers of 8 bits
 pub packed-range : (b : ℕ) (xs : List ℕ) → inRange b xs ≡ true → inRange 8 (pack b xs) ≡ true

@@ -21,7 +21,7 @@ use Rattle.sketch_laws.proofs.Packing.{range-at, range-drop, pack-length}
 use Rattle.blocks.specs.Packed.{rowByte, pageByte, levelAt}
 use Rattle.blocks.specs.RowBytes.{reduced, rowBytes, rowsOf}
 use Rattle.blocks.proofs.RowBytes.{reduced-same, reduced-range, level-byte}
-use Rattle.signature.specs.Signature.{folded, signature}
+use Rattle.layout.specs.Signature.{folded, signature}
 use Rattle.signature.proofs.Folded.{packed-range, folded-none, folded-more}
 
 -- the whole row is block 0 of one block

@@ -1,1 +1,1 @@
-pub mod Signature
+pub mod Distance

@@ -1,12 +1,13 @@
-// The signature of a sketch: its packed bytes folded to four by exclusive or. The distance of two signatures is at most the distance of
-// the sketches, so that a page can be left out of a search without its row being read.
+// The signature of a sketch: its packed bytes folded to four by exclusive or (layout/specs/Signature.antt). The distance of two
+// signatures is at most the distance of the sketches, so that a page can be left out of a search without its row being read.
 ghost use mathlib.Core.Path.{_≡_};
 ghost use Prim.Native.Nat.{_≤_};
 ghost use lib.ListN.{length};
 ghost use Rattle.sketch.specs.Settings.{Bits};
 ghost use Rattle.distances.specs.Table.{distanceTable};
 ghost use Rattle.blocks.specs.RowBytes.{reduced};
-ghost use Rattle.signature.specs.Signature.{signature, signatureDistance};
+ghost use Rattle.layout.specs.Signature.{signature};
+ghost use Rattle.signature.specs.Distance.{signatureDistance};
 use blocks::packed::row_byte;
 use distances::byte_distance;
 use sketch::limits::packed_length;

@@ -8,7 +8,7 @@ use borrow.Author.Needs.{needs}
 use Rattle.meaning.specs.Lists.{sum, from, upto}
 use Rattle.meaning.specs.Sketch.{byteDistance, group}
 use Rattle.sketch.proofs.Width.{byte-distance-most}
-use Rattle.signature.specs.Signature.{signatureDistance}
+use Rattle.signature.specs.Distance.{signatureDistance}
 use Rattle.signature.proofs.signature_distance.Statement.{statement}
 use Rattle.signature.proofs.signature_distance.Tie as tie
 

@@ -6,7 +6,7 @@ use lib.ListN.{length, drop}
 use borrow.Author.Needs.{needs}
 use Rattle.meaning.specs.Sketch.{perByte, packedLength, pack}
 use Rattle.blocks.specs.RowBytes.{reduced}
-use Rattle.signature.specs.Signature.{folded}
+use Rattle.layout.specs.Signature.{folded}
 use Rattle.signature.proofs.Rows.{row-none, row-ends, row-fits, row-turn, row-done}
 use Rattle.signature.proofs.signature_of.Statement.{statement}
 use Rattle.signature.proofs.signature_of.Tie as tie

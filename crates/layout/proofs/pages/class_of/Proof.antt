@@ -1,22 +1,23 @@
 -- `class_of` is `classOf`.
-use mathlib.Core.Path.{refl}
+use native.Mathlib.Omega.{arith}
 use borrow.Author.Needs.{needs}
 use Rattle.layout.specs.Pages.{classOf}
 use Rattle.layout.proofs.pages.class_of.Statement.{statement}
 use Rattle.layout.proofs.pages.class_of.Tie as tie
 
-add-result : tie.Need-add-result
-add-result c = search needs
+page-word-requires : tie.Need-page-word-requires
+page-word-requires c κs = search needs
 
-mul-result : tie.Need-mul-result
-mul-result c = search needs
-
-shared-slice-read-result : tie.Need-shared-slice-read-result
-shared-slice-read-result c = search needs
+sub-result : tie.Need-sub-result
+sub-result c = search needs
 
 returns : tie.Need-returns
 unfolding classOf
-returns c = refl
+returns c = omega arith
+
+returns-2 : tie.Need-returns-2
+unfolding classOf
+returns-2 c = omega arith
 
 pub class-of-spec : {M : Type 1} → statement M
-class-of-spec = tie.close (tie.spec add-result mul-result shared-slice-read-result returns)
+class-of-spec = tie.close (tie.spec page-word-requires sub-result returns returns-2)

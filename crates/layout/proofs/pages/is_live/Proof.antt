@@ -1,19 +1,17 @@
 -- `is_live` is `isLive`.
-use mathlib.Core.Path.{refl}
+use mathlib.Core.Path.{ap}
+use lib.Dec.{ltb}
 use borrow.Author.Needs.{needs}
 use Rattle.layout.specs.Pages.{isLive}
 use Rattle.layout.proofs.pages.is_live.Statement.{statement}
 use Rattle.layout.proofs.pages.is_live.Tie as tie
 
-mul-result : tie.Need-mul-result
-mul-result c = search needs
-
-shared-slice-read-result : tie.Need-shared-slice-read-result
-shared-slice-read-result c = search needs
+page-word-requires : tie.Need-page-word-requires
+page-word-requires c κs = search needs
 
 returns : tie.Need-returns
 unfolding isLive
-returns c = refl
+returns c = ap (λ w. ltb 0 w) (c .page-word .ensures)
 
 pub is-live-spec : {M : Type 1} → statement M
-is-live-spec = tie.close (tie.spec mul-result shared-slice-read-result returns)
+is-live-spec = tie.close (tie.spec page-word-requires returns)

@@ -5,8 +5,11 @@ use Rattle.layout.specs.Pages.{withPage}
 use Rattle.layout.proofs.pages.write_page.Statement.{statement}
 use Rattle.layout.proofs.pages.write_page.Tie as tie
 
-add-class-at : tie.Need-add-class-at
-add-class-at c = search needs
+add-signature-at : tie.Need-add-signature-at
+add-signature-at c = search needs
+
+add-pages : tie.Need-add-pages
+add-pages c = search needs
 
 mul-pages : tie.Need-mul-pages
 mul-pages c = search needs
@@ -31,7 +34,8 @@ pub write-page-spec : {M : Type 1} → statement M
 write-page-spec =
     tie.close
     (tie.spec
-    add-class-at
+    add-signature-at
+    add-pages
     mul-pages
     slice-write-pages
     mul-pages-2

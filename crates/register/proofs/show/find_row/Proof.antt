@@ -1,5 +1,5 @@
 -- `find_row` is `placeOf`.
-use Prim.Native.Nat.{_+_, _<_}
+use Prim.Native.Nat.{_<_}
 use native.Mathlib.Omega.{arith}
 use mathlib.Core.Path.{_≡_, sym, _∙_}
 use mathlib.Core.Bool.{true}
@@ -9,7 +9,7 @@ use Rattle.layout.specs.declared.Opening.the-variants.{Shown}
 use Rattle.layout.specs.Header.{openingOf}
 use Rattle.layout.proofs.Openings.{shown}
 use Rattle.entry.proofs.Questions.{fails, holds}
-use Rattle.register.proofs.Shows.{longFor6, row-refused, row-6, row-7, row-8, class-inside, start-fits, row-missing, row-closed, row-shown}
+use Rattle.register.proofs.Shows.{longFor6, row-refused, row-6, row-7, row-8, word-inside, start-fits, row-missing, row-closed, row-shown}
 use Rattle.register.proofs.show.find_row.Statement.{statement}
 use Rattle.register.proofs.show.find_row.Tie as tie
 
@@ -71,14 +71,14 @@ returns-4 c =
     c .refused4 .ensures
     ∙ row-8 _ _ _ _ _ _ (shows (t .before .before)) (long t) (c .before .before .if2 .left) (c .before .if3 .taken)
 
--- the page stands in the table
-inside : (c : tie.Else3) → let k = c .before .before .before .before in k .before .h .given .0 .0 .pages + entry k .args .page < length (entry k .args .pages .now)
+-- the page word stands in the table
+inside : (c : tie.Else3) → let k = c .before .before .before .before in entry k .args .page < length (entry k .args .pages .now)
 inside c =
     let a = entry (c .before .before .before .before) .args in
-    class-inside _ _ (c .if3 .left) (a .pages .now) (a .sketches .now) (long (c .before .before))
+    word-inside _ _ (c .if3 .left) (a .pages .now) (a .sketches .now) (long (c .before .before))
 
 is-live-requires : tie.Need-is-live-requires
-is-live-requires c κs = omega (arith, inside c)
+is-live-requires c κs = inside c
 
 refused-requires-5 : tie.Need-refused-requires-5
 refused-requires-5 c κs = search needs

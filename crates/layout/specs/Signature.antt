@@ -1,9 +1,9 @@
--- The signature of a sketch: 32 bits of which a distance can be read that is at most the distance of the sketches.
+-- The signature of a sketch: its packed bytes folded to four by exclusive or, as one word.
 use Prim.Native.Nat.{ℕ, zero, suc}
 use mathlib.Core.List.{List, [], _∷_, map}
 use lib.Bits.{bitXor}
-use Rattle.meaning.specs.Lists.{upto, sum}
-use Rattle.meaning.specs.Sketch.{packByte, pack, group, byteDistance}
+use Rattle.meaning.specs.Lists.{upto}
+use Rattle.meaning.specs.Sketch.{packByte, pack}
 
 -- the exclusive or of the bytes i, i + 4, i + 8, ..
 unfoldable pub foldedByte : ℕ → List ℕ → ℕ
@@ -18,7 +18,3 @@ folded vs = packByte 8 (map (λ i. foldedByte i vs) (upto 4))
 -- the packed bytes of a sketch, folded
 unfoldable pub signature : ℕ → List ℕ → ℕ
 signature b xs = folded (pack b xs)
-
--- the distance of two signatures: the sum of the distances of their four bytes
-unfoldable pub signatureDistance : ℕ → ℕ → ℕ → ℕ
-signatureDistance b s t = sum (map (λ i. byteDistance b (group 8 (bitXor s t) i)) (upto 4))
