@@ -3,10 +3,11 @@ use sketch::limits::packed_length;
 use sketch::limits::per_byte;
 use sketch::packing::symbols_at;
 ghost use mathlib.Core.Path.{_≡_};
-ghost use Prim.Native.Nat.{_≤_};
+ghost use Prim.Native.Nat.{_<_, _≤_};
 ghost use lib.ListN.{length};
 ghost use Rattle.meaning.specs.Sketch.{distance};
 ghost use Rattle.sketch.specs.Settings.{Bits};
+ghost use Rattle.comparison.specs.Shapes.{shapeOf, Shaped};
 ghost use Rattle.comparison.specs.Verdicts.{verdictOf};
 
 // Whether a distance is within a radius.
@@ -15,32 +16,57 @@ pub enum Verdict {
     Beyond,
 }
 
-// The bytes of the packing in turn, and the groups of each; left at the first place where the distance passes the radius.
-pub fn compare(b: u32, row: &[u8], query: &[u8], radius: u32) -> Verdict
+// How the symbols of a sketch lie in the bytes of its packing: z in each, the rest in the last.
+pub struct Shape {
+    pub z: usize,
+    pub bytes: usize,
+    pub last: usize,
+}
+
+// The shape of n symbols of b bits, worked out once for all rows.
+pub fn shape_of(b: u32, n: usize) -> Shape
     requires { ⌜ Bits b ⌝ }
+    requires { ⌜ (0 < n) × (n ≤ 64) ⌝ }
+    ensures { λ r. ⌜ r ≡ shapeOf b n ⌝ }
+{
+    let bytes = packed_length(b, n);
+    Shape {
+        z: per_byte(b),
+        bytes: bytes,
+        last: symbols_at(b, n, bytes - 1),
+    }
+}
+
+// The bytes of the packing in turn, and the groups of each; left at the first place where the distance passes the radius.
+// `left` is what the radius still allows.
+pub fn compare(shape: Shape, row: &[u8], query: &[u8], radius: u32) -> Verdict
+    requires { ⌜ Shaped shape (length (now row)) ⌝ }
     requires { ⌜ length (now row) ≡ length (now query) ⌝ }
-    requires { ⌜ length (now row) ≤ 64 ⌝ }
     ensures { λ r. ⌜ r ≡ verdictOf (distance (now (row .entry)) (now (query .entry))) radius ⌝ }
 {
-    let n = row.len();
-    let z = per_byte(b);
-    let bytes = packed_length(b, n);
-    let mut d: u32 = 0;
+    let mut left = radius;
+    let mut at = 0;
     let mut k = 0;
     'bytes: loop {
-        if k == bytes {
+        if k == shape.bytes {
             break 'bytes Verdict::Within;
         }
-        let groups = symbols_at(b, n, k);
+        k += 1;
+        let groups = if k == shape.bytes {
+            shape.last
+        } else {
+            shape.z
+        };
         let mut g = 0;
         while g < groups {
-            let i = k * z + g;
-            d += (row[i] != query[i]) as u32;
-            if d > radius {
+            let i = at + g;
+            let differs = (row[i] != query[i]) as u32;
+            if left < differs {
                 break 'bytes Verdict::Beyond;
             }
+            left -= differs;
             g += 1;
         }
-        k += 1;
+        at += groups;
     }
 }

@@ -1,27 +1,41 @@
--- Four pages of two symbols and a query 1 2 with radius 1, all marked: page 0 is not live, page 1 is at distance 1, page 2 at distance 2,
--- page 3 of a closed class. Page 1 alone is listed. The hypotheses of the passes hold here.
-use mathlib.Core.Path.{_≡_, refl, sym}
-use mathlib.Core.Bool.{false≢true}
-use mathlib.Core.List.{List, [], _∷_}
+-- Five pages of two symbols and a query 1 2 with radius 1. Page 0 is not live, page 1 is at distance 1, page 2 at distance 2, page 3 of
+-- a closed class; page 4 is the query itself, but a wrong signature is stored for it. Page 1 alone passes. The hypotheses of the test hold here.
+use mathlib.Core.Path.{_≡_, refl}
+use mathlib.Core.Bool.{true, false}
+use mathlib.Core.List.{List, [], _∷_, map}
 use Prim.Native.Nat.{ℕ}
 use native.Mathlib.Omega.{arith}
-use Rattle.meaning.specs.Sketch.{distance}
-use Rattle.words.specs.Bits.{rising, bit, withBit, flag}
+use Rattle.meaning.specs.Lists.{count, from, upto, sum}
+use Rattle.meaning.specs.Sketch.{distance, perByte, packedLength, packByte, packBytes, pack, group, byteDistance, symbolsAt}
+use Rattle.words.specs.Bits.{bit}
 use Rattle.layout.specs.Lengths.{pagesLength, sketchesLength}
-use Rattle.layout.specs.Pages.{isLive, classOf, rowOf}
+use Rattle.layout.specs.Pages.{isLive, classOf, signatureAt, rowOf}
+use Rattle.layout.specs.Signature.{foldedByte, folded, signature}
+use Rattle.rights.specs.declared.Classes.{Classes}
 use Rattle.rights.specs.Open.{isOpen}
-use Rattle.hits.specs.Hit.{Test, test, Fitting, isHit}
-use Rattle.hits.specs.Marks.{wordOf, keptWord, Room, Summarised, listOf, changed, keptMap}
+use Rattle.signature.specs.Distance.{signatureDistance}
+use Rattle.layout.specs.declared.Header.{Header}
+use Rattle.hits.specs.declared.Probe.{Probe}
+use Rattle.hits.specs.Hit.{Test, Fitting, isHit, isNear, passes}
+use Rattle.hits.specs.Probes.{probeOf, Prepared, testBy}
 
+abbrev query : List ℕ
+query = 1 ∷ 2 ∷ []
+
+abbrev probe : Probe
+probe = probeOf (record { b = 2; m = 2; q = 1; pages = 5; nodes = 1 }) (record { low = 32; high = 0 }) query 1
+
+prepared : Prepared query probe
+prepared = refl
+
+-- page words, signatures, links
 abbrev asked : Test
 asked =
-    test
-    (0 ∷ 1 ∷ 1 ∷ 1 ∷ 5 ∷ 5 ∷ 5 ∷ 6 ∷ 0 ∷ 0 ∷ 0 ∷ 0 ∷ [])
-    (1 ∷ 2 ∷ 1 ∷ 3 ∷ 0 ∷ 0 ∷ 1 ∷ 2 ∷ [])
-    (record { b = 2; m = 2; q = 1; pages = 4; nodes = 1 })
-    (record { low = 32; high = 0 })
-    (1 ∷ 2 ∷ [])
-    1
+    testBy
+    (0 ∷ 6 ∷ 6 ∷ 7 ∷ 6 ∷ 9 ∷ 13 ∷ 0 ∷ 9 ∷ 6 ∷ 0 ∷ 0 ∷ 0 ∷ 0 ∷ 0 ∷ [])
+    (1 ∷ 2 ∷ 1 ∷ 3 ∷ 0 ∷ 0 ∷ 1 ∷ 2 ∷ 1 ∷ 2 ∷ [])
+    query
+    probe
 
 fitting : Fitting asked
 unfolding pagesLength sketchesLength
@@ -44,16 +58,11 @@ fitting = record {
   query = refl;
 }
 
-abbrev marks : List ℕ
-marks = 15 ∷ 1 ∷ []
+passing : map (passes asked) (upto 5) ≡ false ∷ true ∷ false ∷ false ∷ false ∷ []
+unfolding passes isHit isNear isLive classOf signatureAt rowOf isOpen bit distance signature folded foldedByte pack packBytes packByte packedLength perByte signatureDistance byteDistance group sum count upto from
+passing = refl
 
-room : Room marks 1
-room = record { most = omega arith; long = omega arith }
-
-summarised : Summarised marks 1
-unfolding flag bit
-summarised = record { skipped = λ i h e. let first : i ≡ 0 = omega arith in absurd (false≢true (sym (rw first at e))) }
-
-listed : listOf (keptMap (isHit asked) marks 1) 1 ≡ 1 ∷ []
-unfolding listOf keptMap changed keptWord wordOf rising flag bit withBit isHit isLive isOpen classOf rowOf distance
-listed = refl
+-- page 4 is a hit, which its signature hides
+hidden : isHit asked 4 ≡ true
+unfolding isHit isLive classOf rowOf isOpen bit distance
+hidden = refl

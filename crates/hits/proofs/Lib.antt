@@ -1,12 +1,4 @@
 pub mod Hit
-pub mod Words
-pub mod Next
-pub mod Changed
-pub mod Pages
-pub mod Written
-pub mod Pass
-pub mod Listed
-pub mod Keep
-pub mod Write
-pub mod Summary
+pub mod Filter
+pub mod Wanted
 pub mod Example

@@ -10,9 +10,11 @@ use Rattle.layout.specs.declared.Header.{Header}
 use Rattle.layout.specs.Header.{bare}
 use Rattle.layout.specs.Limits.{HeaderLimits}
 use Rattle.layout.specs.Lengths.{pagesLength, sketchesLength}
-use Rattle.layout.specs.Pages.{isLive, classOf, rowOf}
+use Rattle.layout.specs.Pages.{isLive, classOf, signatureAt, rowOf}
+use Rattle.layout.specs.Signature.{signature}
 use Rattle.rights.specs.declared.Classes.{Classes}
 use Rattle.rights.specs.Open.{isOpen}
+use Rattle.signature.specs.Distance.{signatureDistance}
 
 -- what a page is tested by: the tables, the capacities, the open classes, the query and its radius
 pub record Test : Type 0 where
@@ -39,5 +41,17 @@ unfoldable pub isHit : Test → ℕ → Bool
 isHit t p =
     ltb p (t .header .pages)
     && isLive (t .pages) p
-    && isOpen (t .classes) (classOf (t .pages) (t .header .pages) p)
+    && isOpen (t .classes) (classOf (t .pages) p)
     && leb (distance (rowOf (t .header .m) (t .sketches) p) (t .query)) (t .radius)
+
+-- the signature stored for page p is within the radius of a signature s
+unfoldable pub isNear : Header → List ℕ → ℕ → ℕ → ℕ → Bool
+isNear h pages s radius p = leb (signatureDistance (h .b) (signatureAt pages (h .pages) p) s) radius
+
+-- by the query's signature
+abbrev pub nearQuery : Test → ℕ → Bool
+nearQuery t p = isNear (t .header) (t .pages) (signature (t .header .b) (t .query)) (t .radius) p
+
+-- the test that a search makes of a page that it meets; it is `isHit` where the signature stored is that of the row
+unfoldable pub passes : Test → ℕ → Bool
+passes t p = isHit t p && nearQuery t p

@@ -1,2 +1,2 @@
 pub mod Hit
-pub mod Marks
+pub mod Probes

@@ -1,135 +1,114 @@
--- `compare` is the verdict on the distance. At group g of byte k the places before k * z + g are counted.
-use mathlib.Core.Path.{_≡_, _∙_}
-use Prim.Native.Nat.{_+_, _-_, _*_, _≤_, _<_}
-use native.Mathlib.Nat.{zero-mul, add-zero, add-assoc}
+-- `compare` is the verdict on the distance. At group g of a byte the places before at + g are counted: as many differ as the radius has lost.
+use mathlib.Core.Path.{_≡_}
+use mathlib.Core.Logic.{⊎-elim, inl, inr}
+use Prim.Native.Nat.{_+_, _-_, _≤_}
+use native.Mathlib.Nat.{add-zero, add-assoc}
 use native.Mathlib.Omega.{arith}
 use lib.ListN.{length, getD}
 use borrow.Author.Needs.{needs}
-use Rattle.meaning.specs.Sketch.{perByte, packedLength}
-use Rattle.sketch.proofs.Packed.{part-ends, part-next}
-use Rattle.sketch.proofs.Places.{Counted, differ, counted-none, counted-more, counted-on, counted-all}
+use Rattle.sketch.proofs.Places.{Counted, differ, counted-none, counted-more, counted-all}
+use Rattle.comparison.proofs.Shapes.{Placed, Groups, placed-start, groups-inside, placed-next}
 use Rattle.comparison.proofs.Verdicts.{within, beyond}
-use Rattle.sketch.proofs.Width.{byte-begins, bytes-cover}
 use Rattle.comparison.proofs.compare.Statement.{statement}
 use Rattle.comparison.proofs.compare.Tie as tie
 
 abbrev Inv-loop : tie.InvT-loop
-Inv-loop b row query radius n z bytes d₀ k groups g₀ d g =
-    (g ≤ groups) × (d ≤ radius) × Counted row query d (k * z + g)
+Inv-loop shape row query radius left₀ at k groups g₀ left g =
+    (g ≤ groups) × (left ≤ radius) × Counted row query (radius - left) (at + g)
 
 abbrev μ-loop : tie.MeasureT-loop
-μ-loop b row query radius n z bytes d₀ k groups g₀ d g = groups - g
+μ-loop shape row query radius left₀ at k groups g₀ left g = groups - g
 
 abbrev Inv-bytes : tie.InvT-bytes
-Inv-bytes b row query radius n z bytes d₀ k₀ d k =
-    (z ≡ perByte b) × (bytes ≡ packedLength b n) × (k ≤ bytes) × (d ≤ radius) × Counted row query d (k * z)
+Inv-bytes shape row query radius left₀ at₀ k₀ left at k =
+    Placed shape (length row) k at × (left ≤ radius) × Counted row query (radius - left) at
 
 abbrev μ-bytes : tie.MeasureT-bytes
-μ-bytes b row query radius n z bytes d₀ k₀ d k = bytes - k
-
-per-byte-requires : tie.Need-per-byte-requires Inv-loop μ-loop Inv-bytes μ-bytes
-per-byte-requires c κs = search needs
-
-packed-length-requires : tie.Need-packed-length-requires Inv-loop μ-loop Inv-bytes μ-bytes
-packed-length-requires c κs = search needs
+μ-bytes shape row query radius left₀ at₀ k₀ left at k = shape .bytes - k
 
 bytes-holds : tie.Need-bytes-holds Inv-loop μ-loop Inv-bytes μ-bytes
 bytes-holds c =
-    let args = c .before .before .before .before .args in (
-      c .before .per-byte .ensures,
-      c .packed-length .ensures,
-      search needs,
-      search needs,
-      rw zero-mul (counted-none (args .row .now) (args .query .now)),
-    )
+    let all : c .args .radius - c .args .radius ≡ 0 = omega arith in
+    (placed-start _ _ (c .pre .0), omega arith, rw all (counted-none (c .args .row .now) (c .args .query .now)))
 
-symbols-at-requires : tie.Need-symbols-at-requires Inv-loop μ-loop Inv-bytes μ-bytes
-symbols-at-requires c κs = search needs
+add-k : tie.Need-add-k Inv-loop μ-loop Inv-bytes μ-bytes
+add-k c = omega (arith, c .before .before .bytes .inv .0 .most)
+
+-- the groups of the byte
+groups-of : (c : tie.Joined2 Inv-loop μ-loop Inv-bytes μ-bytes) →
+    let at-bytes = c .before .before .before .before in
+    Groups (at-bytes .before .args .shape) (at-bytes .bytes .k) (c .if2 .groups)
+groups-of c = ⊎-elim (λ w. inl (w .0 .taken, w .1)) (λ w. inr (w .0 .left, w .1)) (c .if2 .came)
+
+-- they end inside the row
+ends : (c : tie.Joined2 Inv-loop μ-loop Inv-bytes μ-bytes) →
+    let at-bytes = c .before .before .before .before in
+    at-bytes .bytes .at + c .if2 .groups ≤ length (at-bytes .before .args .row .now)
+ends c =
+    let at-bytes = c .before .before .before .before in
+    groups-inside _ _ (at-bytes .before .pre .0) (at-bytes .bytes .inv .0) (c .before .before .if1 .left) (groups-of c)
 
 loop-holds : tie.Need-loop-holds Inv-loop μ-loop Inv-bytes μ-bytes
 loop-holds c =
-    let inv = c .before .before .bytes .inv in
-    (search needs, inv .3, rw add-zero (inv .4))
-
--- byte k begins inside the row
-begins : (c : tie.Else1 Inv-loop μ-loop Inv-bytes μ-bytes) →
-    c .before .bytes .k * c .before .before .before .per-byte .result < length (c .before .before .before .before .before .before .args .row .now)
-begins c =
-    let start = c .before .before .before .before .before .before in
-    let inv = c .before .bytes .inv in
-    rw (inv .0) (byte-begins (start .args .b) (length (start .args .row .now)) (c .before .bytes .k) (start .pre .0) (omega arith))
-
--- and ends there
-ends : (c : tie.After-symbols-at Inv-loop μ-loop Inv-bytes μ-bytes) →
-    let at = c .before .before .bytes .k * c .before .before .before .before .per-byte .result in
-    at + c .symbols-at .result ≤ length (c .before .before .before .before .before .before .before .args .row .now)
-ends c = part-ends _ _ _ _ _ (c .before .before .bytes .inv .0) (c .symbols-at .ensures) (begins (c .before))
+    let inv = c .before .before .before .before .bytes .inv in
+    (omega arith, inv .1, rw add-zero (inv .2))
 
 -- the count after the turn
 turned : (c : tie.In-loop Inv-loop μ-loop Inv-bytes μ-bytes) →
-    let at-bytes = c .before .before .before .before in
-    let args = at-bytes .before .before .before .before .before .args in
-    let i = at-bytes .bytes .k * at-bytes .before .before .per-byte .result + c .before .loop .g in
-    Counted (args .row .now) (args .query .now) (c .before .loop .d + differ (getD (args .row .now) i 0) (getD (args .query .now) i 0)) (i + 1)
+    let at-bytes = c .before .before .before .before .before .before in
+    let args = at-bytes .before .args in
+    let i = at-bytes .bytes .at + c .before .loop .g in
+    Counted (args .row .now) (args .query .now) (args .radius - c .before .loop .left + differ (getD (args .row .now) i 0) (getD (args .query .now) i 0)) (i + 1)
 turned c =
     counted-more _ _ _ _ (omega (arith, ends (c .before .before))) (omega (arith, ends (c .before .before))) (c .before .loop .inv .2)
-
-mul-i : tie.Need-mul-i Inv-loop μ-loop Inv-bytes μ-bytes
-mul-i c = omega (arith, ends (c .before .before))
 
 add-i : tie.Need-add-i Inv-loop μ-loop Inv-bytes μ-bytes
 add-i c = omega (arith, ends (c .before .before))
 
-shared-slice-read-d : tie.Need-shared-slice-read-d Inv-loop μ-loop Inv-bytes μ-bytes
-shared-slice-read-d c = omega (arith, ends (c .before .before .before))
+shared-slice-read-differs : tie.Need-shared-slice-read-differs Inv-loop μ-loop Inv-bytes μ-bytes
+shared-slice-read-differs c = omega (arith, ends (c .before .before .before))
 
-shared-slice-read-d-2 : tie.Need-shared-slice-read-d-2 Inv-loop μ-loop Inv-bytes μ-bytes
-shared-slice-read-d-2 c = omega (arith, ends (c .before .before .before .before))
+shared-slice-read-differs-2 :
+    tie.Need-shared-slice-read-differs-2 Inv-loop μ-loop Inv-bytes μ-bytes
+shared-slice-read-differs-2 c = omega (arith, ends (c .before .before .before .before))
 
-cast-d : tie.Need-cast-d Inv-loop μ-loop Inv-bytes μ-bytes
-cast-d c = search needs
-
-add-d : tie.Need-add-d Inv-loop μ-loop Inv-bytes μ-bytes
-add-d c = omega (arith, ends (c .before .before .before .before), turned (c .before .before) .0)
+cast-differs : tie.Need-cast-differs Inv-loop μ-loop Inv-bytes μ-bytes
+cast-differs c = search needs
 
 add-g : tie.Need-add-g Inv-loop μ-loop Inv-bytes μ-bytes
-add-g c = search needs
+add-g c = omega (arith, ends (c .before .before .before .before .before))
 
 loop-less : tie.Need-loop-less Inv-loop μ-loop Inv-bytes μ-bytes
 loop-less c = omega arith
 
 loop-again : tie.Need-loop-again Inv-loop μ-loop Inv-bytes μ-bytes
-loop-again c = (omega arith, c .if2 .left, rw (← add-assoc) (turned (c .before .before .before)))
+loop-again c =
+    let loop = c .before .before .before in
+    let at-bytes = loop .before .before .before .before .before .before in
+    let args = at-bytes .before .args in
+    let i = at-bytes .bytes .at + loop .before .loop .g in
+    let d = differ (getD (args .row .now) i 0) (getD (args .query .now) i 0) in
+    let lost : args .radius - (loop .before .loop .left - d) ≡ args .radius - loop .before .loop .left + d = omega (arith, c .if3 .left, loop .before .loop .inv .1) in
+    (omega arith, omega arith, rw (← add-assoc, lost) (turned loop))
 
-add-k : tie.Need-add-k Inv-loop μ-loop Inv-bytes μ-bytes
-add-k c = search needs
+add-at : tie.Need-add-at Inv-loop μ-loop Inv-bytes μ-bytes
+add-at c = omega (arith, ends (c .before .before .before))
 
 bytes-less : tie.Need-bytes-less Inv-loop μ-loop Inv-bytes μ-bytes
-bytes-less c = search needs
+bytes-less c = omega (arith, c .before .before .before .before .before .before .before .bytes .inv .0 .most, c .before .before .before .before .before .if1 .left)
 
 bytes-again : tie.Need-bytes-again Inv-loop μ-loop Inv-bytes μ-bytes
 bytes-again c =
-    let at-symbols = c .before .before in
-    let at-bytes = at-symbols .before .before in
-    let inv = at-bytes .bytes .inv in
-    let all : c .before .loop .g ≡ at-symbols .symbols-at .result = omega arith in
-    let next = part-next _ _ _ _ _ (inv .0) (at-symbols .symbols-at .ensures) (begins (at-symbols .before)) in (
-      inv .0,
-      inv .1,
-      omega arith,
-      c .before .loop .inv .1,
-      counted-on _ _ _ _ _ (next .0) (next .1) (rw all at (c .before .loop .inv .2)),
-    )
+    let loop = c .before .before in
+    let joined = loop .before in
+    let at-bytes = joined .before .before .before .before in
+    let all : loop .loop .g ≡ joined .if2 .groups = omega arith in
+    (placed-next _ _ (at-bytes .before .pre .0) (at-bytes .bytes .inv .0) (joined .before .before .if1 .left) (groups-of joined), loop .loop .inv .1, rw all at (loop .loop .inv .2))
 
 returns : tie.Need-returns Inv-loop μ-loop Inv-bytes μ-bytes
 returns c =
-    let start = c .before .before .before .before .before .before in
-    let inv = c .before .bytes .inv in
-    let k = c .before .bytes .k in
-    let last : k ≡ packedLength (start .args .b) (length (start .args .row .now)) = c .if1 .taken ∙ inv .1 in
-    let covered : length (start .args .row .now) ≤ k * c .before .before .before .per-byte .result =
-    rw (inv .0, last) (bytes-cover (start .args .b) (length (start .args .row .now)) (start .pre .0)) in
-    within _ _ (omega (arith, counted-all _ _ _ _ covered (inv .4)))
+    let at = c .before .before in
+    within _ _ (omega (arith, counted-all _ _ _ _ (omega (arith, at .bytes .inv .0 .ends (c .if1 .taken))) (at .bytes .inv .2)))
 
 returns-2 : tie.Need-returns-2 Inv-loop μ-loop Inv-bytes μ-bytes
 returns-2 c = beyond _ _ (omega (arith, turned (c .before .before .before) .1))
@@ -142,21 +121,17 @@ compare-spec =
     μ-loop
     Inv-bytes
     μ-bytes
-    per-byte-requires
-    packed-length-requires
     bytes-holds
-    symbols-at-requires
+    add-k
     loop-holds
-    mul-i
     add-i
-    shared-slice-read-d
-    shared-slice-read-d-2
-    cast-d
-    add-d
+    shared-slice-read-differs
+    shared-slice-read-differs-2
+    cast-differs
     add-g
     loop-less
     loop-again
-    add-k
+    add-at
     bytes-less
     bytes-again
     returns

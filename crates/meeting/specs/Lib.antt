@@ -1,0 +1,3 @@
+pub mod Meets
+pub mod Mets
+pub mod Turns

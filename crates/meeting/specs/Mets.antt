@@ -1,0 +1,49 @@
+-- What meeting pages leaves in the maps, whatever the order in which they are met; and what it asks of the tables.
+use Prim.Native.Nat.{ℕ, _+_, _*_, _<_, _≤_}
+use mathlib.Core.Path.{_≡_}
+use mathlib.Core.Bool.{Bool, _&&_, _||_}
+use mathlib.Core.List.{List}
+use lib.Dec.{eqb}
+use lib.ListN.{length, getD, drop}
+use Rattle.meaning.specs.Lists.{any}
+use Rattle.words.specs.Bits.{flag}
+use Rattle.marks.specs.Marks.{summaryOf, Room, Summarised, listOf}
+use Rattle.hits.specs.Hit.{Fitting}
+use Rattle.hits.specs.Probes.{Prepared, testBy}
+use Rattle.meeting.specs.declared.Chain.{Chain}
+use Rattle.meeting.specs.declared.Chains.{Chains}
+use Rattle.meeting.specs.declared.Scope.{Scope}
+use Rattle.meeting.specs.declared.Tally.{Tally}
+use Rattle.meeting.specs.declared.Tallies.{Tallies}
+use Rattle.meeting.specs.declared.Tallies.the-variants.{Some, Broken}
+use Rattle.meeting.specs.Meets.{Meets, met, broken, chain}
+
+-- what lies behind both maps stays
+pub record Kept (words : ℕ) (before after : List ℕ) : Type 0 where
+  pub long : length after ≡ length before
+  pub behind : drop (words + summaryOf words) after ≡ drop (words + summaryOf words) before
+
+-- of the pages ps those that are hits are marked, beside those marked before
+pub record Met (hit : ℕ → Bool) (words : ℕ) (before ps after : List ℕ) : Type 0 where
+  pub kept : Kept words before after
+  pub flags : (k : ℕ) → k < words * 32 → flag after 0 k ≡ flag before 0 k || (any (eqb k) ps && hit k)
+  pub summarised : Summarised before words → Summarised after words
+
+-- the answer to chains whose pages are m, and the maps before and after
+pub record Meeting (hit : ℕ → Bool) (words : ℕ) (m : Meets) (before after : List ℕ) (r : Tallies) : Type 0 where
+  pub kept : Kept words before after
+  pub some : (t : Tally) → r ≡ Some t → (ps : List ℕ) × (m ≡ met ps (t .left)) × Met hit words before ps after × (t .count ≡ length (listOf after words))
+  pub none : r ≡ Broken → m ≡ broken
+
+-- the tables and the map are long enough for the pages, and the probe was made for the query
+pub record Ready (pages sketches query map : List ℕ) (s : Scope) : Type 0 where
+  pub fitting : Fitting (testBy pages sketches query (s .probe))
+  pub prepared : Prepared query (s .probe)
+  pub room : Room map (s .words)
+  pub bits : s .probe .header .pages ≤ s .words * 32
+
+-- at most 16 chains, whose links lie in a table of so many words
+pub record Inside (cap long : ℕ) (cs : Chains) : Type 0 where
+  pub all : length (cs .each) ≡ 16
+  pub few : cs .n ≤ 16
+  pub each : (j : ℕ) → j < cs .n → getD (cs .each) j (chain 0 0) .base + cap ≤ long
