@@ -15,8 +15,9 @@ use Rattle.layout.specs.Settings.{freeAt}
 use Rattle.layout.specs.Header.{headerOf}
 use Rattle.layout.specs.Lengths.{nodesLength, pagesLength, sketchesLength}
 use Rattle.layout.specs.Pages.{withPage, linksAt}
+use Rattle.layout.specs.Signature.{signature}
 use Rattle.layout.proofs.Rows.{length-with-row}
-use Rattle.layout.proofs.Words.{live-inside, class-inside}
+use Rattle.layout.proofs.Words.{page-inside, signature-inside}
 use Rattle.trie.specs.declared.span.Span.{Span}
 use Rattle.trie.specs.declared.span.Span.the-variants.{Enough, Short}
 use Rattle.trie.specs.declared.span.Span.the-variants as spans
@@ -39,7 +40,7 @@ use Rattle.entry.specs.Admission.{admission}
 use Rattle.entry.proofs.Admits.{admission-refused}
 use Rattle.add_laws.specs.Room.{roomOf}
 use Rattle.add_laws.specs.Insert.{Filled, filled, insertAll}
-use Rattle.add_laws.specs.Add.{rowAdded, pageAdded, onFilled, putPage, onRoom, placePage, onOpening, addPage}
+use Rattle.add_laws.specs.Add.{rowAdded, pageWritten, pageAdded, onFilled, putPage, onRoom, placePage, onOpening, addPage}
 use Rattle.add_laws.proofs.Passed.{Passed, passed, told-shown, asked-12, asked-ahead, row-fits, lent-row}
 use Rattle.add_laws.proofs.Kept.{KeptF, all-kept}
 use Rattle.add_laws.proofs.Question12.{room-right}
@@ -59,17 +60,22 @@ never-broken : (t : Bool) → cond t Enough Short ≡ spans.Broken → ⊥
 never-broken true e = let w : _≡_ {A = ℕ} 0 1 = cc in omega arith
 never-broken false e = let w : _≡_ {A = ℕ} 0 1 = cc in omega arith
 
--- ---- the page's live word and class
-page-words : (n p c : ℕ) → p < n → (A B : List ℕ) → take (2 * n) A ≡ take (2 * n) B → take (2 * n) (withPage n A p c) ≡ take (2 * n) (withPage n B p c)
+-- ---- the page's word and signature
+page-words : (n p c g : ℕ) → p < n → (A B : List ℕ) → take (2 * n) A ≡ take (2 * n) B → take (2 * n) (withPage n A p c g) ≡ take (2 * n) (withPage n B p c g)
 unfolding withPage
-page-words n p c l A B e = first A ∙ ap (λ (w : List ℕ). set (set w p 1) (n + p) c) e ∙ sym (first B)
+page-words n p c g l A B e = first A ∙ ap (λ (w : List ℕ). set (set w p (1 + c)) (n + p) g) e ∙ sym (first B)
   where
-    first : (W : List ℕ) → take (2 * n) (set (set W p 1) (n + p) c) ≡ set (set (take (2 * n) W) p 1) (n + p) c
-    first W = take-set-lt (2 * n) (set W p 1) (n + p) c (omega arith) ∙ ap (λ (w : List ℕ). set w (n + p) c) (take-set-lt (2 * n) W p 1 (omega arith))
+    first : (W : List ℕ) → take (2 * n) (set (set W p (1 + c)) (n + p) g) ≡ set (set (take (2 * n) W) p (1 + c)) (n + p) g
+    first W =
+        take-set-lt (2 * n) (set W p (1 + c)) (n + p) g (omega arith)
+        ∙ ap (λ (w : List ℕ). set w (n + p) g) (take-set-lt (2 * n) W p (1 + c) (omega arith))
 
-page-within : (s : Settings) (p c : ℕ) → p < s .pages → (P : List ℕ) → Within 0 (pagesLength s) P (withPage (s .pages) P p c)
+page-within : (s : Settings) (p c g : ℕ) → p < s .pages → (P : List ℕ) → Within 0 (pagesLength s) P (withPage (s .pages) P p c g)
 unfolding withPage
-page-within s p c l P = within-both (within-set P p 1 (omega arith) (live-inside s l)) (within-set (set P p 1) (s .pages + p) c (omega arith) (class-inside s l))
+page-within s p c g l P =
+    within-both
+    (within-set P p (1 + c) (omega arith) (page-inside s l))
+    (within-set (set P p (1 + c)) (s .pages + p) g (omega arith) (signature-inside s l))
 
 -- ---- the answers of `room` and of `insert_all`
 abbrev roomFound : Tables → List ℕ → Span
@@ -178,13 +184,13 @@ module _ (T : Tables) (p c : ℕ) (x : List ℕ) where
           answers = sym (none F s);
           tries = λ g. filled-sound T F p c x s (none F s) N P l (f ∙ ap (filled N P) m);
         };
-        page = λ g. record { pages = page-words (given T .pages) p c (ok .page) P (T .pages) (kept .1 .front); sketches = refl };
+        page = λ g. record { pages = page-words (given T .pages) p c (signature (given T .bits) x) (ok .page) P (T .pages) (kept .1 .front); sketches = refl };
         refused = λ g k. absurd (g refl);
         stopped = λ k. absurd (omega arith);
         stopped-row = λ k. absurd (omega arith);
         rest =
-            rest-by (set (T .settings) freeAt l) (withPage (given T .pages) P p c) (within-set (T .settings) freeAt l (omega arith) (omega arith))
-            (within-both (within-less (kept .1)) (page-within (given T) p c (ok .page) P));
+            rest-by (set (T .settings) freeAt l) (pageWritten T p c x P) (within-set (T .settings) freeAt l (omega arith) (omega arith))
+            (within-both (within-less (kept .1)) (page-within (given T) p c (signature (given T .bits) x) (ok .page) P));
         late = λ g. inl refl;
       }
 

@@ -1,7 +1,7 @@
 -- An add keeps the store sound: on a sound store with the tries F, where no question refuses the add, `insertAll` is not stopped, and the
--- tables with its nodes and pages, the free link, the page live in its class and its row written are sound, with the tries that
+-- tables with its nodes and pages, the free link, the page live in its class, and its signature and row written are sound, with the tries that
 -- `forestAfter` gives.
-use Prim.Native.Nat.{ℕ, _+_, _<_}
+use Prim.Native.Nat.{ℕ, _+_, _-_, _<_}
 use native.Mathlib.Decide.{ℕ-discrete}
 use native.Mathlib.Omega.{arith}
 use mathlib.Core.Path.{_≡_, refl, sym, ap, _∙_, fun-ext}
@@ -17,8 +17,9 @@ use Rattle.meaning.specs.Ledger.{Settings, add}
 use Rattle.meaning.specs.Forest.{eachFrom, forestAfter}
 use Rattle.meaning.proofs.Lists.{and-first}
 use Rattle.layout.specs.Settings.{freeAt, settingsOf}
-use Rattle.layout.specs.Pages.{isLive, classOf, withPage}
-use Rattle.layout.proofs.Words.{live-written, class-written, live-written-other, class-written-other}
+use Rattle.layout.specs.Pages.{isLive, classOf, signatureAt}
+use Rattle.layout.specs.Signature.{signature}
+use Rattle.layout.proofs.Words.{live-written, class-written, signature-written, live-written-other, class-written-other, signature-written-other}
 use Rattle.layout.proofs.Written.{settings-set}
 use Rattle.children.specs.Phys.{tree}
 use Rattle.trie_laws.specs.Sound.{withPage as withLive}
@@ -31,7 +32,7 @@ use Rattle.promises.specs.Sound.{Holding, Sound, SoundPage, livePage, pageBytes
 use Rattle.add_laws.specs.declared.Inserted.the-variants.{Free}
 use Rattle.add_laws.specs.declared.Inserted.the-variants as insertion
 use Rattle.add_laws.specs.Insert.{filled, insertAll}
-use Rattle.add_laws.specs.Add.{rowAdded, pageAdded}
+use Rattle.add_laws.specs.Add.{rowAdded, pageWritten, pageAdded}
 use Rattle.add_laws.proofs.Grows.{Inserts}
 use Rattle.add_laws.proofs.KeepsAsked.{Accepted, accepted}
 use Rattle.add_laws.proofs.KeepsBytes.{written-bytes, written-reads, written-blocks, forest-read, mine-row, other-row}
@@ -54,19 +55,22 @@ module _ (T : Tables) (F : List Tree) (sound : Sound T F) (p c : ℕ) (x : List 
   given-same : settingsOf (set (T .settings) freeAt (G .link)) ≡ s
   given-same = settings-set (T .settings) freeAt (G .link) (omega arith)
 
+  abbrev g : ℕ
+  g = signature (s .bits) x
+
   -- ---- the live pages
   live-new : livePage T′ p ≡ true
   unfolding livePage
-  live-new = rw (given-same, lt-ltb p (s .pages) (a .page)) (live-written (s .pages) (G .pagesTo) p (a .page) (G .long) c)
+  live-new = rw (given-same, lt-ltb p (s .pages) (a .page)) (live-written (s .pages) (G .pagesTo) p (a .page) (G .long) c g)
 
   live-old : (q : ℕ) → q ≢ p → livePage T′ q ≡ livePage T q
   unfolding livePage isLive
   live-old q d = rw given-same (go (ltb q (s .pages)) refl)
     where
-      go : (t : Bool) → ltb q (s .pages) ≡ t → t && isLive (withPage (s .pages) (G .pagesTo) p c) q ≡ t && isLive (T .pages) q
+      go : (t : Bool) → ltb q (s .pages) ≡ t → t && isLive (pageWritten T p c x (G .pagesTo)) q ≡ t && isLive (T .pages) q
       go true e =
           let l : q < s .pages = ltb-true q (s .pages) e in
-          live-written-other (s .pages) (G .pagesTo) p (a .page) (G .long) c q l d ∙ ap (λ w. eqb w 1) (G .kept q (omega arith))
+          live-written-other (s .pages) (G .pagesTo) p (a .page) (G .long) c g q l d ∙ ap (λ w. ltb 0 w) (G .kept q (omega arith))
       go false e = refl
 
   live-same : livePage T′ ≡ withLive p (livePage T)
@@ -75,7 +79,7 @@ module _ (T : Tables) (F : List Tree) (sound : Sound T F) (p c : ℕ) (x : List 
     | fails e ↦ rw e (live-old q (eqb-false q p e))
   ])
 
-  -- ---- their rows and classes
+  -- ---- their rows, classes and signatures
   abbrev bytes : ℕ → ℕ → List ℕ
   bytes = written-bytes T p x F sound (a .dead) (a .count) (a .range) (sketches-long T F sound p c x a) (a .page)
 
@@ -85,22 +89,25 @@ module _ (T : Tables) (F : List Tree) (sound : Sound T F) (p c : ℕ) (x : List 
 
   page-new : SoundPage T′ p
   unfolding pageClass pageRow
-  page-new = record {
-    class = rw (given-same, class-written (s .pages) (G .pagesTo) p (a .page) (G .long) c) (a .class);
-    symbols = rw (given-same, mine-row T p x F sound (a .dead) (a .count) (a .range) (sketches-long T F sound p c x a) (a .page)) (a .range);
+  page-new = let row = mine-row T p x F sound (a .dead) (a .count) (a .range) (sketches-long T F sound p c x a) (a .page) in record {
+    class = rw (class-written (s .pages) (G .pagesTo) p (a .page) (G .long) c g) (a .class);
+    symbols = rw (given-same, row) (a .range);
+    signature = rw (given-same, row) (signature-written (s .pages) (G .pagesTo) p (a .page) (G .long) c g);
   }
 
   page-old : (q : ℕ) → q ≢ p → livePage T q ≡ true → SoundPage T′ q
-  unfolding pageClass pageRow livePage classOf
+  unfolding pageClass pageRow livePage classOf signatureAt
   page-old q d live =
       let l : q < s .pages = ltb-true q (s .pages) (and-first (ltb q (s .pages)) (isLive (T .pages) q) live) in
-      let class : classOf (withPage (s .pages) (G .pagesTo) p c) (s .pages) q ≡ classOf (T .pages) (s .pages) q =
-      class-written-other (s .pages) (G .pagesTo) p (a .page) (G .long) c q l d ∙ G .kept (s .pages + q) (omega arith) in
+      let class : classOf (pageWritten T p c x (G .pagesTo)) q ≡ classOf (T .pages) q =
+      class-written-other (s .pages) (G .pagesTo) p (a .page) (G .long) c g q l d ∙ ap (λ (w : ℕ). w - 1) (G .kept q (omega arith)) in
+      let stored : signatureAt (pageWritten T p c x (G .pagesTo)) (s .pages) q ≡ signatureAt (T .pages) (s .pages) q =
+      signature-written-other (s .pages) (G .pagesTo) p (a .page) (G .long) c g q l d ∙ G .kept (s .pages + q) (omega arith) in
+      let row = other-row T p x F sound (a .dead) (a .count) (a .range) (sketches-long T F sound p c x a) (a .page) q d in
       record {
-        class = rw (given-same, class) (sound .pages q live .class);
-        symbols =
-            rw (given-same, other-row T p x F sound (a .dead) (a .count) (a .range) (sketches-long T F sound p c x a) (a .page) q d)
-            (sound .pages q live .symbols);
+        class = rw class (sound .pages q live .class);
+        symbols = rw (given-same, row) (sound .pages q live .symbols);
+        signature = rw (given-same, row) (stored ∙ sound .pages q live .signature);
       }
 
   pages-sound : (q : ℕ) → livePage T′ q ≡ true → SoundPage T′ q

@@ -1,4 +1,4 @@
--- On a sound store an add that no question refuses puts its page into the trie of every block; the live words and classes stay.
+-- On a sound store an add that no question refuses puts its page into the trie of every block; the page words and signatures stay.
 use Prim.Native.Nat.{ℕ, _+_, _*_, _≤_, _<_}
 use native.Mathlib.Omega.{arith}
 use mathlib.Core.Path.{_≡_, sym, ap, _∙_}
@@ -9,7 +9,7 @@ use Rattle.meaning.specs.Ledger.{Settings, add}
 use Rattle.meaning.specs.Forest.{blockBytes, eachFrom, forestAfter, totalNodes}
 use Rattle.layout.specs.Settings.{freeAt}
 use Rattle.layout.specs.Lengths.{sketchesLength}
-use Rattle.layout.specs.Pages.{withPage, linksAt}
+use Rattle.layout.specs.Pages.{linksAt}
 use Rattle.layout.proofs.Rows.{row-inside, length-with-row}
 use Rattle.children.specs.Heap.{Heap, _⊕_}
 use Rattle.blocks.specs.Tables.{RowTable}
@@ -26,7 +26,7 @@ use Rattle.promises.specs.Tables.{Tables, given, rowsOf}
 use Rattle.promises.specs.Sound.{Sound, livePage, triesCells, Rooted}
 use Rattle.add_laws.specs.declared.Inserted.the-variants.{Free}
 use Rattle.add_laws.specs.Insert.{filled, insertFrom, insertAll}
-use Rattle.add_laws.specs.Add.{rowAdded}
+use Rattle.add_laws.specs.Add.{rowAdded, pageWritten}
 use Rattle.add_laws.proofs.Enough.{Needs}
 use Rattle.add_laws.proofs.Grows.{Inserts, GrownFrom, insert-from}
 use Rattle.add_laws.proofs.Spares.{heldBy, spare-heap}
@@ -42,13 +42,13 @@ pub record Placed (T : Tables) (F : List Tree) (p c : ℕ) (x : List ℕ) : Type
   pub to : List Phys
   pub free : List ℕ
   pub is : insertAll (given T) (rowAdded T p c x) x p (T .nodes) (T .pages) (getD (T .settings) freeAt 0) ≡ filled nodesTo pagesTo (Free link)
-  pub words : Heap nodesTo (withPage (given T .pages) pagesTo p c) (triesCells (given T .nodes) (given T .pages) 0 to ⊕ freeCells (given T .nodes) free)
+  pub words : Heap nodesTo (pageWritten T p c x pagesTo) (triesCells (given T .nodes) (given T .pages) 0 to ⊕ freeCells (given T .nodes) free)
   pub roots : Rooted (given T .nodes) (given T .pages) 0 to
   pub chain : link ≡ first free
   pub below : Below (given T .nodes) free
   pub all : totalNodes (map tree to) + length free ≡ given T .nodes
   pub forest : map tree to ≡ forestAfter (given T) (rowsOf T) (add p c x) F
-  -- the live words and classes before page p is written
+  -- the page words and signatures before page p is written
   pub long : given T .pages + p < length pagesTo
   pub kept : (i : ℕ) → i < linksAt (given T .pages) → getD pagesTo i 0 ≡ getD (T .pages) i 0
 
@@ -113,7 +113,7 @@ module _ (T : Tables) (F : List Tree) (sound : Sound T F) (p c : ℕ) (x : List 
         is =
             ap (λ (k : ℕ). insertFrom s S′ x p k 0 (T .nodes) (T .pages) (getD (T .settings) freeAt 0)) (sym (sound .holding .blocks)) ∙ E .is;
         words =
-            written-heap (s .pages) p c (a .page) (E .nodesTo) (E .pagesTo) long
+            written-heap (s .pages) p c _ (a .page) (E .nodesTo) (E .pagesTo) long
             (triesCells (s .nodes) (s .pages) 0 (E .to)) (freeCells (s .nodes) (E .freesTo)) (T .pages) (E .heap);
         roots = E .roots;
         chain = E .chain;

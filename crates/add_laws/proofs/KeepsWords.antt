@@ -1,4 +1,4 @@
--- The live words and classes beside the tries: no trie claims one of them, and an insertion keeps them all.
+-- The page words and signatures beside the tries: no trie claims one of them, and an insertion keeps them all.
 use Prim.Native.Nat.{ℕ, zero, suc, _+_, _*_, _≤_, _<_}
 use native.Mathlib.Decide.{decLt, ℕ-discrete}
 use native.Mathlib.Omega.{arith}
@@ -68,19 +68,19 @@ module _ (cap pcap p : ℕ) (held : ℕ → ℕ) (ts : List Phys) (fs : List ℕ
           omega (arith, tries-behind cap pcap a ts 0 roots l, free-none cap a fs, spare-behind pcap a l p held ts 0, words-once P (2 * pcap) a l)
 
 -- cells that claim none of them stay where a page is written
-module _ (pcap p c : ℕ) (lp : p < pcap) (N P : List ℕ) (long : pcap + p < length P) where
-  behind-holds : (r : Cells) → ((a : ℕ) → a < 2 * pcap → pageClaims r a ≡ 0) → Holds r N P → Holds r N (withPage pcap P p c)
+module _ (pcap p c g : ℕ) (lp : p < pcap) (N P : List ℕ) (long : pcap + p < length P) where
+  behind-holds : (r : Cells) → ((a : ℕ) → a < 2 * pcap → pageClaims r a ≡ 0) → Holds r N P → Holds r N (withPage pcap P p c g)
   behind-holds nil z h = tt
   behind-holds (node b v) z h = h
   behind-holds (page b v) z h =
-      behind-written pcap P p lp long c b
+      behind-written pcap P p lp long c g b
       (by-cases (decLt b (2 * pcap)) (λ l. absurd (omega (arith, z b l, hit-same {a = b} {b = b} refl))) (λ l. omega arith))
       ∙ h
   behind-holds (x ⊕ y) z h =
       (behind-holds x (λ a l. omega (arith, z a l)) (h .0), behind-holds y (λ a l. omega (arith, z a l)) (h .1))
 
   -- beside the words of a table before
-  pub written-heap : (x y : Cells) (Q : List ℕ) → Heap N P (x ⊕ y ⊕ wordCells Q (2 * pcap)) → Heap N (withPage pcap P p c) (x ⊕ y)
+  pub written-heap : (x y : Cells) (Q : List ℕ) → Heap N P (x ⊕ y ⊕ wordCells Q (2 * pcap)) → Heap N (withPage pcap P p c g) (x ⊕ y)
   written-heap x y Q h = record {
     holds = behind-holds (x ⊕ y) (λ a l. omega (arith, h .pages a, words-once Q (2 * pcap) a l)) (h .holds .0, h .holds .1 .0);
     nodes = λ a. omega (arith, h .nodes a);

@@ -17,7 +17,7 @@ use Rattle.layout.specs.Header.{headerOf, withThresholds, bare}
 use Rattle.layout.specs.Lengths.{sketchesLength}
 use Rattle.layout.specs.Pages.{withRow}
 use Rattle.layout.proofs.Rows.{row-inside, length-with-row}
-use Rattle.layout.proofs.Words.{class-inside}
+use Rattle.layout.proofs.Words.{signature-inside}
 use Rattle.promises.specs.Tables.{Tables, given}
 use Rattle.promises.specs.Answers.{number}
 use Rattle.promises.specs.Sound.{livePage}
@@ -92,6 +92,6 @@ lent-row T h p x ok S e = record {
   sketches-long = omega (arith, ok .lent .sketches-long, ap length e, length-with-row (h .m) (T .sketches) p (row-fits T h p x ok) x (ok .fits .count));
 }
 
--- the class word lies in the page table, also after the tries have changed
-pub class-fits : (T : Tables) (h : Header) (p : ℕ) (x : List ℕ) → Passed T h p x → (P : List ℕ) → length P ≡ length (T .pages) → h .pages + p < length P
-class-fits T h p x ok P e = omega (arith, class-inside (bare h) (ok .page), ok .lent .pages-long)
+-- the words of the page lie in the page table, also after the tries have changed
+pub words-fit : (T : Tables) (h : Header) (p : ℕ) (x : List ℕ) → Passed T h p x → (P : List ℕ) → length P ≡ length (T .pages) → h .pages + p < length P
+words-fit T h p x ok P e = omega (arith, signature-inside (bare h) (ok .page), ok .lent .pages-long)

@@ -7,6 +7,7 @@ use Rattle.layout.specs.declared.Opening.{Opening}
 use Rattle.layout.specs.declared.Opening.the-variants.{Shown, Refused}
 use Rattle.layout.specs.Settings.{freeAt}
 use Rattle.layout.specs.Pages.{withRow, withPage}
+use Rattle.layout.specs.Signature.{signature}
 use Rattle.trie.specs.declared.span.Span.{Span}
 use Rattle.trie.specs.declared.span.Span.the-variants.{Enough, Short}
 use Rattle.trie.specs.declared.span.Span.the-variants as spans
@@ -23,9 +24,13 @@ module _ (T : Tables) (p c : ℕ) (x : List ℕ) where
   abbrev pub rowAdded : List ℕ
   rowAdded = withRow (given T .symbols) (T .sketches) p x
 
-  -- the tables with these tries and this free link, and the page live in its class
+  -- a page table with the page live in its class, and with the signature of its row
+  abbrev pub pageWritten : List ℕ → List ℕ
+  pageWritten P = withPage (given T .pages) P p c (signature (given T .bits) x)
+
+  -- the tables with these tries and this free link, the page and its row
   abbrev pub pageAdded : List ℕ → List ℕ → ℕ → Tables
-  pageAdded N P link = tables (set (T .settings) freeAt link) N (withPage (given T .pages) P p c) rowAdded (T .working)
+  pageAdded N P link = tables (set (T .settings) freeAt link) N (pageWritten P) rowAdded (T .working)
 
   -- 14 where an insertion stops on unsound tables: the promise of an add names the causes
   abbrev pub onFilled : Filled → Outcome

@@ -1,8 +1,10 @@
 -- The steps of an add past 11, as the code takes them.
 use Prim.Native.Nat.{ℕ}
 use mathlib.Core.Path.{_≡_, sym, ap, _∙_}
+use mathlib.Core.Bool.{true}
 use mathlib.Core.List.{List}
 use lib.ListN.{getD, set}
+use Rattle.meaning.specs.Sketch.{inRange}
 use Rattle.meaning.specs.Ledger.{add}
 use Rattle.layout.specs.declared.Header.{Header}
 use Rattle.layout.specs.declared.Opening.{Opening}
@@ -10,18 +12,21 @@ use Rattle.layout.specs.declared.Opening.the-variants.{Shown, Refused}
 use Rattle.layout.specs.Settings.{freeAt}
 use Rattle.layout.specs.Header.{headerOf, withThresholds}
 use Rattle.layout.specs.Pages.{withRow, withPage}
+use Rattle.layout.specs.Signature.{signature}
 use Rattle.trie.specs.declared.span.Span.{Span}
 use Rattle.trie.specs.declared.span.Span.the-variants.{Enough, Short}
 use Rattle.trie.specs.declared.span.Span.the-variants as spans
 use Rattle.promises.specs.Tables.{Tables, tables, given}
 use Rattle.promises.specs.Store.{outcome}
+use Rattle.blocks.specs.RowBytes.{reduced}
+use Rattle.signature.proofs.Rows.{signature-same}
 use Rattle.add_laws.specs.declared.Inserted.{Inserted}
 use Rattle.add_laws.specs.declared.Inserted.the-variants.{Free}
 use Rattle.add_laws.specs.declared.Inserted.the-variants as insertion
 use Rattle.entry.specs.Admission.{admission}
 use Rattle.add_laws.specs.Room.{roomOf}
 use Rattle.add_laws.specs.Insert.{filled, insertAll}
-use Rattle.add_laws.specs.Add.{rowAdded, onFilled, putPage, onRoom, placePage, onOpening, addPage}
+use Rattle.add_laws.specs.Add.{rowAdded, pageWritten, onFilled, putPage, onRoom, placePage, onOpening, addPage}
 use Rattle.add_laws.proofs.Passed.{same-settings}
 
 module _ (T : Tables) (h : Header) (header : headerOf (given T) ≡ h) (p c : ℕ) (x τ : List ℕ) (levels : τ ≡ given T .thresholds)
@@ -54,11 +59,14 @@ module _ (T : Tables) (h : Header) (header : headerOf (given T) ≡ h) (p c : �
     pub put-broken : i ≡ insertion.Broken → outcome 14 (tables (T .settings) N P S (T .working)) ≡ putPage T p c x
     put-broken m = rw rowed (rw m at inserted)
 
-    pub put-free : (l : ℕ) → i ≡ Free l → (ws : List ℕ) → ws ≡ set (T .settings) freeAt l → (P' : List ℕ) → P' ≡ withPage (h .pages) P p c →
+    pub put-free : (l : ℕ) → i ≡ Free l → (ws : List ℕ) → ws ≡ set (T .settings) freeAt l →
+        inRange (h .b) x ≡ true → (g : ℕ) → g ≡ signature (h .b) (reduced (h .b) x) → (P' : List ℕ) → P' ≡ withPage (h .pages) P p c g →
         outcome 0 (tables ws N P' S (T .working)) ≡ putPage T p c x
-    put-free l m ws w P' f =
-        let g : P' ≡ withPage (given T .pages) P p c = f ∙ ap (λ (g : Header). withPage (g .pages) P p c) (sym header) in
-        rw (rowed, w, g) (rw m at inserted)
+    put-free l m ws w range g stored P' f =
+        let written : P' ≡ pageWritten T p c x P =
+        f ∙ ap (withPage (h .pages) P p c) (stored ∙ signature-same (h .b) x range)
+        ∙ ap (λ (k : Header). withPage (k .pages) P p c (signature (k .b) x)) (sym header) in
+        rw (rowed, w, written) (rw m at inserted)
 
 -- 5 to 11
 module _ (T : Tables) (p c : ℕ) (x : List ℕ) (o : Opening) (e : o ≡ admission T (add p c x)) where

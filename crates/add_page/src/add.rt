@@ -13,9 +13,10 @@ use crate::room::room;
 use add_laws::Inserted;
 use layout::Header;
 use layout::Opening;
+use signature::signature_of;
 use trie::span::Span;
 
-// The page's row, its leaf in each trie, its live word and its class. 14 where an insertion stops on unsound tables.
+// The page's row, its leaf in each trie, its page word and its signature. 14 where an insertion stops on unsound tables.
 fn put_page(
     settings: &mut [u32],
     nodes: &mut [u32],
@@ -36,7 +37,8 @@ fn put_page(
     match inserted {
         Inserted::Free(link) => {
             layout::settings::set_free_link(settings, link);
-            layout::pages::write_page(pages, h.pages, p, class);
+            let signature = signature_of(h.b as u32, sketch);
+            layout::pages::write_page(pages, h.pages, p, class, signature);
             0
         }
         Inserted::Broken => 14,

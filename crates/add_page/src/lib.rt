@@ -1,4 +1,4 @@
-// Add: a page's row, its leaf in each block's trie, and its live word and class.
+// Add: a page's row, its leaf in each block's trie, its page word and its signature.
 pub mod add;
 mod insert;
 mod questions;

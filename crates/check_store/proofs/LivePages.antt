@@ -6,16 +6,17 @@ use mathlib.Core.Path.{_≡_, refl, ap, _∙_}
 use mathlib.Core.Logic.{by-cases}
 use mathlib.Core.Bool.{Bool, true, false, cond}
 use mathlib.Core.List.{List}
-use borrow.Author.Tests.{lt-ltb, ltb-true}
-use lib.Dec.{ltb}
+use borrow.Author.Tests.{lt-ltb, ltb-true, eq-eqb, eqb-true}
+use lib.Dec.{ltb, eqb}
 use Rattle.meaning.specs.Lists.{count, from, upto}
 use Rattle.meaning.specs.Sketch.{inRange}
 use Rattle.meaning.specs.Ledger.{Settings}
-use Rattle.layout.specs.Pages.{isLive, classOf, rowOf}
+use Rattle.layout.specs.Pages.{isLive, classOf, signatureAt, rowOf}
+use Rattle.layout.specs.Signature.{signature}
 use Rattle.meaning.proofs.Lists.{and-first, and-second}
 use Rattle.node_check.specs.declared.leaf.Left.the-variants.{Some, Failed}
 use Rattle.children.proofs.Tests.{passed}
-use Rattle.check_store.specs.Pages.{pageFits, countFrom, testPages}
+use Rattle.check_store.specs.Pages.{rowFits, pageFits, countFrom, testPages}
 
 module _ (fits live : ℕ → Bool) where
   pub record Counted (n k a b : ℕ) : Type 0 where
@@ -41,16 +42,24 @@ module _ (fits live : ℕ → Bool) where
 
 -- a live page that fits
 module _ (s : Settings) (P S : List ℕ) (p : ℕ) where
+  abbrev x : List ℕ
+  x = rowOf (s .symbols) S p
+
   pub record Fits : Type 0 where
-    pub class : classOf P (s .pages) p < 64
-    pub symbols : inRange (s .bits) (rowOf (s .symbols) S p) ≡ true
+    pub class : classOf P p < 64
+    pub symbols : inRange (s .bits) x ≡ true
+    pub signature : signatureAt P (s .pages) p ≡ signature (s .bits) x
 
   pub fits-live : pageFits s P S p ≡ true → isLive P p ≡ true → Fits
   unfolding pageFits
-  fits-live h live = let t = rw live at h in record {
-    class = ltb-true (classOf P (s .pages) p) 64 (and-first (ltb (classOf P (s .pages) p) 64) _ t);
-    symbols = and-second (ltb (classOf P (s .pages) p) 64) _ t;
-  }
+  fits-live h live =
+      let t = rw live at h in
+      let r = and-second (ltb (classOf P p) 64) (rowFits s P p x) t in
+      record {
+        class = ltb-true (classOf P p) 64 (and-first (ltb (classOf P p) 64) (rowFits s P p x) t);
+        symbols = and-first (inRange (s .bits) x) _ r;
+        signature = eqb-true (signatureAt P (s .pages) p) (signature (s .bits) x) (and-second (inRange (s .bits) x) _ r);
+      }
 
   pub live-fits : (isLive P p ≡ true → Fits) → pageFits s P S p ≡ true
   unfolding pageFits
@@ -58,7 +67,7 @@ module _ (s : Settings) (P S : List ℕ) (p : ℕ) where
     where
       go : (t : Bool) → isLive P p ≡ t → pageFits s P S p ≡ true
       go false e = rw e refl
-      go true e = let f = h e in rw (e, lt-ltb (classOf P (s .pages) p) 64 (f .class), f .symbols) refl
+      go true e = let f = h e in rw (e, lt-ltb (classOf P p) 64 (f .class), f .symbols, eq-eqb (signatureAt P (s .pages) p) (signature (s .bits) x) (f .signature)) refl
 
 module _ (s : Settings) (P S : List ℕ) where
   pub pages-right : (live : ℕ) → testPages s P S ≡ Some live → Counted (pageFits s P S) (isLive P) (s .pages) 0 0 live

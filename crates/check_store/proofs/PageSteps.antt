@@ -2,17 +2,21 @@
 use Prim.Native.Nat.{ℕ, suc, _+_, _-_, _≤_, _<_}
 use native.Mathlib.Omega.{arith}
 use native.Mathlib.Numerals.{add-one}
-use mathlib.Core.Path.{_≡_, refl, ap}
+use mathlib.Core.Path.{_≡_, refl, sym, ap, _∙_}
 use mathlib.Core.Bool.{Bool, true, false, cond, not}
 use mathlib.Core.List.{List}
+use lib.Dec.{eqb}
 use borrow.Author.Tests.{lt-ltb, le-ltb, not-true, not-false}
 use mir.Val.{boolByte}
 use Rattle.meaning.specs.Sketch.{inRange}
 use Rattle.meaning.specs.Ledger.{Settings}
-use Rattle.layout.specs.Pages.{isLive, classOf, rowOf}
+use Rattle.layout.specs.Pages.{isLive, classOf, signatureAt, rowOf}
+use Rattle.layout.specs.Signature.{signature}
+use Rattle.blocks.specs.RowBytes.{reduced}
+use Rattle.signature.proofs.Rows.{signature-same}
 use Rattle.node_check.specs.declared.leaf.Left.{Left}
 use Rattle.node_check.specs.declared.leaf.Left.the-variants.{Some, Failed}
-use Rattle.check_store.specs.Pages.{pageFits, countFrom, testPages}
+use Rattle.check_store.specs.Pages.{rowFits, pageFits, countFrom, testPages}
 
 -- ---- a page
 module _ (s : Settings) (P S : List ℕ) (p : ℕ) (l : Bool) (live : l ≡ isLive P p) where
@@ -20,14 +24,24 @@ module _ (s : Settings) (P S : List ℕ) (p : ℕ) (l : Bool) (live : l ≡ isLi
   unfolding pageFits
   fits-dead e = rw (← live, not-true l e)
 
-  module _ (e : not l ≡ false) (c : ℕ) (class : c ≡ classOf P (s .pages) p) where
+  module _ (e : not l ≡ false) (c : ℕ) (class : c ≡ classOf P p) where
     pub fits-high : 64 ≤ c → false ≡ pageFits s P S p
     unfolding pageFits
     fits-high h = rw (← live, not-false l e, ← class, le-ltb c 64 h)
 
-    pub fits-row : c < 64 → (x : List ℕ) → x ≡ rowOf (s .symbols) S p → (r : Bool) → r ≡ inRange (s .bits) x → r ≡ pageFits s P S p
-    unfolding pageFits
-    fits-row h x row r range = rw (← live, not-false l e, ← class, lt-ltb c 64 h, ← row) range
+    module _ (h : c < 64) (x : List ℕ) (row : x ≡ rowOf (s .symbols) S p) (r : Bool) (range : r ≡ inRange (s .bits) x) where
+      fits-row : rowFits s P p x ≡ pageFits s P S p
+      unfolding pageFits
+      fits-row = rw (← live, not-false l e, ← class, lt-ltb c 64 h, ← row) refl
+
+      pub fits-wide : not r ≡ true → false ≡ pageFits s P S p
+      fits-wide n = rw (← fits-row, ← range, not-true r n) refl
+
+      pub fits-signature : not r ≡ false → (g : ℕ) → g ≡ signatureAt P (s .pages) p → (k : ℕ) → k ≡ signature (s .bits) (reduced (s .bits) x)
+          → eqb g k ≡ pageFits s P S p
+      fits-signature n g word k own =
+          let in-range : inRange (s .bits) x ≡ true = sym range ∙ not-false r n in
+          rw (← fits-row, in-range, word, own, signature-same (s .bits) x in-range) refl
 
 -- ---- the loop
 module _ (s : Settings) (P S : List ℕ) (a p : ℕ) (R : Left) (inv : countFrom (pageFits s P S) (isLive P) (s .pages - p) p a ≡ R) where

@@ -67,7 +67,7 @@ module _ (T : Tables) where
     live-page p l =
         let below : p < s .pages = ltb-true p (s .pages) (and-first (ltb p (s .pages)) (isLive (T .pages) p) l) in
         let f = fits-live s (T .pages) (T .sketches) p (pages .fit p (omega arith) (omega arith)) (and-second (ltb p (s .pages)) (isLive (T .pages) p) l) in
-        record { class = f .class; symbols = f .symbols }
+        record { class = f .class; symbols = f .symbols; signature = f .signature }
 
     -- the bytes of a live page's row are those of its sketch
     same-bytes : (j p : ℕ) → livePage T p ≡ true → rowBytes s j (T .sketches) p ≡ pageBytes T j p

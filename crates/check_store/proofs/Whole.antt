@@ -73,7 +73,7 @@ module _ (T : Tables) (F : List Tree) (sound : Sound T F) where
   unfolding pageClass pageRow
   page-fits p l e =
       let f = sound .pages p (page-live p l e) in
-      record { class = f .class; symbols = f .symbols }
+      record { class = f .class; symbols = f .symbols; signature = f .signature }
 
   same-bytes : (j p : ℕ) → livePage T p ≡ true → rowBytes s j S p ≡ pageBytes T j p
   unfolding pageBytes pageRow

@@ -2,17 +2,22 @@
 use Prim.Native.Nat.{ℕ, zero, suc, _+_}
 use mathlib.Core.Bool.{Bool, cond, _&&_, _||_, not}
 use mathlib.Core.List.{List}
-use lib.Dec.{ltb}
+use lib.Dec.{ltb, eqb}
 use Rattle.meaning.specs.Sketch.{inRange}
 use Rattle.meaning.specs.Ledger.{Settings}
-use Rattle.layout.specs.Pages.{isLive, classOf, rowOf}
+use Rattle.layout.specs.Pages.{isLive, classOf, signatureAt, rowOf}
+use Rattle.layout.specs.Signature.{signature}
 use Rattle.node_check.specs.declared.leaf.Left.{Left}
 use Rattle.node_check.specs.declared.leaf.Left.the-variants.{Some, Failed}
 
--- page p is not live, or has a class below 64 and symbols below 2^b
+-- a page whose row is x has symbols below 2^b, and its signature
+abbrev pub rowFits : Settings → List ℕ → ℕ → List ℕ → Bool
+rowFits s P p x = inRange (s .bits) x && eqb (signatureAt P (s .pages) p) (signature (s .bits) x)
+
+-- page p is not live, or has a class below 64 and a row that fits
 unfoldable pub pageFits : Settings → List ℕ → List ℕ → ℕ → Bool
 pageFits s P S p =
-    not (isLive P p) || (ltb (classOf P (s .pages) p) 64 && inRange (s .bits) (rowOf (s .symbols) S p))
+    not (isLive P p) || (ltb (classOf P p) 64 && rowFits s P p (rowOf (s .symbols) S p))
 
 -- n pages from k on, and a before them: how many are live, where all pass a test
 unfoldable pub countFrom : (ℕ → Bool) → (ℕ → Bool) → ℕ → ℕ → ℕ → Left

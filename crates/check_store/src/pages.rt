@@ -1,4 +1,4 @@
-// The live pages, apart from the tries: each has a class below 64 and symbols below 2^b.
+// The live pages, apart from the tries: each has a class below 64, symbols below 2^b and the signature of its row.
 ghost use mathlib.Core.Path.{_≡_};
 ghost use Prim.Native.Nat.{_≤_, _<_};
 ghost use lib.ListN.{length};
@@ -8,6 +8,8 @@ ghost use Rattle.layout.specs.Lengths.{pagesLength, sketchesLength};
 ghost use Rattle.check_store.specs.Pages.{pageFits, testPages};
 use layout::Header;
 use node_check::leaf::Left;
+use signature::signature_of;
+use sketch::symbols::in_range;
 
 const CLASSES: u32 = 64;
 
@@ -21,10 +23,15 @@ fn page_fits(pages: &[u32], sketches: &[u8], h: Header, p: usize) -> bool
     if !layout::pages::is_live(pages, p) {
         return true;
     }
-    if CLASSES <= layout::pages::class_of(pages, h.pages, p) {
+    if CLASSES <= layout::pages::class_of(pages, p) {
         return false;
     }
-    sketch::symbols::in_range(h.b as u32, layout::pages::row(sketches, h.m, p))
+    let b = h.b as u32;
+    let row = layout::pages::row(sketches, h.m, p);
+    if !in_range(b, row) {
+        return false;
+    }
+    layout::pages::signature_word(pages, h.pages, p) == signature_of(b, row)
 }
 
 // How many pages are live, where all pass.

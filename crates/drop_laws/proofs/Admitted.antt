@@ -20,7 +20,7 @@ use Rattle.layout.specs.declared.Opening.the-variants.{Shown, Refused}
 use Rattle.layout.specs.Header.{headerOf, tablesFirst, pick}
 use Rattle.layout.specs.Limits.{HeaderLimits}
 use Rattle.layout.proofs.Openings.{shown, shows, apart}
-use Rattle.layout.proofs.Words.{class-inside}
+use Rattle.layout.proofs.Words.{signature-inside}
 use Rattle.promises.specs.Tables.{Tables, given, byTables}
 use Rattle.promises.specs.Answers.{number, entered, shown56, longSettings, longFor}
 use Rattle.entry.specs.Entry.{storeAsked, pageAsked}
@@ -56,6 +56,6 @@ module _ (T : Tables) (p : ℕ) (a : Admitted T p) where
   unfolding sketchesLength
   row-in = row-inside (given T .symbols) (given T .pages) (length (T .sketches)) (a .page) (a .opened .lent .sketches-long)
 
-  pub class-in : given T .pages + p < length (T .pages)
+  pub words-in : given T .pages + p < length (T .pages)
   unfolding pagesLength
-  class-in = omega (arith, class-inside (given T) (a .page), a .opened .lent .pages-long)
+  words-in = omega (arith, signature-inside (given T) (a .page), a .opened .lent .pages-long)

@@ -1,5 +1,5 @@
 -- A small store, computed: the laws' hypotheses can be met. Two blocks of a symbol each, three nodes, one page: it stands in a leaf below
--- the first root, and in the second root itself. It is dropped.
+-- the first root, and in the second root itself. Its class is 0, and its row 0 1 has the signature 2. It is dropped.
 use Prim.Native.Nat.{ℕ, zero, suc, _<_}
 use native.Mathlib.Omega.{arith}
 use mathlib.Core.Path.{_≡_, refl, sym, _∙_}
@@ -8,7 +8,7 @@ use mathlib.Core.List.{List, [], _∷_, _++_}
 use borrow.Author.Tests.{le-ltb, ne-eqb}
 use lib.Dec.{lit<}
 use lib.ListN.{replicate}
-use Rattle.meaning.specs.Lists.{all, any, count, sum}
+use Rattle.meaning.specs.Lists.{all, any, count, from, upto, sum}
 use Rattle.meaning.specs.Refusal.{firstNo}
 use Rattle.meaning.specs.Sketch.{inRange, pack, packBytes, perByte, packByte, packedLength, symbolsAt, packable, block, blockLength, blockStart}
 use Rattle.meaning.specs.SketchCalls.{sketchLimits}
@@ -18,7 +18,8 @@ use Rattle.meaning.specs.Forest.{blockBytes, bytesOfSketch, totalNodes, forestA
 use Rattle.meaning.specs.Questions.{inLimits, asked}
 use Rattle.layout.specs.Settings.{settingsOf, header, showsOpening, registerLength}
 use Rattle.layout.specs.Lengths.{nodesLength, pagesLength, sketchesLength}
-use Rattle.layout.specs.Pages.{isLive, classOf, rowOf}
+use Rattle.layout.specs.Pages.{isLive, classOf, signatureAt, rowOf}
+use Rattle.layout.specs.Signature.{foldedByte, folded, signature}
 use Rattle.children.specs.Heap.{Cells, nil, _⊕_}
 use Rattle.layout.specs.States.{kindOf}
 use Rattle.children.specs.Places.{placeFrom, findPlace}
@@ -49,7 +50,7 @@ unfoldable settings : List ℕ
 settings = header given₁ ++ (replicate registerLength 0 ++ 0 ∷ [])
 
 abbrev T : Tables
-T = tables settings N (1 ∷ 0 ∷ 0 ∷ 0 ∷ []) (0 ∷ 1 ∷ []) []
+T = tables settings N (1 ∷ 2 ∷ 0 ∷ 0 ∷ []) (0 ∷ 1 ∷ []) []
 
 passes : number T [] (drop 0) ≡ 0
 unfolding number entered shown56 longSettings longFor longNodes longPages nodesLength pagesLength sketchesLength showsOpening inLimits sketchLimits asked byTables isLive firstNo all settings settingsOf header given₁
@@ -78,8 +79,8 @@ stands t e zero = rw e refl
 stands t e (suc p) = rw (e, live-one p, ne-eqb (suc p) 0 (omega arith)) refl
 
 page-sound : (p : ℕ) → livePage T p ≡ true → SoundPage T p
-unfolding pageClass classOf pageRow rowOf inRange all settings settingsOf header given₁
-page-sound zero h = record { class = lit< tt; symbols = refl }
+unfolding pageClass classOf pageRow rowOf inRange all signatureAt signature folded foldedByte pack packBytes packByte packedLength perByte from upto settings settingsOf header given₁
+page-sound zero h = record { class = lit< tt; symbols = refl; signature = refl }
 page-sound (suc p) h = absurd (false≢true (sym (live-one p) ∙ h))
 
 sound : Sound T F

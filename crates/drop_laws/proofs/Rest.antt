@@ -9,7 +9,7 @@ use Rattle.layout.specs.Settings.{freeAt}
 use Rattle.layout.specs.Nodes.{nodeWords}
 use Rattle.layout.specs.Lengths.{nodesLength, pagesLength}
 use Rattle.layout.specs.Pages.{withoutPage, linksAt}
-use Rattle.layout.proofs.Words.{live-inside}
+use Rattle.layout.proofs.Words.{page-inside}
 use Rattle.promises.specs.Tables.{Tables, given}
 use Rattle.promises.specs.Store.{SameRest, pageWords}
 use Rattle.store.specs.Within.{Within}
@@ -43,7 +43,7 @@ module _ (T : Tables) (N P : List ℕ) (nodes : Within 0 (nodeWords (given T .no
       settings-front = take-set-le freeAt (T .settings) freeAt free (omega arith);
       settings-rest = drop-set-lt (freeAt + 1) (T .settings) freeAt free (omega arith);
       nodes-rest = nodes .back;
-      pages-rest = drop-set-lt (pagesLength (given T)) P p 0 (live-inside (given T) page) ∙ pages .back;
+      pages-rest = drop-set-lt (pagesLength (given T)) P p 0 (page-inside (given T) page) ∙ pages .back;
     }
 
     pub dropped-page : pageWords T (withoutPage P p) ≡ pageWords T (withoutPage (T .pages) p)

@@ -4,7 +4,7 @@ use native.Mathlib.Decide.{ℕ-discrete}
 use native.Mathlib.Omega.{arith}
 use mathlib.Core.Path.{_≡_, refl, sym, ap, _∙_, subst}
 use mathlib.Core.Bool.{Bool, true, false, cond, _&&_, false≢true}
-use mathlib.Core.Logic.{by-cases}
+use mathlib.Core.Logic.{_≢_, by-cases}
 use mathlib.Core.List.{List, map}
 use borrow.Author.Tests.{eqb-true, eqb-false, ltb-true, lt-ltb}
 use lib.Dec.{ltb, eqb}
@@ -16,8 +16,8 @@ use Rattle.meaning.specs.Forest.{bytesOfSketch, bytesIn, eachFrom, forestAfter,
 use Rattle.meaning.proofs.Lists.{and-first}
 use Rattle.layout.specs.Settings.{freeAt, settingsOf}
 use Rattle.layout.specs.Lengths.{pagesLength}
-use Rattle.layout.specs.Pages.{isLive, rowOf, withoutPage, linksAt, nextAt}
-use Rattle.layout.proofs.Words.{live-struck, live-struck-other, class-struck, live-kept, class-kept, link-behind}
+use Rattle.layout.specs.Pages.{isLive, signatureAt, rowOf, withoutPage, linksAt, nextAt}
+use Rattle.layout.proofs.Words.{live-struck, live-struck-other, class-struck-other, signature-struck, live-kept, class-kept, signature-kept, link-behind}
 use Rattle.layout.proofs.Written.{settings-set}
 use Rattle.children.specs.Heap.{Cells, Heap, hit, pageClaims, nil, page, _⊕_}
 use Rattle.children.specs.Phys.{tree, freeCells}
@@ -41,7 +41,7 @@ use Rattle.drop_laws.specs.Removal.{removeFrom, removeAll}
 use Rattle.drop_laws.specs.After.{dropped}
 use Rattle.drop_laws.proofs.Inside.{GoneIn, all-within}
 use Rattle.drop_laws.proofs.Leaves.{Removes, LeftFrom, remove-from}
-use Rattle.drop_laws.proofs.Admitted.{Admitted, row-in, class-in}
+use Rattle.drop_laws.proofs.Admitted.{Admitted, row-in, words-in}
 
 -- ---- a word of the page table that no one claims may be written
 unclaimed : {N P : List ℕ} {xs : Cells} (a w : ℕ) → pageClaims xs a ≡ 0 → a < length P → Heap N P xs → Heap N (set P a w) xs
@@ -67,8 +67,8 @@ module _ (T : Tables) (p : ℕ) (a : Admitted T p) (N P : List ℕ) (free : ℕ)
   given-same : given T' ≡ given T
   given-same = settings-set (T .settings) freeAt free (omega arith)
 
-  class-long : given T .pages + p < length P
-  class-long = omega (arith, class-in T p a, kept .same)
+  words-long : given T .pages + p < length P
+  words-long = omega (arith, words-in T p a, kept .same)
 
   bytes-same : pageBytes T' ≡ pageBytes T
   unfolding pageBytes pageRow
@@ -82,10 +82,10 @@ module _ (T : Tables) (p : ℕ) (a : Admitted T p) (N P : List ℕ) (free : ℕ)
     where
       go : (t : Bool) → ltb q (given T .pages) ≡ t → (u : Bool) → eqb q p ≡ u →
           (t && isLive (withoutPage P p) q) ≡ cond u false (t && isLive (T .pages) q)
-      go true e true m = ap (isLive (withoutPage P p)) (eqb-true q p m) ∙ live-struck (given T .pages) P p (a .page) class-long
+      go true e true m = ap (isLive (withoutPage P p)) (eqb-true q p m) ∙ live-struck (given T .pages) P p (a .page) words-long
       go true e false m =
           let l : q < given T .pages = ltb-true q (given T .pages) e in
-          live-struck-other (given T .pages) P p (a .page) class-long q l (eqb-false q p m)
+          live-struck-other (given T .pages) P p (a .page) words-long q l (eqb-false q p m)
           ∙ live-kept (given T .pages) P (T .pages) (kept .front) q l
       go false e true m = refl
       go false e false m = refl
@@ -93,24 +93,35 @@ module _ (T : Tables) (p : ℕ) (a : Admitted T p) (N P : List ℕ) (free : ℕ)
   live-same : livePage T' ≡ without p (livePage T)
   live-same = λ i q. live-after q i
 
-  -- a live page was live before
-  live-before : (q : ℕ) → livePage T' q ≡ true → livePage T q ≡ true
-  live-before q h = go (eqb q p) (sym (live-after q) ∙ h)
+  -- a live page was live before, and is another one
+  live-before : (q : ℕ) → livePage T' q ≡ true → (livePage T q ≡ true) × (q ≢ p)
+  live-before q h = go (eqb q p) refl (sym (live-after q) ∙ h)
     where
-      go : (u : Bool) → cond u false (livePage T q) ≡ true → livePage T q ≡ true
-      go true e = absurd (false≢true e)
-      go false e = e
+      go : (u : Bool) → eqb q p ≡ u → cond u false (livePage T q) ≡ true → (livePage T q ≡ true) × (q ≢ p)
+      go true m e = absurd (false≢true e)
+      go false m e = (e, eqb-false q p m)
 
-  class-same : (q : ℕ) → livePage T q ≡ true → pageClass T' q ≡ pageClass T q
-  unfolding pageClass livePage
-  class-same q h =
-      let l : q < given T .pages = ltb-true q (given T .pages) (and-first (ltb q (given T .pages)) (isLive (T .pages) q) h) in
-      rw given-same
-      (class-struck (given T .pages) P p (a .page) class-long q l ∙ class-kept (given T .pages) P (T .pages) (kept .front) q l)
+  module _ (q : ℕ) (below : q < given T .pages) where
+    class-same : q ≢ p → pageClass T' q ≡ pageClass T q
+    unfolding pageClass
+    class-same d =
+        class-struck-other (given T .pages) P p (a .page) words-long q below d
+        ∙ class-kept (given T .pages) P (T .pages) (kept .front) q below
 
-  page-sound : (q : ℕ) → SoundPage T q → livePage T q ≡ true → SoundPage T' q
-  unfolding pageRow
-  page-sound q g h = record { class = rw (class-same q h) (g .class); symbols = rw given-same (unfold pageRow in (g .symbols)) }
+    signature-same : signatureAt (withoutPage P p) (given T .pages) q ≡ signatureAt (T .pages) (given T .pages) q
+    signature-same =
+        signature-struck (given T .pages) P p (a .page) words-long q below
+        ∙ signature-kept (given T .pages) P (T .pages) (kept .front) q below
+
+  page-sound : (q : ℕ) → livePage T q ≡ true → q ≢ p → SoundPage T q → SoundPage T' q
+  unfolding pageRow livePage
+  page-sound q h d g =
+      let below : q < given T .pages = ltb-true q (given T .pages) (and-first (ltb q (given T .pages)) (isLive (T .pages) q) h) in
+      record {
+        class = rw (class-same q below d) (g .class);
+        symbols = rw given-same (unfold pageRow in (g .symbols));
+        signature = rw given-same (signature-same q below ∙ (unfold pageRow in (g .signature)));
+      }
 
 -- ---- what `removeAll` comes to
 pub record DropSound (T : Tables) (p : ℕ) (F : List Tree) : Type 0 where
@@ -155,7 +166,7 @@ module _ (T : Tables) (F : List Tree) (S : Sound T F) (p : ℕ) (a : Admitted T 
   words-left =
       unclaimed p 0
       (omega (arith, a .page, tries-behind (given T .nodes) (given T .pages) p (left .to) 0 (left .roots) (omega (arith, a .page)), free-none (given T .nodes) p (left .freesTo)))
-      (omega (arith, class-in T p a, kept .same))
+      (omega (arith, words-in T p a, kept .same))
       (less (record { holds = λ N P h. (h .0, h .1 .0); nodes = λ b. omega arith; pages = λ b. omega arith }) (left .heap))
 
   blocks-left : length (left .to) ≡ given T .blocks
@@ -198,7 +209,7 @@ module _ (T : Tables) (F : List Tree) (S : Sound T F) (p : ℕ) (a : Admitted T 
               same (bytes-same T p a N P free kept) (live-same T p a N P free kept) (sym forest-is)
               (remove-forest (given T) (pageBytes T) (livePage T) F (S .blocks) p);
           pages = λ q h.
-              let l : livePage T q ≡ true = live-before T p a N P free kept q h in
-              page-sound T p a N P free kept q (S .pages q l) l;
+              let l = live-before T p a N P free kept q h in
+              page-sound T p a N P free kept q (l .0) (l .1) (S .pages q (l .0));
         };
       }

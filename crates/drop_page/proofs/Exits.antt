@@ -12,7 +12,7 @@ use Rattle.layout.specs.Lengths.{pagesLength}
 use Rattle.layout.specs.Tables.{Lent}
 use Rattle.layout.specs.Pages.{withoutPage}
 use Rattle.layout.specs.Settings.{settingsLength, freeAt}
-use Rattle.layout.proofs.Words.{live-inside}
+use Rattle.layout.proofs.Words.{page-inside}
 use Rattle.promises.specs.Tables.{Tables, tables, given}
 use Rattle.promises.specs.Answers.{number}
 use Rattle.promises.specs.Store.{outcome, DropPromise}
@@ -55,9 +55,9 @@ module _ (ws N P S : List ℕ) (p : ℕ) where
     pub page-in : p < h .pages
     page-in = rw (← admission-shown T (drop p) h (sym e) .1) (known .page)
 
-    pub live-in : p < length P
+    pub word-in : p < length P
     unfolding pagesLength
-    live-in = omega (arith, live-inside (given T) (known .page), known .opened .lent .pages-long)
+    word-in = omega (arith, page-inside (given T) (known .page), known .opened .lent .pages-long)
 
     module _ (N' P' : List ℕ) (r : Removed) (free : ℕ) (f : free ≡ getD ws freeAt 0) (g : gone N' P' r ≡ removeAll (bare h) S p N P free) where
       comes-to : removeAll (given T) S p N P (getD ws freeAt 0) ≡ gone N' P' r

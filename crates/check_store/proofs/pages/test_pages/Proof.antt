@@ -5,7 +5,7 @@ use mathlib.Core.Path.{_≡_}
 use borrow.Author.Needs.{needs}
 use Rattle.layout.specs.Header.{bare}
 use Rattle.layout.specs.Pages.{isLive}
-use Rattle.layout.proofs.Words.{live-inside}
+use Rattle.layout.proofs.Words.{page-inside}
 use Rattle.trie_room.proofs.Count.{flag-most}
 use Rattle.check_store.specs.Pages.{pageFits, countFrom, testPages}
 use Rattle.check_store.proofs.PageSteps.{count-start, count-done, count-fails, count-more}
@@ -32,7 +32,7 @@ returns c = search count-fails
 is-live-requires : tie.Need-is-live-requires Inv-loop μ-loop
 is-live-requires c κs =
     let entry = c .before .before .before .before .before .before in
-    omega (arith, live-inside (bare (entry .args .h)) (c .before .before .loop-test .taken))
+    omega (arith, page-inside (bare (entry .args .h)) (c .before .before .loop-test .taken))
 
 cast-live : tie.Need-cast-live Inv-loop μ-loop
 cast-live c = search needs

@@ -8,7 +8,7 @@ use Rattle.layout.specs.declared.Header.{Header}
 use Rattle.layout.specs.declared.Opening.the-variants.{Shown}
 use Rattle.promises.specs.Tables.{tables}
 use Rattle.entry.specs.Admission.{admission}
-use Rattle.drop_page.proofs.Exits.{refuses, settings-long, lent, page-in, live-in, drops, breaks}
+use Rattle.drop_page.proofs.Exits.{refuses, settings-long, lent, page-in, word-in, drops, breaks}
 use Rattle.drop_page.proofs.drop.drop_page.Statement.{statement}
 use Rattle.drop_page.proofs.drop.drop_page.Tie as tie
 
@@ -67,7 +67,7 @@ set-free-link-requires c κs = settings-long _ _ _ _ _ _ (shows (past (c .before
 strike-page-requires : tie.Need-strike-page-requires
 strike-page-requires c κs =
     let s = c .before .before .before .before .before .before .before .before in
-    omega (arith, live-in _ _ _ _ _ _ (shows (past s)))
+    omega (arith, word-in _ _ _ _ _ _ (shows (past s)))
 
 enum-told : tie.Need-enum-told
 enum-told c = search needs
