@@ -1,3 +1,4 @@
 pub mod Links
+pub mod Bounded
 pub mod Agree
 pub mod Maps
