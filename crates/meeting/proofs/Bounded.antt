@@ -15,7 +15,7 @@ use Rattle.meaning.proofs.Lists.{eqb-comm, and-intro, or-first, count-upto}
 use Rattle.trie_laws.proofs.Lists.{Truth, holds, fails, truth, any-none}
 use Rattle.trie_laws.proofs.Distinct.{distinct-once, distinct-count}
 use Rattle.meeting.specs.declared.Chain.{Chain}
-use Rattle.meeting.specs.Meets.{Meets, met, broken, after, andThen, chainOf, chainsOf}
+use Rattle.meeting.specs.Meets.{Meets, met, broken, after, andThen, withLeft, chainOf, chainsOf}
 use Rattle.meeting.proofs.Links.{chain-ended, chain-more}
 
 isMet : Meets → Bool
@@ -207,11 +207,6 @@ module _ (pages : List ℕ) (cap base : ℕ) where
         ∙ ap (after ((link - 1) ∷ [])) (chain-any f g (next link) (r .rest) k (rw less at (r .on)) short)
         ∙ rw (r .whole) (ap (met ((link - 1) ∷ r .rest)) (omega arith))
   ]
-
--- with another number of pages, or of something else, left
-abbrev pub withLeft : ℕ → Meets → Meets
-withLeft n (met ps k) = met ps n
-withLeft n broken = broken
 
 pub left-after : (n : ℕ) (ps : List ℕ) (m : Meets) → withLeft n (after ps m) ≡ after ps (withLeft n m)
 left-after n ps (met qs k) = refl
