@@ -3,7 +3,7 @@ ghost use mathlib.Core.Path.{_≡_};
 ghost use Prim.Native.Nat.{_<_};
 ghost use Rattle.layout.specs.Nodes.{nodeWords};
 ghost use Rattle.layout.specs.Tables.{NodeTable};
-ghost use Rattle.children.specs.Cursors.{allOf, nextOf, firstFor};
+ghost use Rattle.children.specs.Cursors.{allOf, lookAt, nextOf, firstFor};
 use layout::nodes::byte_of;
 use layout::nodes::head_at;
 use layout::nodes::link_of;
@@ -13,6 +13,13 @@ pub struct Cursor {
     pub at: u32,
     pub last: u32,
     pub link: u32,
+}
+
+// What a link leads to.
+pub enum Seen {
+    // a child: its number, its byte, and the link after it
+    Child(u32, u32, u32),
+    Outside,
 }
 
 pub enum Next {
@@ -41,6 +48,20 @@ pub fn all(nodes: &[u32], cap: usize, x: usize) -> Cursor
     }
 }
 
+// The child at a link.
+pub fn look(nodes: &[u32], cap: usize, link: u32) -> Seen
+    requires { ⌜ NodeTable cap (now nodes) ⌝ }
+    requires { ⌜ 0 < link ⌝ }
+    ensures { λ r. ⌜ r ≡ lookAt (now (nodes .entry)) cap link ⌝ }
+{
+    let x = link - 1;
+    if x as usize >= cap {
+        return Seen::Outside;
+    }
+    let w = nodes[x as usize];
+    Seen::Child(x, byte_of(w), link_of(w))
+}
+
 // The next step: along the chain, else to the next chain.
 pub fn step(nodes: &[u32], cap: usize, c: Cursor) -> Next
     requires { ⌜ NodeTable cap (now nodes) ⌝ }
@@ -48,12 +69,10 @@ pub fn step(nodes: &[u32], cap: usize, c: Cursor) -> Next
     ensures { λ r. ⌜ r ≡ nextOf (now (nodes .entry)) cap c ⌝ }
 {
     if c.link != 0 {
-        let x = c.link - 1;
-        if x as usize >= cap {
-            return Next::Broken;
-        }
-        let w = nodes[x as usize];
-        return Next::Child(x, byte_of(w), link_of(w));
+        return match look(nodes, cap, c.link) {
+            Seen::Child(x, byte, link) => Next::Child(x, byte, link),
+            Seen::Outside => Next::Broken,
+        };
     }
     if c.at >= c.last {
         return Next::End;

@@ -8,11 +8,12 @@ use mathlib.Core.List.{List}
 use lib.Dec.{ltb, eqb}
 use lib.ListN.{getD}
 use borrow.Author.Tests.{eqb-false, lt-ltb, le-ltb, ltb-true, ltb-false}
-use Rattle.layout.specs.Nodes.{linkOf, byteOf}
 use Rattle.layout.specs.States.{kindOf}
 use Rattle.layout.specs.declared.nodes.Kind.{Kind}
 use Rattle.layout.specs.declared.nodes.Kind.the-variants.{Free, Inner, Leaf}
-use Rattle.children.specs.Cursors.{firstFor}
+use Rattle.children.specs.declared.cursor.Seen.{Seen}
+use Rattle.children.specs.declared.cursor.Seen.the-variants.{Child, Outside}
+use Rattle.children.specs.Cursors.{lookAt, firstFor}
 use Rattle.descent.specs.declared.Cursor.{Cursor}
 use Rattle.descent.specs.Cursor.{outside, ended, ahead, arriveAs, arrive, pass, advance, descended, drawn, leafOf}
 
@@ -42,34 +43,31 @@ module _ (N : List ℕ) (cap : ℕ) (bytes ys : List ℕ) (base last : ℕ) (sam
           let inside : at ≤ last = omega (arith, ltb-false last at e) in
           rw (e, le-ltb (base + last) (base + at) (omega arith), same at inside) (alike-ahead (firstFor N cap x (getD ys at 0)) at inside)
 
-  alike-pass : (x at : ℕ) → at ≤ last → Alike (pass N cap ys x at last) (pass N cap bytes x (base + at) (base + last))
-  unfolding pass
-  alike-pass x at h =
-      rw (same at h, add-assoc base at 1) (go (ltb (byteOf (getD N x 0)) (getD ys at 0)) (ltb (getD ys at 0) (byteOf (getD N x 0))))
+  alike-pass : (at : ℕ) → at ≤ last → (a : Seen) → Alike (pass N cap ys at last a) (pass N cap bytes (base + at) (base + last) a)
+  alike-pass at h Outside = alike-ended outside
+  alike-pass at h (Child x byte link) = rw (same at h, add-assoc base at 1) (go (ltb byte (getD ys at 0)) (ltb (getD ys at 0) byte))
     where
       go : (before behind : Bool)
-          → Alike (cond before (ahead (linkOf (getD N x 0)) at last) (cond behind (ended 0) (arrive N cap ys x (at + 1) last)))
-          (cond before (ahead (linkOf (getD N x 0)) (base + at) (base + last))
-          (cond behind (ended 0) (arrive N cap bytes x (base + (at + 1)) (base + last))))
-      go true behind = alike-ahead (linkOf (getD N x 0)) at h
+          → Alike (cond before (ahead link at last) (cond behind (ended 0) (arrive N cap ys x (at + 1) last)))
+          (cond before (ahead link (base + at) (base + last)) (cond behind (ended 0) (arrive N cap bytes x (base + (at + 1)) (base + last))))
+      go true behind = alike-ahead link at h
       go false true = alike-ended 0
       go false false = alike-arrive x (at + 1)
 
   alike-advance : (c d : Cursor) → Alike c d → Alike (advance N cap ys c) (advance N cap bytes d)
   unfolding advance
-  alike-advance c d a = subst (Alike (advance N cap ys c)) (ap further (sym (a .link))) (go (eqb (c .link) 0) refl (ltb cap (c .link)))
+  alike-advance c d a = subst (Alike (advance N cap ys c)) (ap further (sym (a .link))) (go (eqb (c .link) 0) refl)
     where
       further : ℕ → Cursor
-      further n = cond (eqb n 0) d (cond (ltb cap n) (ended outside) (pass N cap bytes (n - 1) (d .at) (d .last)))
+      further n = cond (eqb n 0) d (pass N cap bytes (d .at) (d .last) (lookAt N cap n))
 
-      go : (still : Bool) → eqb (c .link) 0 ≡ still → (far : Bool)
-          → Alike (cond still c (cond far (ended outside) (pass N cap ys (c .link - 1) (c .at) (c .last))))
-          (cond still d (cond far (ended outside) (pass N cap bytes (c .link - 1) (d .at) (d .last))))
-      go true e far = a
-      go false e true = alike-ended outside
-      go false e false =
+      go : (still : Bool) → eqb (c .link) 0 ≡ still
+          → Alike (cond still c (pass N cap ys (c .at) (c .last) (lookAt N cap (c .link))))
+          (cond still d (pass N cap bytes (d .at) (d .last) (lookAt N cap (c .link))))
+      go true e = a
+      go false e =
           let g = a .going (omega (arith, eqb-false (c .link) 0 e)) in
-          rw (g .0, g .2, g .3) (alike-pass (c .link - 1) (c .at) (g .1))
+          rw (g .0, g .2, g .3) (alike-pass (c .at) (g .1) (lookAt N cap (c .link)))
 
   pub alike-descended : (f : ℕ) (c d : Cursor) → Alike c d → Alike (descended N cap ys f c) (descended N cap bytes f d)
   unfolding descended

@@ -2,17 +2,18 @@
 use Prim.Native.Nat.{ℕ, zero, suc, _+_, _-_, _<_, _≤_}
 use native.Mathlib.Nat.{zero-add, suc-add}
 use native.Mathlib.Omega.{arith}
-use mathlib.Core.Path.{_≡_, refl, ap, _∙_}
+use mathlib.Core.Path.{_≡_, refl, sym, ap, _∙_}
 use mathlib.Core.Bool.{Bool, true, false, cond}
 use mathlib.Core.List.{List, [], _∷_, _++_}
 use lib.Dec.{ltb, eqb}
 use lib.ListN.{length, getD}
 use borrow.Author.Tests.{eq-eqb, ne-eqb, lt-ltb, le-ltb, ltb-false, eqb-true}
-use Rattle.layout.specs.Nodes.{linkOf, byteOf}
 use Rattle.layout.specs.States.{kindOf}
 use Rattle.layout.specs.declared.nodes.Kind.{Kind}
 use Rattle.layout.specs.declared.nodes.Kind.the-variants.{Free, Inner, Leaf}
-use Rattle.children.specs.Cursors.{firstFor}
+use Rattle.children.specs.declared.cursor.Seen.{Seen}
+use Rattle.children.specs.declared.cursor.Seen.the-variants.{Child, Outside}
+use Rattle.children.specs.Cursors.{lookAt, firstFor}
 use Rattle.descent.specs.declared.Cursor.{Cursor}
 use Rattle.descent.specs.Cursor.{Inside, ended, outside, ahead, arriveAs, arrive, pass, advance, descended, drawn, drawnAll}
 
@@ -52,24 +53,23 @@ module _ (nodes : List ℕ) (cap : ℕ) (bytes : List ℕ) where
       go Inner false e = rw e (record { at = omega (arith, ltb-false last at e); last = h })
       go (Leaf first) short e = inside-ended first (omega arith)
 
-  inside-pass : (x at last : ℕ) → at < length bytes → last < length bytes → Inside bytes (pass nodes cap bytes x at last)
-  unfolding pass
-  inside-pass x at last g h = go (ltb (byteOf (getD nodes x 0)) (getD bytes at 0)) (ltb (getD bytes at 0) (byteOf (getD nodes x 0)))
+  inside-pass : (at last : ℕ) (a : Seen) → at < length bytes → last < length bytes → Inside bytes (pass nodes cap bytes at last a)
+  inside-pass at last (Child x byte link) g h = go (ltb byte (getD bytes at 0)) (ltb (getD bytes at 0) byte)
     where
       go : (before behind : Bool)
-          → Inside bytes (cond before (ahead (linkOf (getD nodes x 0)) at last) (cond behind (ended 0) (arrive nodes cap bytes x (at + 1) last)))
+          → Inside bytes (cond before (ahead link at last) (cond behind (ended 0) (arrive nodes cap bytes x (at + 1) last)))
       go true behind = record { at = g; last = h }
       go false true = inside-ended 0 (omega arith)
       go false false = inside-arrive x (at + 1) last h
+  inside-pass at last Outside g h = inside-ended outside (omega arith)
 
   pub inside-advance : (c : Cursor) → Inside bytes c → Inside bytes (advance nodes cap bytes c)
   unfolding advance
-  inside-advance c h = go (eqb (c .link) 0) (ltb cap (c .link))
+  inside-advance c h = go (eqb (c .link) 0)
     where
-      go : (still far : Bool) → Inside bytes (cond still c (cond far (ended outside) (pass nodes cap bytes (c .link - 1) (c .at) (c .last))))
-      go true far = h
-      go false true = inside-ended outside (omega (arith, h .at))
-      go false false = inside-pass (c .link - 1) (c .at) (c .last) (h .at) (h .last)
+      go : (still : Bool) → Inside bytes (cond still c (pass nodes cap bytes (c .at) (c .last) (lookAt nodes cap (c .link))))
+      go true = h
+      go false = inside-pass (c .at) (c .last) (lookAt nodes cap (c .link)) (h .at) (h .last)
 
   -- ---- what has ended
 
@@ -84,27 +84,27 @@ module _ (nodes : List ℕ) (cap : ℕ) (bytes : List ℕ) where
 
   -- ---- what goes on
 
-  pub advance-outside : (c : Cursor) → cap < c .link → advance nodes cap bytes c ≡ ended outside
-  unfolding advance
-  advance-outside c h = rw (ne-eqb (c .link) 0 (λ e. absurd (omega arith)), lt-ltb cap (c .link) h)
-
-  module _ (c : Cursor) (going : 0 < c .link) (inside : c .link ≤ cap) (byte : ℕ) (e : byte ≡ byteOf (getD nodes (c .link - 1) 0)) where
-    advance-pass : advance nodes cap bytes c ≡ pass nodes cap bytes (c .link - 1) (c .at) (c .last)
+  module _ (c : Cursor) (going : c .link ≡ 0 → ⊥) (found : Seen) (e : found ≡ lookAt nodes cap (c .link)) where
+    advance-by : (a : Seen) → found ≡ a → pass nodes cap bytes (c .at) (c .last) a ≡ advance nodes cap bytes c
     unfolding advance
-    advance-pass = rw (ne-eqb (c .link) 0 (λ z. absurd (omega arith)), le-ltb cap (c .link) inside)
+    advance-by a q = rw (ne-eqb (c .link) 0 going) (ap (pass nodes cap bytes (c .at) (c .last)) (sym q ∙ e))
 
-    pub advance-along : byte < getD bytes (c .at) 0 → advance nodes cap bytes c ≡ ahead (linkOf (getD nodes (c .link - 1) 0)) (c .at) (c .last)
-    unfolding pass
-    advance-along h = advance-pass ∙ rw (← e, lt-ltb byte (getD bytes (c .at) 0) h)
+    pub advance-outside : found ≡ Outside → ended outside ≡ advance nodes cap bytes c
+    advance-outside q = advance-by Outside q
 
-    pub advance-past : getD bytes (c .at) 0 < byte → advance nodes cap bytes c ≡ ended 0
-    unfolding pass
-    advance-past h = advance-pass ∙ rw (← e, le-ltb byte (getD bytes (c .at) 0) (omega arith), lt-ltb (getD bytes (c .at) 0) byte h)
+    -- past a child, or down to it
+    module _ (x byte link : ℕ) (q : found ≡ Child x byte link) where
+      pub advance-along : byte < getD bytes (c .at) 0 → ahead link (c .at) (c .last) ≡ advance nodes cap bytes c
+      advance-along h = rw (lt-ltb byte (getD bytes (c .at) 0) h) at (advance-by (Child x byte link) q)
 
-    pub advance-down : byte ≡ getD bytes (c .at) 0 → advance nodes cap bytes c ≡ arrive nodes cap bytes (c .link - 1) (c .at + 1) (c .last)
-    unfolding pass
-    advance-down h =
-        advance-pass ∙ rw (← e, le-ltb byte (getD bytes (c .at) 0) (omega arith), le-ltb (getD bytes (c .at) 0) byte (omega arith))
+      pub advance-past : getD bytes (c .at) 0 < byte → ended 0 ≡ advance nodes cap bytes c
+      advance-past h =
+          rw (le-ltb byte (getD bytes (c .at) 0) (omega arith), lt-ltb (getD bytes (c .at) 0) byte h) at (advance-by (Child x byte link) q)
+
+      pub advance-down : getD bytes (c .at) 0 ≤ byte → byte ≤ getD bytes (c .at) 0
+          → arrive nodes cap bytes x (c .at + 1) (c .last) ≡ advance nodes cap bytes c
+      advance-down l h =
+          rw (le-ltb byte (getD bytes (c .at) 0) l, le-ltb (getD bytes (c .at) 0) byte h) at (advance-by (Child x byte link) q)
 
   -- ---- more steps
 

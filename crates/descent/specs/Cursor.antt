@@ -5,12 +5,13 @@ use mathlib.Core.Bool.{cond}
 use mathlib.Core.List.{List, [], _∷_}
 use lib.Dec.{ltb, eqb}
 use lib.ListN.{length, getD, take}
-use Rattle.layout.specs.Nodes.{linkOf, byteOf}
 use Rattle.layout.specs.States.{kindOf}
 use Rattle.layout.specs.Tables.{NodeTable}
 use Rattle.layout.specs.declared.nodes.Kind.{Kind}
 use Rattle.layout.specs.declared.nodes.Kind.the-variants.{Free, Inner, Leaf}
-use Rattle.children.specs.Cursors.{firstFor}
+use Rattle.children.specs.declared.cursor.Seen.{Seen}
+use Rattle.children.specs.declared.cursor.Seen.the-variants.{Child, Outside}
+use Rattle.children.specs.Cursors.{lookAt, firstFor}
 use Rattle.descent.specs.declared.Cursor.{Cursor}
 use Rattle.descent.specs.declared.Left.{Left}
 use Rattle.descent.specs.declared.Left.the-variants.{Some, Broken}
@@ -59,17 +60,16 @@ module _ (nodes : List ℕ) (cap : ℕ) (bytes : List ℕ) where
   unfoldable pub arrive : ℕ → ℕ → ℕ → Cursor
   arrive x at last = arriveAs x at last (kindOf nodes cap x)
 
-  -- at the child x of a chain whose bytes rise
-  unfoldable pub pass : ℕ → ℕ → ℕ → Cursor
-  pass x at last =
-      cond (ltb (byteOf (getD nodes x 0)) (getD bytes at 0)) (ahead (linkOf (getD nodes x 0)) at last)
-      (cond (ltb (getD bytes at 0) (byteOf (getD nodes x 0))) (ended 0) (arrive x (at + 1) last))
+  -- along a chain whose bytes rise, by what its link leads to
+  abbrev pub pass : ℕ → ℕ → Seen → Cursor
+  pass at last (Child x byte link) =
+      cond (ltb byte (getD bytes at 0)) (ahead link at last)
+      (cond (ltb (getD bytes at 0) byte) (ended 0) (arrive x (at + 1) last))
+  pass at last Outside = ended outside
 
   -- one step; a descent that has ended stays
   unfoldable pub advance : Cursor → Cursor
-  advance c =
-      cond (eqb (c .link) 0) c
-      (cond (ltb cap (c .link)) (ended outside) (pass (c .link - 1) (c .at) (c .last)))
+  advance c = cond (eqb (c .link) 0) c (pass (c .at) (c .last) (lookAt nodes cap (c .link)))
 
   -- f steps
   unfoldable pub descended : ℕ → Cursor → Cursor

@@ -4,7 +4,11 @@ ghost use mathlib.Core.Path.{_≡_};
 ghost use Prim.Native.Nat.{_*_, _<_, _≤_};
 ghost use lib.ListN.{length};
 ghost use Rattle.descent.specs.Cursor.{Fits, Inside, AllInside, ended, arrive, advance, going, Descended, leafOf};
+use children::cursor::Seen;
+use children::cursor::first_for;
+use children::cursor::look;
 use layout::nodes::Kind;
+use layout::nodes::kind_of;
 
 pub mod leaves;
 
@@ -50,7 +54,7 @@ pub fn arrive(nodes: &[u32], cap: usize, bytes: &[u8], x: usize, at: u32, last: 
     requires { ⌜ (x < cap) × (last < length (now bytes)) ⌝ }
     ensures { λ r. ⌜ r ≡ arrive (now (nodes .entry)) cap (now (bytes .entry)) x at last ⌝ }
 {
-    match layout::nodes::kind_of(nodes, cap, x) {
+    match kind_of(nodes, cap, x) {
         Kind::Free => ended(OUTSIDE),
         Kind::Leaf(first) => ended(first),
         Kind::Inner => {
@@ -59,7 +63,7 @@ pub fn arrive(nodes: &[u32], cap: usize, bytes: &[u8], x: usize, at: u32, last: 
             }
             let byte = bytes[at as usize] as u32;
             Cursor {
-                link: children::cursor::first_for(nodes, cap, x, byte),
+                link: first_for(nodes, cap, x, byte),
                 at: at,
                 last: last,
                 first: 0,
@@ -77,25 +81,24 @@ fn advance(nodes: &[u32], cap: usize, bytes: &[u8], c: Cursor) -> Cursor
     if c.link == 0 {
         return c;
     }
-    let x = c.link as usize - 1;
-    if x >= cap {
-        return ended(OUTSIDE);
+    match look(nodes, cap, c.link) {
+        Seen::Outside => ended(OUTSIDE),
+        Seen::Child(x, byte, link) => {
+            let y = bytes[c.at as usize] as u32;
+            if byte < y {
+                return Cursor {
+                    link: link,
+                    at: c.at,
+                    last: c.last,
+                    first: 0,
+                };
+            }
+            if y < byte {
+                return ended(0);
+            }
+            arrive(nodes, cap, bytes, x as usize, c.at + 1, c.last)
+        }
     }
-    let w = nodes[x];
-    let byte = layout::nodes::byte_of(w);
-    let y = bytes[c.at as usize] as u32;
-    if byte < y {
-        return Cursor {
-            link: layout::nodes::link_of(w),
-            at: c.at,
-            last: c.last,
-            first: 0,
-        };
-    }
-    if y < byte {
-        return ended(0);
-    }
-    arrive(nodes, cap, bytes, x, c.at + 1, c.last)
 }
 
 // How many of the first n descents have not ended?

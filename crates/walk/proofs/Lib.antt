@@ -1,6 +1,7 @@
-pub mod Steps
+pub mod Spend
 pub mod Stack
 pub mod Turns
-pub mod Moves
-pub mod Behind
-pub mod Standing
+pub mod Waiting
+pub mod Run
+pub mod Batches
+pub mod Going

@@ -1,49 +1,67 @@
--- A turn of a walk: one step in the node where it stands, and where that leads.
-use Prim.Native.Nat.{ℕ, _+_, _-_}
+-- One step of a walk in a node, and where it leads.
+use Prim.Native.Nat.{ℕ, _+_, _-_, _%_}
 use mathlib.Core.Bool.{cond}
 use mathlib.Core.List.{List}
-use lib.Dec.{ltb}
+use lib.Bits.{bitXor}
+use lib.Dec.{ltb, eqb}
 use lib.ListN.{length, getD}
-use Rattle.layout.specs.declared.Block.{Block}
-use Rattle.descent.specs.Cursor.{ended, arrive}
-use Rattle.marking.specs.declared.waiting.Budget.{Budget}
+use Rattle.meaning.specs.Sketch.{byteDistance}
+use Rattle.layout.specs.States.{kindOf}
+use Rattle.layout.specs.declared.nodes.Kind.{Kind}
+use Rattle.layout.specs.declared.nodes.Kind.the-variants as kind
+use Rattle.children.specs.Cursors.{allOf, nextOf}
+use Rattle.children.specs.declared.cursor.Next.{Next}
+use Rattle.children.specs.declared.cursor.Next.the-variants as next
+use Rattle.descent.specs.Cursor.{ended}
 use Rattle.walk.specs.declared.frame.Frame.{Frame}
-use Rattle.walk.specs.declared.frame.Step.{Step}
-use Rattle.walk.specs.declared.frame.Step.the-variants as step
-use Rattle.walk.specs.declared.turn.Place.{Place}
 use Rattle.walk.specs.declared.turn.Move.{Move}
-use Rattle.walk.specs.declared.turn.Move.the-variants as move
-use Rattle.walk.specs.Frame.{atLink, entered, stepIn, reads}
+use Rattle.walk.specs.declared.turn.Move.the-variants.{Chain, Past, Leaf, Down, Up, Broken}
+use Rattle.walk.specs.Given.{Given, exactFrom}
 
-abbrev pub placed : ℕ → Frame → Budget → Place
-placed depth frame left = record { depth = depth; frame = frame; left = left }
+-- all children of node x
+abbrev pub entered : List ℕ → ℕ → ℕ → ℕ → Frame
+entered nodes cap x radius = record { cursor = allOf nodes cap x; radius = radius }
 
--- at a root, with every page of the block to mark
-abbrev pub begun : List ℕ → Block → ℕ → ℕ → ℕ → Place
-begun nodes block root radius budget = placed 0 (entered nodes (block .nodes) root radius) record { pages = block .pages; nodes = budget }
+-- from a link on in the chain whose head is at `at`
+abbrev pub atChain : Frame → ℕ → ℕ → Frame
+atChain f at link = record { cursor = record { at = at; last = f .cursor .last; link = link }; radius = f .radius }
 
--- what is left when d nodes are read
-abbrev pub drawnOf : Budget → ℕ → Budget
-drawnOf left d = record { pages = left .pages; nodes = left .nodes - d }
+-- from another link on in the same chain
+abbrev pub atLink : Frame → ℕ → Frame
+atLink f link = atChain f (f .cursor .at) link
 
--- on in the node, from a link in the chain whose head is at `at`, when the step is taken
-abbrev pub onward : Place → ℕ → ℕ → Place
-onward p at link = placed (p .depth) (atLink (p .frame) at link) (drawnOf (p .left) (reads (p .frame)))
+module _ (w : Given) where
+  -- to a child x that is within the radius, when so much of it is left: at a level of the query's bytes, and with a link after it
+  abbrev pub reachedAs : ℕ → ℕ → ℕ → ℕ → Kind → Move
+  reachedAs x level radius link kind.Free = Broken
+  reachedAs x level radius link (kind.Leaf first) = Leaf (ended first) link
+  reachedAs x level radius link kind.Inner =
+      cond (eqb radius 0) (Leaf (exactFrom w x level) link)
+      (cond (ltb level (length (w .bytes))) (Down x radius link) Broken)
 
--- in an inner node x, a level below
-abbrev pub lowered : List ℕ → ℕ → Place → ℕ → ℕ → Place
-lowered nodes cap p x radius = placed (p .depth + 1) (entered nodes cap x radius) (p .left)
+  unfoldable pub reached : ℕ → ℕ → ℕ → ℕ → Move
+  reached x level radius link = reachedAs x level radius link (kindOf (w .nodes) (w .cap) x)
 
-module _ (nodes : List ℕ) (cap b : ℕ) (bytes : List ℕ) where
-  -- by the step from a level
-  abbrev pub moved : ℕ → Step → Move
-  moved depth (step.Stay at link) = move.Stay at link
-  moved depth (step.Leaf first link) = move.Leaf (ended first) link
-  moved depth (step.Exact x link) = move.Leaf (arrive nodes cap bytes x (depth + 1) (length bytes - 1)) link
-  moved depth (step.Down x radius link) = cond (ltb (depth + 1) (length bytes)) (move.Down x radius link) move.Broken
-  moved depth step.Up = move.Up
-  moved depth step.Broken = move.Broken
+  -- how far a child's byte is from the query's at a level; in sound tables it is below 256 as it stands
+  abbrev pub distanceAt : ℕ → ℕ → ℕ
+  distanceAt level byte = byteDistance (w .b) (bitXor (byte % 256) (getD (w .bytes) level 0))
 
-  -- the step draws on the nodes
-  unfoldable pub turned : Place → Move
-  turned p = cond (ltb (p .left .nodes) (reads (p .frame))) move.Broken (moved (p .depth) (stepIn nodes cap b (p .frame) (getD bytes (p .depth) 0)))
+  abbrev pub foundBy : ℕ → ℕ → Next → Move
+  foundBy level radius (next.Child x byte link) =
+      cond (ltb radius (distanceAt level byte)) (Past link) (reached x (level + 1) (radius - distanceAt level byte) link)
+  foundBy level radius (next.Chain at link) = Chain at link
+  foundBy level radius next.End = Up
+  foundBy level radius next.Broken = Broken
+
+  -- the next step in a node at a level
+  unfoldable pub found : ℕ → Frame → Move
+  found level f = foundBy level (f .radius) (nextOf (w .nodes) (w .cap) (f .cursor))
+
+-- how many nodes it reads
+abbrev pub reads : Move → ℕ
+reads (Chain at link) = 0
+reads (Past link) = 1
+reads (Leaf c link) = 1
+reads (Down x radius link) = 1
+reads Up = 0
+reads Broken = 0

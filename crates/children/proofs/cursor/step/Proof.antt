@@ -1,36 +1,24 @@
 -- `step` meets its contract.
 use native.Mathlib.Omega.{arith}
-use Rattle.children.proofs.Cursors.{step-outside, step-child, step-end, step-chain}
+use Rattle.children.proofs.Cursors.{step-along, step-end, step-chain}
 use borrow.Author.Needs.{needs}
 use Rattle.children.proofs.cursor.step.Statement.{statement}
 use Rattle.children.proofs.cursor.step.Tie as tie
 
-sub-x : tie.Need-sub-x
-sub-x c = search needs
+look-requires : tie.Need-look-requires
+look-requires c κs = search needs
 
-cast-if2 : tie.Need-cast-if2
-cast-if2 c = search needs
+enum-known-x : tie.Need-enum-known-x
+enum-known-x c = search needs
+
+enum-told : tie.Need-enum-told
+enum-told c = search needs
 
 returns : tie.Need-returns
-returns c = search (step-outside, arith)
-
-cast-w : tie.Need-cast-w
-cast-w c = search needs
-
-mul-w : tie.Need-mul-w
-mul-w c = search needs
-
-shared-slice-read-w : tie.Need-shared-slice-read-w
-shared-slice-read-w c = search needs
-
-byte-of-requires : tie.Need-byte-of-requires
-byte-of-requires c κs = search needs
-
-link-of-requires : tie.Need-link-of-requires
-link-of-requires c κs = search needs
+returns c = step-along _ _ _ (c .before .before .before .before .if1 .taken) _ (c .before .before .before .look .ensures) _ (c .before .x .given .1)
 
 returns-2 : tie.Need-returns-2
-returns-2 c = search (step-child, arith)
+returns-2 c = step-along _ _ _ (c .before .before .before .if1 .taken) _ (c .before .before .look .ensures) _ (c .enum-told .given .1)
 
 returns-3 : tie.Need-returns-3
 returns-3 c = search (step-end, arith)
@@ -47,8 +35,8 @@ mul-link-of c = search needs
 shared-slice-read-link-of : tie.Need-shared-slice-read-link-of
 shared-slice-read-link-of c = search needs
 
-link-of-requires-2 : tie.Need-link-of-requires-2
-link-of-requires-2 c κs = search needs
+link-of-requires : tie.Need-link-of-requires
+link-of-requires c κs = search needs
 
 returns-4 : tie.Need-returns-4
 returns-4 c = search (step-chain, arith)
@@ -57,19 +45,15 @@ pub step-spec : {M : Type 1} → statement M
 step-spec =
     tie.close
     (tie.spec
-    sub-x
-    cast-if2
+    look-requires
+    enum-known-x
+    enum-told
     returns
-    cast-w
-    mul-w
-    shared-slice-read-w
-    byte-of-requires
-    link-of-requires
     returns-2
     returns-3
     add-at
     cast-link-of
     mul-link-of
     shared-slice-read-link-of
-    link-of-requires-2
+    link-of-requires
     returns-4)
