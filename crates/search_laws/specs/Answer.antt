@@ -11,7 +11,7 @@ use Rattle.promises.specs.Tables.{Tables, given}
 use Rattle.promises.specs.Readings.{Lists, earlyNumber}
 use Rattle.hits.specs.Hit.{Test, test, passes}
 use Rattle.meeting.specs.Meets.{Meets, met, broken}
-use Rattle.search_laws.specs.Meets.{meetBlocks}
+use Rattle.traversal.specs.Meets.{meetBlocks}
 
 -- the pages met that pass a test, of cap pages, rising
 unfoldable pub passing : (ℕ → Bool) → ℕ → List ℕ → List ℕ
