@@ -2,3 +2,4 @@ pub mod Links
 pub mod Bounded
 pub mod Agree
 pub mod Maps
+pub mod Rounds

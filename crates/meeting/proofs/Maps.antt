@@ -11,7 +11,7 @@ use borrow.Author.Tests.{eqb-true}
 use Rattle.meaning.specs.Lists.{any, keep, upto}
 use Rattle.meaning.proofs.Lists.{any-append}
 use Rattle.words.specs.Bits.{rising, flag, zeroed}
-use Rattle.words.proofs.Rising.{rising-same}
+use Rattle.words.proofs.Rising.{rising-same, rising-length}
 use Rattle.marks.specs.Marks.{summaryOf, Room, Summarised, marked, fresh, listOf}
 use Rattle.marks.proofs.Marked.{marked-length, marked-behind, marked-flag, marked-count, marked-summarised}
 use Rattle.marks.proofs.Pages.{rising-over, rising-keep}
@@ -33,6 +33,10 @@ pub kept-cleared : {words : ℕ} {before after : List ℕ} → Kept words before
     → zeroed after 0 (words + summaryOf words) ≡ zeroed before 0 (words + summaryOf words)
 unfolding zeroed
 kept-cleared {words} k = rw (zero-add (words + summaryOf words), k .behind)
+
+pub list-most : (map : List ℕ) (words : ℕ) → length (listOf map words) ≤ words * 32
+unfolding listOf
+list-most map words = rising-length (flag map 0) 0 (words * 32)
 
 module _ (hit : ℕ → Bool) (words : ℕ) where
   -- ---- no page, and more pages
@@ -68,6 +72,14 @@ module _ (hit : ℕ → Bool) (words : ℕ) where
   }
 
   -- ---- one page
+  -- as the code has it
+  module _ (map : List ℕ) (p : ℕ) where
+    pub turned-out : hit p ≡ false → Turned hit words map p map 0
+    turned-out e = record { map = rw e; new = rw e }
+
+    pub turned-in : (after : List ℕ) (r : ℕ) → hit p ≡ true → after ≡ marked map words p → r ≡ fresh map p → Turned hit words map p after r
+    turned-in after r e f g = record { map = rw e f; new = rw e g }
+
   module _ (map : List ℕ) (p : ℕ) (inside : p / 32 < words) (room : Room map words) where
     left-out : hit p ≡ false → Met hit words map (p ∷ []) map
     unfolding any

@@ -11,7 +11,6 @@ use Rattle.marks.specs.Marks.{summaryOf, Room, Summarised, listOf}
 use Rattle.hits.specs.Hit.{Fitting}
 use Rattle.hits.specs.Probes.{Prepared, testBy}
 use Rattle.meeting.specs.declared.Chain.{Chain}
-use Rattle.meeting.specs.declared.Chains.{Chains}
 use Rattle.meeting.specs.declared.Scope.{Scope}
 use Rattle.meeting.specs.declared.Tally.{Tally}
 use Rattle.meeting.specs.declared.Tallies.{Tallies}
@@ -42,8 +41,8 @@ pub record Ready (pages sketches query map : List ℕ) (s : Scope) : Type 0 wher
   pub room : Room map (s .words)
   pub bits : s .probe .header .pages ≤ s .words * 32
 
--- at most 16 chains, whose links lie in a table of so many words
-pub record Inside (cap long : ℕ) (cs : Chains) : Type 0 where
-  pub all : length (cs .each) ≡ 16
-  pub few : cs .n ≤ 16
-  pub each : (j : ℕ) → j < cs .n → getD (cs .each) j (chain 0 0) .base + cap ≤ long
+-- the first n of 16 chains: their links lie in a table of so many words
+pub record Inside (cap long : ℕ) (cs : List Chain) (n : ℕ) : Type 0 where
+  pub all : length cs ≡ 16
+  pub few : n ≤ 16
+  pub each : (j : ℕ) → j < n → getD cs j (chain 0 0) .base + cap ≤ long
