@@ -12,5 +12,5 @@ use Rattle.meeting.specs.Mets.{Ready}
 
 pub record Prepared (nodes pages sketches query map : List ℕ) (s : Scope) : Type 0 where
   pub ready : Ready pages sketches query map s
-  pub nodes : nodesLength (bare (s .probe .header)) ≤ length nodes
+  pub nodes-long : nodesLength (bare (s .probe .header)) ≤ length nodes
   pub range : inRange (s .probe .header .b) query ≡ true

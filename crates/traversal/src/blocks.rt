@@ -10,7 +10,7 @@ ghost use Rattle.hits.specs.Probes.{testBy};
 ghost use Rattle.meeting.specs.Mets.{Meeting};
 ghost use Rattle.traversal.specs.Meets.{meetBlock, meetFrom, meetBlocks};
 ghost use Rattle.traversal.specs.Ready.{Prepared};
-use crate::chains;
+use crate::chains::chains_of;
 use descent::Left;
 use meeting::Scope;
 use meeting::Tallies;
@@ -58,7 +58,7 @@ fn meet_block(
     let mut batch = walk::batch::begin(nodes, &bytes[..n], trie, j, start.radius, start.tally.left);
     loop {
         let links = batch.links;
-        let each = chains::of_block(base, links, batch.n);
+        let each = chains_of(&links, batch.n, base, 0);
         match meet(table, pages, sketches, query, map, scope, each, tally) {
             Tallies::Some(met) => {
                 tally = met;
@@ -105,7 +105,7 @@ fn meet_exact(
         return Tallies::Broken;
     };
     let firsts = ends.firsts;
-    let each = chains::of_blocks(h.pages, firsts, h.q);
+    let each = chains_of(&firsts, h.q, layout::pages::next_at(h.pages, 0), h.pages);
     let most = Tally {
         left: (h.q * h.pages) as u32,
         count: start.count,
@@ -121,7 +121,14 @@ fn meet_exact(
 
 // Walks the tries of all blocks, each within the block radius. One of 0 leaves one path in each. The budget is every node once, the
 // roots counted first. No page is marked yet.
-pub fn meet_blocks(nodes: &[u32], pages: &[u32], sketches: &[u8], query: &[u8], map: &mut [u32], scope: Scope) -> Tallies
+pub fn meet_blocks(
+    nodes: &[u32],
+    pages: &[u32],
+    sketches: &[u8],
+    query: &[u8],
+    map: &mut [u32],
+    scope: Scope,
+) -> Tallies
     requires { ⌜ Prepared (now nodes) (now pages) (now sketches) (now query) (now map) scope ⌝ }
     requires { ⌜ listOf (now map) (scope .words) ≡ [] ⌝ }
     ensures { λ r. ⌜ Meeting (passes (testBy (now (pages .entry)) (now (sketches .entry)) (now (query .entry)) (scope .probe))) (scope .words) (meetBlocks (scope .probe .header) (now (nodes .entry)) (now (pages .entry)) (now (query .entry)) (scope .probe .radius)) (now (map .entry)) (now (map .exit)) r ⌝ }
