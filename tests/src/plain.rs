@@ -46,6 +46,12 @@ pub fn pack(b: u32, m: u32, x: &[u8]) -> Answer<Vec<u8>> {
     Ok(x.chunks(z).map(|cs| cs.iter().rev().fold(0u32, |v, &c| (v << b) | u32::from(c)) as u8).collect())
 }
 
+/// The signature of a sketch: its packed bytes, four to a word with the first lowest, and the words joined by exclusive or.
+pub fn signature(b: u32, x: &[u8]) -> u32 {
+    let bytes = pack(b, x.len() as u32, x).unwrap();
+    bytes.iter().enumerate().fold(0, |s, (i, &v)| s ^ u32::from(v) << (8 * (i % 4)))
+}
+
 /// Bytes to symbols; only what packing can give is taken.
 pub fn unpack(b: u32, m: u32, bytes: &[u8]) -> Answer<Vec<u8>> {
     limits(b, m)?;

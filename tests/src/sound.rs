@@ -1,6 +1,6 @@
 //! When a store is sound (document 01, docs/LAYOUT.md), as plain Rust would test it. Written from the documents.
 use crate::plain;
-use crate::tables::{Settings, Tables, FREE};
+use crate::tables::{class_of, Settings, Tables, FREE};
 
 struct Walk<'a> {
     t: &'a Tables,
@@ -57,7 +57,7 @@ impl Walk<'_> {
         let mut link = state - 2;
         while link != 0 {
             let page = link as usize - 1;
-            if page >= p || pages[page] || self.t.pages[page] != 1 || !block.bytes[page].starts_with(path) {
+            if page >= p || pages[page] || self.t.pages[page] == 0 || !block.bytes[page].starts_with(path) {
                 return None;
             }
             pages[page] = true;
@@ -90,10 +90,13 @@ pub fn sound(t: &Tables, s: &Settings) -> bool {
 
 fn sound_or_none(t: &Tables, s: &Settings) -> Option<()> {
     let (n, p, m, q) = (s.nodes as usize, s.pages as usize, s.m as usize, s.q as usize);
-    let live: Vec<bool> = (0..p).map(|page| t.pages[page] == 1).collect();
+    let live: Vec<bool> = (0..p).map(|page| class_of(&t.pages, page).is_some()).collect();
     let row = |page: usize| &t.sketches[page * m..page * m + m];
     for page in (0..p).filter(|&page| live[page]) {
-        if t.pages[p + page] > 63 || row(page).iter().any(|&c| u32::from(c) >= 1 << s.b) {
+        if class_of(&t.pages, page)? > 63 || row(page).iter().any(|&c| u32::from(c) >= 1 << s.b) {
+            return None;
+        }
+        if t.pages[p + page] != plain::signature(s.b, row(page)) {
             return None;
         }
     }

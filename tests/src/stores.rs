@@ -91,7 +91,8 @@ pub fn filled(random: &mut Random, s: &Settings, calls_made: u64) -> (Tables, In
     (t, plain, sketches)
 }
 
-/// Damages some words of the tables behind an opening: links that lead anywhere, cycles, other states, classes and symbols.
+/// Damages some words of the tables behind an opening: links that lead anywhere, cycles, other states, classes,
+/// signatures and symbols.
 pub fn damage(random: &mut Random, t: &mut Tables, s: &Settings) {
     let (n, p) = (s.nodes as usize, s.pages as usize);
     for _ in 0..1 + random.below(6) {

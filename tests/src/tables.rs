@@ -1,7 +1,7 @@
 //! The tables and the calls on them as document 01 and docs/LAYOUT.md have them, in plain Rust.
 //! Written from the documents and not from the proved code.
 
-pub const MARK: u32 = 0x5644_0001;
+pub const MARK: u32 = 0x5644_0002;
 pub const SETTINGS: usize = 391;
 pub const MEMBERS: usize = 70;
 pub const GRANTS: usize = 326;
@@ -71,12 +71,16 @@ pub fn opens(settings: &[u32], reader: u32, class: u32) -> bool {
         })
 }
 
+/// The class of a page, by its page word; none of a page that is not live.
+pub fn class_of(pages: &[u32], page: usize) -> Option<u32> {
+    pages[page].checked_sub(1)
+}
+
 /// Is the page marked live, open to the reader, and its row within the radius of the query? Of tables that show an opening.
 pub fn is_hit(settings: &[u32], pages: &[u32], sketches: &[u8], reader: u32, radius: u32, query: &[u8], page: usize) -> bool {
     let (m, cap) = (settings[2] as usize, settings[4] as usize);
     page < cap
-        && pages[page] == 1
-        && opens(settings, reader, pages[cap + page])
+        && class_of(pages, page).is_some_and(|class| opens(settings, reader, class))
         && sketches[page * m..page * m + m].iter().zip(query).filter(|(a, b)| a != b).count() <= radius as usize
 }
 
@@ -189,10 +193,9 @@ impl Tables {
         if page >= s.pages {
             return Err(8);
         }
-        let (p, cap) = (page as usize, s.pages as usize);
-        if self.pages[p] != 1 || !opens(&self.settings, reader, self.pages[cap + p]) {
+        if !class_of(&self.pages, page as usize).is_some_and(|class| opens(&self.settings, reader, class)) {
             return Err(9);
         }
-        Ok((p * s.m as usize, s.m as usize))
+        Ok((page as usize * s.m as usize, s.m as usize))
     }
 }

@@ -1,6 +1,7 @@
-//! What a search meets on any tables, and where question 14 refuses it: written from document 01 and docs/LAYOUT.md, by recursion.
+//! What a search meets and measures on any tables, and where question 14 refuses it: written from document 01 and docs/LAYOUT.md, by
+//! recursion.
 //! One budget of nodes for the whole search, one of pages for each block.
-use crate::plain::pack;
+use crate::plain::{pack, signature};
 use crate::tables::{Settings, Tables};
 
 struct Walk<'a> {
@@ -98,7 +99,12 @@ impl Walk<'_> {
     }
 }
 
-/// The pages met, in no block twice; or 14.
+/// How far apart two signatures are: the groups of their four bytes that differ.
+fn signature_distance(b: u32, s: u32, t: u32) -> u32 {
+    (s ^ t).to_le_bytes().iter().map(|&v| groups(b, v)).sum()
+}
+
+/// The pages met, in no block twice, but those whose stored signature is further than the radius from the query's; or 14.
 pub fn met(t: &Tables, s: &Settings, radius: u32, query: &[u8]) -> Option<Vec<bool>> {
     let (q, m) = (s.q as usize, s.m as usize);
     let (nodes, pages) = (s.nodes as usize, s.pages as usize);
@@ -112,5 +118,7 @@ pub fn met(t: &Tables, s: &Settings, radius: u32, query: &[u8]) -> Option<Vec<bo
         walk.node(j, 0, radius / s.q)?;
         start += length;
     }
-    Some(walk.met)
+    let own = signature(s.b, query);
+    let near = |page: usize| signature_distance(s.b, t.pages[pages + page], own) <= radius;
+    Some((0..pages).map(|page| walk.met[page] && near(page)).collect())
 }

@@ -52,7 +52,7 @@ fn one_word(random: &mut Random, t: &mut Tables, s: &Settings) {
         3 => w.wrapping_sub(1),
         _ => random.below(n.max(p) + 2) as u32,
     };
-    match random.below(8) {
+    match random.below(9) {
         0 => t.settings[FREE] = other(random, t.settings[FREE]),
         1..=4 => {
             let at = match random.below(3) {
@@ -64,6 +64,11 @@ fn one_word(random: &mut Random, t: &mut Tables, s: &Settings) {
         }
         5 | 6 => {
             let at = random.below(s.lengths().pages as u64) as usize;
+            t.pages[at] = other(random, t.pages[at]);
+        }
+        // a signature
+        7 => {
+            let at = (p + random.below(p)) as usize;
             t.pages[at] = other(random, t.pages[at]);
         }
         _ => {

@@ -5,7 +5,7 @@ use vetchdawn_tests::calls::{self, Lent};
 use vetchdawn_tests::guard::{Guarded, GuardedTables};
 use vetchdawn_tests::random::Random;
 use vetchdawn_tests::stores::{any_tables, cut_short, damage, scramble, small_settings, Sketches};
-use vetchdawn_tests::tables::{is_hit, opens, Settings, Tables};
+use vetchdawn_tests::tables::{class_of, is_hit, opens, Settings, Tables};
 
 /// A number that is mostly below `n`.
 fn around(random: &mut Random, n: u64) -> u32 {
@@ -83,8 +83,9 @@ fn call(random: &mut Random, t: &mut Lent, s: &Settings, sketches: &Sketches) ->
             let reader = around(random, 4);
             let number = match calls::lent_show(t, reader, page) {
                 Ok((start, length)) => {
-                    let (m, cap) = (t.settings[2] as usize, t.settings[4] as usize);
-                    assert!((start, length) == (page as usize * m, m) && opens(t.settings, reader, t.pages[cap + page as usize]));
+                    let m = t.settings[2] as usize;
+                    assert_eq!((start, length), (page as usize * m, m));
+                    assert!(class_of(t.pages, page as usize).is_some_and(|class| opens(t.settings, reader, class)));
                     0
                 }
                 Err(number) => number,

@@ -71,8 +71,13 @@ fn opened(random: &mut Random) -> (Settings, Tables) {
         }
         let p = s.pages as usize;
         for i in 0..p {
-            t.pages[i] = [0, 1, 1, 1, 2, u32::MAX][random.below(6) as usize];
-            t.pages[p + i] = if random.below(8) == 0 { [64, 95, 96, u32::MAX][random.below(4) as usize] } else { random.below(64) as u32 };
+            // not live, of a class above 63, or of one below 64
+            t.pages[i] = match random.below(8) {
+                0 => 0,
+                1 => [65, 96, 97, u32::MAX][random.below(4) as usize],
+                _ => 1 + random.below(64) as u32,
+            };
+            t.pages[p + i] = random.next() as u32;
         }
         if random.below(3) == 0 {
             for _ in 0..300 {

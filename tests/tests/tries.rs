@@ -1,6 +1,7 @@
 //! Add and drop through C against explicit trees in plain Rust, node for node; and on damaged tables.
 use vetchdawn_tests::calls;
 use vetchdawn_tests::guard::GuardedTables;
+use vetchdawn_tests::plain::signature;
 use vetchdawn_tests::random::Random;
 use vetchdawn_tests::stores::{cut_short, damaged, filled, opened, small_settings, Sketches};
 use vetchdawn_tests::tables::{Settings, Tables, FREE};
@@ -41,10 +42,11 @@ fn compare(t: &Tables, before: &Tables, plain: &Index) {
     assert_eq!(whole(t, s), plain.trees);
     for page in 0..p {
         let row = plain.rows.get(&(page as u32));
-        assert_eq!(t.pages[page] == 1, row.is_some());
+        assert_eq!(t.pages[page], row.map_or(0, |row| 1 + row.class));
         if let Some(row) = row {
-            assert_eq!((t.pages[p + page], &t.sketches[page * m..page * m + m]), (row.class, &row.sketch[..]));
+            assert_eq!((t.pages[p + page], &t.sketches[page * m..page * m + m]), (signature(s.b, &row.sketch), &row.sketch[..]));
         } else {
+            assert_eq!(t.pages[p + page], before.pages[p + page]);
             assert_eq!(t.sketches[page * m..page * m + m], before.sketches[page * m..page * m + m]);
         }
     }
@@ -115,7 +117,7 @@ fn early(t: &Tables, s: &Settings, page: u32, added: Option<(u32, &[u8])>) -> u3
     if page >= s.pages {
         return 8;
     }
-    if (t.pages[page as usize] == 1) == added.is_some() {
+    if (t.pages[page as usize] != 0) == added.is_some() {
         return 9;
     }
     match added {
@@ -125,7 +127,7 @@ fn early(t: &Tables, s: &Settings, page: u32, added: Option<(u32, &[u8])>) -> u3
     }
 }
 
-/// What an add, or a drop, of a page may have changed, whatever the tables held: with 0 that page's live word, class and row; with 14 that
+/// What an add, or a drop, of a page may have changed, whatever the tables held: with 0 that page's word, signature and row; with 14 that
 /// row at most; and in both cases words of the tries. Says whether the row of the page is the sketch then.
 fn compare_outside_tries(before: &Tables, after: &Tables, s: &Settings, page: u32, added: Option<(u32, &[u8])>, number: u32) -> bool {
     let mut want = before.clone();
@@ -141,8 +143,8 @@ fn compare_outside_tries(before: &Tables, after: &Tables, s: &Settings, page: u3
     }
     if number == 0 {
         assert_eq!(written, added.is_some());
-        want.pages[page] = u32::from(added.is_some());
-        want.pages[p + page] = added.map_or(before.pages[p + page], |(class, _)| class);
+        want.pages[page] = added.map_or(0, |(class, _)| 1 + class);
+        want.pages[p + page] = added.map_or(before.pages[p + page], |(_, x)| signature(s.b, x));
         want.settings[FREE] = after.settings[FREE];
     }
     let (nodes, links) = (..s.lengths().nodes, 2 * p..s.lengths().pages);

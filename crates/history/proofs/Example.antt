@@ -8,7 +8,7 @@ use Rattle.meaning.specs.Lists.{all, any, keep, onto, from, upto, sum}
 use Rattle.meaning.specs.Refusal.{firstNo}
 use Rattle.meaning.specs.Ledger.{Settings, settingsGiven, Event, opening, add, change, accept, step, ledger, withRows, withRegister, putRow, calledFor, listed}
 use Rattle.meaning.specs.Forest.{blockBytes, forest, forestAfter, eachFrom, totalNodes}
-use Rattle.meaning.specs.Sketch.{distance, inRange, perByte, packedLength, blockLength}
+use Rattle.meaning.specs.Sketch.{distance, inRange, perByte, packedLength, packByte, packBytes, pack, blockLength}
 use Rattle.meaning.specs.Trie.{fresh, addLeaf, insert, nodes}
 use Rattle.meaning.specs.Rights.{samePair, stands, write, openTo, join, grant, changed}
 use Rattle.meaning.specs.SketchCalls.{sketchLimits}
@@ -16,6 +16,7 @@ use Rattle.meaning.specs.Questions.{inLimits, asked, byLedger}
 use Rattle.words.specs.Bits.{bit, withBit, withFlag}
 use Rattle.layout.specs.Settings.{header, settingsOf, showsOpening}
 use Rattle.layout.specs.Pages.{withPage, withRow}
+use Rattle.layout.specs.Signature.{foldedByte, folded, signature}
 use Rattle.layout.specs.Lengths.{nodesLength, pagesLength, sketchesLength, workingLength}
 use Rattle.layout.specs.Working.{mapWords, summaryWords}
 use Rattle.rights.specs.Register.{withMember, withGrant, registered}
@@ -86,7 +87,7 @@ added-tables : Tables
 added-tables = record {
   settings = third;
   nodes = onto (replicate 50 6) (held .nodes);
-  pages = set (withPage 3 (first .pages) 1 3) 7 5;
+  pages = set (withPage 3 (first .pages) 1 3 228) 7 5;
   sketches = withRow 4 (held .sketches) 1 x;
   working = held .working;
 }
@@ -106,7 +107,7 @@ same-rest = record {
 }
 
 added : PageAdded (toStore opened-tables) (toStore added-tables) 1 3 x
-unfolding s x held first second third opened-tables added-tables opened freshSettings freshPages pagesLength freeLink header onto settingsOf withPage withRow withFlag withBit bit
+unfolding s x held first second third opened-tables added-tables opened freshSettings freshPages pagesLength freeLink header onto settingsOf withPage withRow withFlag withBit bit signature folded foldedByte pack packBytes packByte packedLength perByte upto from
 added = record { pages = refl; sketches = refl }
 
 accepts : judged opened-tables (ledger events) (forest events) (add 1 3 x) ≡ 0

@@ -58,18 +58,21 @@ rising-keep g k (suc n) = go (g k) (rising-keep g (suc k) n)
 
 -- ---- the rows of the live pages among n from k on
 
+-- only the rows of live pages count
 rows-cong : (l l′ : ℕ → Bool) (h h′ : ℕ → Row) (k n : ℕ) → ((i : ℕ) → k ≤ i → i < k + n → l i ≡ l′ i)
-    → ((i : ℕ) → k ≤ i → i < k + n → h i ≡ h′ i) → rowsFrom l h k n ≡ rowsFrom l′ h′ k n
+    → ((i : ℕ) → k ≤ i → i < k + n → l i ≡ true → h i ≡ h′ i) → rowsFrom l h k n ≡ rowsFrom l′ h′ k n
 unfolding rowsFrom
 rows-cong l l′ h h′ k zero a b = refl
 rows-cong l l′ h h′ k (suc n) a b =
-    cc (
-      a k (omega arith) (omega arith),
-      b k (omega arith) (omega arith),
-      rows-cong l l′ h h′ (suc k) n (λ i x y. a i (omega arith) (omega arith)) (λ i x y. b i (omega arith) (omega arith)),
-    )
+    rw (← a k (omega arith) (omega arith))
+    (go (l k) (b k (omega arith) (omega arith))
+    (rows-cong l l′ h h′ (suc k) n (λ i x y. a i (omega arith) (omega arith)) (λ i x y. b i (omega arith) (omega arith))))
+  where
+    go : (t : Bool) → (t ≡ true → h k ≡ h′ k) → {xs ys : List Row} → xs ≡ ys → cond t (h k ∷ xs) xs ≡ cond t (h′ k ∷ ys) ys
+    go true e r = let q : h k ≡ h′ k = e refl in cc
+    go false e r = r
 
-pub rows-upto : (l l′ : ℕ → Bool) (h h′ : ℕ → Row) (n : ℕ) → ((i : ℕ) → i < n → l i ≡ l′ i) → ((i : ℕ) → i < n → h i ≡ h′ i)
+pub rows-upto : (l l′ : ℕ → Bool) (h h′ : ℕ → Row) (n : ℕ) → ((i : ℕ) → i < n → l i ≡ l′ i) → ((i : ℕ) → i < n → l i ≡ true → h i ≡ h′ i)
     → rowsFrom l h 0 n ≡ rowsFrom l′ h′ 0 n
 rows-upto l l′ h h′ n a b = rows-cong l l′ h h′ 0 n (λ i x y. a i (omega arith)) (λ i x y. b i (omega arith))
 
@@ -79,7 +82,7 @@ dead h k zero = refl
 dead h k (suc n) = dead h (suc k) n
 
 pub rows-none : (l : ℕ → Bool) (h : ℕ → Row) (n : ℕ) → ((i : ℕ) → i < n → l i ≡ false) → rowsFrom l h 0 n ≡ []
-rows-none l h n a = rows-upto l (λ i. false) h h n a (λ i x. refl) ∙ dead h 0 n
+rows-none l h n a = rows-upto l (λ i. false) h h n a (λ i x e. refl) ∙ dead h 0 n
 
 -- each row has its own page number
 module _ (l : ℕ → Bool) (h : ℕ → Row) (own : (i : ℕ) → h i .page ≡ i) where
@@ -206,7 +209,7 @@ module _ (l : ℕ → Bool) (h : ℕ → Row) (own : (i : ℕ) → h i .page ≡
       go true e true m ih = absurd (true≢false (sym m ∙ ap l (eqb-true k (r .page) e) ∙ free))
       go true e false m ih =
           put-low r (suc k) n (omega (arith, eqb-true k (r .page) e))
-          ∙ ap {B = List Row} (λ x. r ∷ x) (rows-cong l l′ h h′ (suc k) n (λ i x y. rw (ne i x)) (λ i x y. rw (ne i x)))
+          ∙ ap {B = List Row} (λ x. r ∷ x) (rows-cong l l′ h h′ (suc k) n (λ i x y. rw (ne i x)) (λ i x y live. rw (ne i x)))
         where
           ne : (i : ℕ) → suc k ≤ i → eqb i (r .page) ≡ false
           ne i x = ne-eqb i (r .page) (omega (arith, eqb-true k (r .page) e))

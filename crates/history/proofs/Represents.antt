@@ -36,7 +36,7 @@ pub record Represents (T : Tables) (L : Ledger) : Type 0 where
   pub long : longSettings T && longFor (L .settings) T (opening (L .settings)) ≡ true
   pub register : Holds (T .settings) (L .register)
   pub rows : L .rows ≡ rowsOf T
-  pub classes : (p : ℕ) → p < L .settings .pages → isLive (T .pages) p ≡ true → classOf (T .pages) (L .settings .pages) p < 64
+  pub classes : (p : ℕ) → p < L .settings .pages → isLive (T .pages) p ≡ true → classOf (T .pages) p < 64
 
 -- ---- the tables are as long as they were
 
@@ -94,7 +94,7 @@ module _ (T : Tables) (L : Ledger) (R : Represents T L) where
       pages : longPages (L .settings) T ≡ true
       pages = and-second (longNodes (L .settings) T) (longPages (L .settings) T) store
 
-  -- the live words and the classes, and the rows
+  -- the page words and the signatures, and the rows
   pub long-pages : 2 * L .settings .pages ≤ length (T .pages)
   unfolding longFor longPages pagesLength
   long-pages =
@@ -134,7 +134,7 @@ module _ (T : Tables) (L : Ledger) (R : Represents T L) where
   live = isLive (T .pages)
 
   abbrev row : ℕ → Row
-  row = rowAt (L .settings .pages) (L .settings .symbols) (T .pages) (T .sketches)
+  row = rowAt (L .settings .symbols) (T .pages) (T .sketches)
 
   pub live-eq : (p : ℕ) → p < L .settings .pages → isLive (T .pages) p ≡ any (λ r. eqb (r .page) p) (L .rows)
   live-eq p h = rw rows-eq (sym (rows-live live row (λ i. refl) p 0 (L .settings .pages) (omega arith) (omega arith)))
@@ -145,7 +145,7 @@ module _ (T : Tables) (L : Ledger) (R : Represents T L) where
 
   shown-row : (reader p : ℕ) → reader < 256 → p < L .settings .pages → isShown T reader p ≡ live p && openTo (L .register) reader (row p .class)
   unfolding isShown pageClass
-  shown-row reader p hr h = rw given-eq (and-then (live p) (opens-live reader p hr h))
+  shown-row reader p hr h = and-then (live p) (opens-live reader p hr h)
 
   pub shown-eq : (reader p : ℕ) → reader < 256 → p < L .settings .pages
       → isShown T reader p ≡ any (λ r. eqb (r .page) p && openTo (L .register) reader (r .class)) (L .rows)

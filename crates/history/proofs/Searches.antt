@@ -35,7 +35,7 @@ module _ (T : Tables) (L : Ledger) (R : Represents T L) where
   ordered reader radius x =
       rw (
         rows-eq T L R,
-        rows-keep (isLive (T .pages)) (rowAt (L .settings .pages) (L .settings .symbols) (T .pages) (T .sketches)) (λ i. refl)
+        rows-keep (isLive (T .pages)) (rowAt (L .settings .symbols) (T .pages) (T .sketches)) (λ i. refl)
             (λ r. openTo (L .register) reader (r .class) && leb (distance (r .sketch) x) radius) 0 (L .settings .pages),
       )
       (rising-keep _ 0 (L .settings .pages))
@@ -77,7 +77,7 @@ module _ (T : Tables) (L : Ledger) (R : Represents T L) (F : List Tree) (reader 
       row h =
           unfold pageRow in
           rw (given-eq T L R, rows-eq T L R)
-          (sym (rows-sketch (isLive (T .pages)) (rowAt (L .settings .pages) (L .settings .symbols) (T .pages) (T .sketches)) (λ i. refl) p 0 (L .settings .pages) (h .1)
+          (sym (rows-sketch (isLive (T .pages)) (rowAt (L .settings .symbols) (T .pages) (T .sketches)) (λ i. refl) p 0 (L .settings .pages) (h .1)
           (omega arith) (omega arith)))
 
       go : (t : Bool) → eqb (judged T L F (reading (show reader p))) 0 ≡ t → cond t (pageRow T p) [] ≡ cond t (sketchIn (L .rows) p) []

@@ -1,6 +1,6 @@
 -- What an accepted call leaves shows the ledger after its step.
 use mathlib.Core.Path.{_≡_, refl, sym, ap, _∙_}
-use mathlib.Core.Bool.{Bool, true, false, cond, not, true≢false}
+use mathlib.Core.Bool.{Bool, true, false, cond, not}
 use mathlib.Core.List.{List}
 use Prim.Native.Nat.{ℕ, _+_, _*_, _≤_, _<_}
 use native.Mathlib.Omega.{arith}
@@ -16,6 +16,7 @@ use Rattle.meaning.specs.Ledger.{Row, row, Ledger, add, drop, change, accept, w
 use Rattle.meaning.specs.Questions.{asked, byLedger}
 use Rattle.layout.specs.Settings.{settingsLength, membersAt, freeAt}
 use Rattle.layout.specs.Pages.{isLive, classOf, withRow, withPage, withoutPage}
+use Rattle.layout.specs.Signature.{signature}
 use Rattle.layout.proofs.Rows.{row-inside, row-same, row-other}
 use Rattle.rights.specs.Register.{registered}
 use Rattle.rights.proofs.Pairs.{Holds, Changed, holds-same, made}
@@ -25,12 +26,8 @@ use Rattle.promises.specs.Store.{SameRest, pageWords, PageAdded}
 use Rattle.promises.specs.Relation.{toStore, withWorking}
 use Rattle.history.specs.History.{admitted, judged}
 use Rattle.history.proofs.Lists.{passed}
-use Rattle.history.proofs.Pages.{rowsIn, rows-add, rows-drop, live-add, live-drop, class-add, class-drop}
+use Rattle.history.proofs.Pages.{left, rowsIn, rows-add, rows-drop, live-add, live-drop, class-add, class-drop}
 use Rattle.history.proofs.Represents.{Represents, AsLong, long-kept, settings-read, given-eq, long-settings, long-pages, long-sketches, rows-eq, live-eq}
-
-unless : (t : Bool) {b : Bool} → cond t false b ≡ true → b ≡ true
-unless true e = absurd (true≢false (sym e))
-unless false e = e
 
 below : (t : Bool) {b : Bool} {c d : ℕ} → c < 64 → (b ≡ true → d < 64) → cond t true b ≡ true → cond t c d < 64
 below true h k e = h
@@ -41,7 +38,7 @@ module _ (T : Tables) (L : Ledger) (R : Represents T L) where
   kept : (T′ : Tables) (rows : List Row) (G : Register) → AsLong T T′ → take membersAt (T′ .settings) ≡ take membersAt (T .settings)
       → Holds (T′ .settings) G
       → rows ≡ rowsIn (L .settings .pages) (L .settings .symbols) (T′ .pages) (T′ .sketches)
-      → ((p : ℕ) → p < L .settings .pages → isLive (T′ .pages) p ≡ true → classOf (T′ .pages) (L .settings .pages) p < 64)
+      → ((p : ℕ) → p < L .settings .pages → isLive (T′ .pages) p ≡ true → classOf (T′ .pages) p < 64)
       → Represents T′ (record { settings = L .settings; rows = rows; register = G })
   unfolding rowsOf pageClass pageRow
   kept T′ rows G l h g r c = record {
@@ -83,7 +80,7 @@ module _ (T : Tables) (L : Ledger) (R : Represents T L) where
 
   module _ (T′ : Tables) (same : SameRest (toStore T) (toStore T′)) (kept-working : T′ .working ≡ T .working) where
     grown : (rows : List Row) → rows ≡ rowsIn P m (T′ .pages) (T′ .sketches)
-        → ((i : ℕ) → i < P → isLive (T′ .pages) i ≡ true → classOf (T′ .pages) P i < 64)
+        → ((i : ℕ) → i < P → isLive (T′ .pages) i ≡ true → classOf (T′ .pages) i < 64)
         → Represents T′ (withRows L rows)
     unfolding withRows
     grown rows =
@@ -102,8 +99,8 @@ module _ (T : Tables) (L : Ledger) (R : Represents T L) where
         grown (keep (λ r. not (eqb (r .page) p)) (L .rows))
         (rw (rows-eq T L R, rows) (rows-drop P (T .pages) (T′ .pages) p hp (long-pages T L R) m (T .sketches) (T .sketches) struck (λ i hi. refl)))
         (λ i hi v.
-        rw (class-drop P (T .pages) (T′ .pages) p hp (long-pages T L R) struck i hi)
-        (R .classes i hi (unless (eqb i p) (sym (live-drop P (T .pages) (T′ .pages) p hp (long-pages T L R) struck i hi) ∙ v))))
+        let l = left i p (sym (live-drop P (T .pages) (T′ .pages) p hp (long-pages T L R) struck i hi) ∙ v) in
+        rw (class-drop P (T .pages) (T′ .pages) p hp (long-pages T L R) struck i hi (l .0)) (R .classes i hi (l .1)))
 
     pub adds : (F : List Tree) (p c : ℕ) (x : List ℕ) → PageAdded (toStore T) (toStore T′) p c x → judged T L F (add p c x) ≡ 0
         → Represents T′ (accept (add p c x) L)
@@ -117,12 +114,13 @@ module _ (T : Tables) (L : Ledger) (R : Represents T L) where
         let free : isLive (T .pages) p ≡ false = live-eq T L R p hp ∙ not-true _ (h9 .0) in
         let whole : length x ≡ m = eqb-true (length x) m (h10 .0) in
         let fits : p * m + m ≤ length (T .sketches) = row-inside m P (length (T .sketches)) hp (long-sketches T L R) in
-        let written : take (2 * P) (T′ .pages) ≡ take (2 * P) (withPage P (T .pages) p c) = rw (given-eq T L R) at (d .pages) in
+        let g : ℕ = signature (L .settings .bits) x in
+        let written : take (2 * P) (T′ .pages) ≡ take (2 * P) (withPage P (T .pages) p c g) = rw (given-eq T L R) at (d .pages) in
         let over : T′ .sketches ≡ withRow m (T .sketches) p x = rw (given-eq T L R) at (d .sketches) in
         grown (putRow (row p c x) (L .rows))
         (rw (rows-eq T L R, over)
-        (rows-add P (T .pages) (T′ .pages) p hp (long-pages T L R) m (T .sketches) (withRow m (T .sketches) p x) c x free written
+        (rows-add P (T .pages) (T′ .pages) p hp (long-pages T L R) m (T .sketches) (withRow m (T .sketches) p x) c g x free written
         (row-same m (T .sketches) p fits x whole) (λ i hi. row-other m (T .sketches) p fits x whole i)))
         (λ i hi v.
-        rw (class-add P (T .pages) (T′ .pages) p hp (long-pages T L R) c written i hi)
-        (below (eqb i p) (ltb-true c 64 (h7 .0)) (R .classes i hi) (sym (live-add P (T .pages) (T′ .pages) p hp (long-pages T L R) c written i hi) ∙ v)))
+        rw (class-add P (T .pages) (T′ .pages) p hp (long-pages T L R) c g written i hi)
+        (below (eqb i p) (ltb-true c 64 (h7 .0)) (R .classes i hi) (sym (live-add P (T .pages) (T′ .pages) p hp (long-pages T L R) c g written i hi) ∙ v)))

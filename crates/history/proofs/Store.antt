@@ -29,7 +29,7 @@ module _ (T : Tables) (ws vs : List ℕ) (head : take membersAt ws ≡ take memb
 
   page-same : (p : ℕ) → SoundPage T p → SoundPage (others T ws vs) p
   unfolding pageClass pageRow
-  page-same p k = record { class = rw given-same (k .class); symbols = rw given-same (k .symbols) }
+  page-same p k = record { class = k .class; symbols = rw given-same (k .symbols); signature = rw given-same (k .signature) }
 
   pub sound-others : Sound (others T ws vs) F
   sound-others = record {

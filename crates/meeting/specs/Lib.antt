@@ -1,3 +1,4 @@
 pub mod Meets
 pub mod Mets
 pub mod Turns
+pub mod Held
