@@ -1,9 +1,9 @@
 -- What a caller learns from a batch.
-use Prim.Native.Nat.{ℕ, suc, _<_, _≤_}
+use Prim.Native.Nat.{ℕ, _<_}
 use native.Mathlib.Omega.{arith}
 use mathlib.Core.Path.{_≡_, refl, sym, ap, subst, _∙_}
-use mathlib.Core.List.{List, [], _∷_, append-nil}
-use lib.ListN.{length, set, replicate}
+use mathlib.Core.List.{List, append-nil}
+use lib.ListN.{set, replicate}
 use Rattle.layout.specs.Nodes.{stepsFor}
 use Rattle.layout.specs.States.{kindOf}
 use Rattle.layout.specs.declared.nodes.Kind.{Kind}
@@ -17,7 +17,7 @@ use Rattle.walk.specs.declared.batch.Batch.{Batch}
 use Rattle.walk.specs.Given.{Given, Fitting}
 use Rattle.walk.specs.Leaves.{Leaves, leaves, broken, before}
 use Rattle.walk.specs.Turn.{entered}
-use Rattle.walk.specs.Stack.{frames, Within}
+use Rattle.walk.specs.Stack.{Within}
 use Rattle.walk.specs.Place.{placed}
 use Rattle.walk.specs.Walk.{state, run, walkBelow, walkFrom}
 use Rattle.walk.specs.Batch.{bare, linksOf, from, still, Standing, Ready, Gives, Begins}

@@ -2,11 +2,11 @@
 use Prim.Native.Nat.{ℕ, _+_, _-_, _<_, _≤_}
 use native.Mathlib.Omega.{arith}
 use native.Mathlib.Nat.{sub-zero}
-use mathlib.Core.Path.{_≡_, refl, sym, ap, subst, _∙_}
+use mathlib.Core.Path.{_≡_, refl, sym, ap, _∙_}
 use mathlib.Core.Bool.{Bool, true, false, cond}
 use mathlib.Core.List.{List, [], _∷_, _++_}
 use lib.Dec.{ltb, eqb}
-use lib.ListN.{length, getD, set, take}
+use lib.ListN.{length, set, take}
 use borrow.Author.Tests.{eqb-true, eqb-false, lt-ltb, le-ltb}
 use Rattle.descent.specs.declared.Cursor.{Cursor}
 use Rattle.descent.specs.Cursor.{AllInside}
@@ -24,7 +24,6 @@ use Rattle.walk.specs.Stack.{frameAt, frames, pushed, AllWithin}
 use Rattle.walk.specs.Walk.{state, above, follow, run}
 use Rattle.walk.specs.Batch.{bare, from, Standing, Gives}
 use Rattle.walk.specs.Waiting.{Settled}
-use Rattle.walk.proofs.Spend.{spend-none}
 use Rattle.walk.proofs.Stack.{pushed-length, frames-push, frames-length, frames-none, frames-take}
 use Rattle.walk.proofs.Run.{run-spent, run-by}
 use Rattle.walk.proofs.Turns.{Kept, kept-by}

@@ -10,13 +10,11 @@ use lib.ListN.{length, getD, set, take, length-set}
 use borrow.Author.Tests.{ltb-false}
 use lib.Seq.{take-suc, take-suc-set}
 use Rattle.descent.specs.declared.Cursor.{Cursor}
-use Rattle.descent.specs.declared.Left.{Left}
 use Rattle.descent.specs.declared.Left.the-variants as left
 use Rattle.descent.specs.Cursor.{Inside, AllInside, ended, drawnAll, leftOf}
 use Rattle.descent.proofs.Each.{each-put}
 use Rattle.descent.proofs.Steps.{drawn-one-more}
 use Rattle.walk.specs.declared.place.Place.{Place}
-use Rattle.walk.specs.declared.batch.Rest.{Rest}
 use Rattle.walk.specs.declared.batch.Rest.the-variants.{More, Done, Broken}
 use Rattle.walk.specs.declared.batch.Batch.{Batch}
 use Rattle.walk.specs.Given.{Given, leafFrom, drawnFrom}
@@ -24,7 +22,7 @@ use Rattle.walk.specs.Leaves.{Leaves, leaves, broken, before, spend}
 use Rattle.walk.specs.Place.{withNodes}
 use Rattle.walk.specs.Walk.{leafThen}
 use Rattle.walk.specs.Batch.{linksOf, from, still, Standing, Ready}
-use Rattle.walk.specs.Waiting.{restOf, drawnBy, leftBy, Settled}
+use Rattle.walk.specs.Waiting.{restOf, drawnBy, Settled}
 use Rattle.walk.proofs.Spend.{before-none, before-both, spend-same, spend-broken, spend-before, spend-none, spend-both, spend-swap}
 
 -- ---- on behind them, when their descents have drawn on the nodes

@@ -3,7 +3,6 @@ ghost use mathlib.Core.Path.{_≡_};
 ghost use Prim.Native.Nat.{_<_};
 ghost use lib.ListN.{length};
 ghost use Rattle.layout.specs.Nodes.{nodeWords};
-ghost use Rattle.layout.specs.Tables.{NodeTable};
 ghost use Rattle.distances.specs.Table.{distanceTable};
 ghost use Rattle.walk.specs.Given.{within, Fitting};
 ghost use Rattle.walk.specs.Turn.{reached};

@@ -6,69 +6,94 @@ use mathlib.Core.Bool.{cond}
 use mathlib.Core.List.{List, [], _∷_, _++_, append-assoc}
 use lib.Bits.{bitXor}
 use lib.Dec.{leb}
-use lib.ListN.{getD}
-use borrow.Author.Tests.{eq-eqb, ne-eqb, lt-ltb, le-ltb}
+use lib.ListN.{length, getD}
+use borrow.Author.Tests.{lt-ltb, le-ltb}
 use Rattle.meaning.specs.Sketch.{byteDistance}
 use Rattle.meaning.specs.Trie.{Children, none, met, metIn}
 use Rattle.layout.specs.Nodes.{linkOf, byteOf, chainWord, stateAt, innerState, leafState, linkBase}
-use Rattle.children.specs.Heap.{Holds}
-use Rattle.children.specs.Phys.{Phys, leafP, innerP, Chain, stop, link, root, tree, childrenC, cellsC, Sound, SoundC}
-use Rattle.children.proofs.Chains.{linkC}
+use Rattle.layout.specs.declared.nodes.Kind.the-variants as kind
+use Rattle.layout.proofs.States.{kind-state}
+use Rattle.children.specs.Phys.{Chain, stop, link, tree, childrenC}
+use Rattle.children.specs.Cursors.{lookAt, nextOf}
+use Rattle.children.specs.declared.cursor.Cursor.{Cursor}
+use Rattle.children.specs.declared.cursor.Seen.the-variants as seen
+use Rattle.children.specs.declared.cursor.Next.{Next}
+use Rattle.children.specs.declared.cursor.Next.the-variants as next
+use Rattle.children.proofs.Cursors.{look-child, step-along, step-chain, step-end}
+use Rattle.descent.specs.Cursor.{ended}
 use Rattle.walk.specs.declared.frame.Frame.{Frame}
-use Rattle.walk.specs.declared.frame.Step.the-variants.{Stay, Leaf, Exact, Down, Up}
-use Rattle.walk.specs.Frame.{stepTo, stepIn}
-use Rattle.walk.proofs.Steps.{along-inside}
+use Rattle.walk.specs.declared.turn.Move.the-variants.{Chain as ToChain, Past, Leaf, Down, Up}
+use Rattle.walk.specs.Given.{Given, exactFrom}
+use Rattle.walk.specs.Turn.{reached, distanceAt, foundBy, found}
+use Rattle.walk.proofs.Turns.{reached-by, reached-exact, reached-down}
 
 -- ---- what the tables hold
 
 pub link-in : (y l : ℕ) → l < linkBase → linkOf (chainWord y l) ≡ l
 link-in y l h = omega arith
 
-pub byte-in : (y l : ℕ) → l < linkBase → y ≡ byteOf (chainWord y l)
+byte-in : (y l : ℕ) → l < linkBase → y ≡ byteOf (chainWord y l)
 byte-in y l h = omega arith
 
--- ---- steps
-module _ (nodes : List ℕ) (cap b : ℕ) (frame : Frame) (y : ℕ) where
-  -- to node x of byte c, which is followed by l
-  pub step-chain : (x c l : ℕ) → frame .link ≡ x + 1 → x < cap → getD nodes x 0 ≡ chainWord c l → l < linkBase → c < 256
-      → stepIn nodes cap b frame y ≡ stepTo nodes cap x (byteDistance b (bitXor c y)) (frame .radius) (frame .at) l
-  unfolding stepIn
-  step-chain x c l e i h m n =
-      let at-x : frame .link - 1 ≡ x = omega arith in
-      let low : c % 256 ≡ c = omega arith in
-      rw (ne-eqb (frame .link) 0 (omega arith))
-      (along-inside nodes cap b frame y (chainWord c l) c l (byteDistance b (bitXor c y)) (omega arith) (sym (ap (λ k. getD nodes k 0) at-x ∙ h))
-      (byte-in c l m) (sym (link-in c l m)) (ap (λ k. byteDistance b (bitXor k y)) (sym low))
-      ∙ ap (λ k. stepTo nodes cap k (byteDistance b (bitXor c y)) (frame .radius) (frame .at) l) at-x)
+-- ---- the next child
+module _ (nodes : List ℕ) (cap : ℕ) where
+  -- node x of byte c, which is followed by l
+  pub look-there : (x c l : ℕ) → x < cap → getD nodes x 0 ≡ chainWord c l → l < linkBase → lookAt nodes cap (x + 1) ≡ seen.Child x c l
+  look-there x c l i h m =
+      let back : x + 1 - 1 ≡ x = omega arith in
+      let word : getD nodes (x + 1 - 1) 0 ≡ chainWord c l = ap (λ k. getD nodes k 0) back ∙ h in
+      sym (look-child nodes cap (x + 1) (omega arith) (omega arith) c l (byte-in c l m ∙ ap byteOf (sym word)) (sym (link-in c l m) ∙ ap linkOf (sym word)))
+      ∙ ap (λ k. seen.Child k c l) back
 
-  -- to the next chain, or up
-  pub step-next : frame .link ≡ 0 → frame .at < frame .last
-      → stepIn nodes cap b frame y ≡ Stay (frame .at + 1) (linkOf (getD nodes (frame .at + 1) 0))
-  unfolding stepIn
-  step-next e l = rw (eq-eqb (frame .link) 0 e, lt-ltb (frame .at) (frame .last) l)
+  module _ (at : Cursor) where
+    pub next-child : (x c l : ℕ) → at .link ≡ x + 1 → lookAt nodes cap (x + 1) ≡ seen.Child x c l → nextOf nodes cap at ≡ next.Child x c l
+    next-child x c l e saw =
+        sym (step-along nodes cap at (λ z. absurd (omega arith)) (lookAt nodes cap (at .link)) refl (seen.Child x c l) (ap (lookAt nodes cap) e ∙ saw))
 
-  pub step-last : frame .link ≡ 0 → frame .last ≤ frame .at → stepIn nodes cap b frame y ≡ Up
-  unfolding stepIn
-  step-last e l = rw (eq-eqb (frame .link) 0 e, le-ltb (frame .at) (frame .last) l)
+    pub next-chain : at .link ≡ 0 → at .at < at .last → nextOf nodes cap at ≡ next.Chain (at .at + 1) (linkOf (getD nodes (at .at + 1) 0))
+    next-chain e l = sym (step-chain nodes cap at e l (linkOf (getD nodes (at .at + 1) 0)) refl)
 
-module _ (nodes : List ℕ) (cap x d radius at l : ℕ) where
-  pub to-far : radius < d → stepTo nodes cap x d radius at l ≡ Stay at l
-  unfolding stepTo
-  to-far h = rw (lt-ltb radius d h)
+    pub next-end : at .link ≡ 0 → at .last ≤ at .at → nextOf nodes cap at ≡ next.End
+    next-end e l = sym (step-end nodes cap at e l)
 
-  pub to-leaf : (first : ℕ) → d ≤ radius → getD nodes (stateAt cap x) 0 ≡ leafState first → stepTo nodes cap x d radius at l ≡ Leaf first l
-  unfolding stepTo
-  to-leaf first h e =
-      let less : 2 + first - 2 ≡ first = omega arith in
-      rw (le-ltb radius d h, e, ne-eqb (2 + first) 0 (omega arith), ne-eqb (2 + first) 1 (omega arith)) (ap (λ k. Leaf k l) less)
+-- ---- the step of a walk at a level, by the next child
+module _ (w : Given) (level : ℕ) (frame : Frame) where
+  found-by : (a : Next) → nextOf (w .nodes) (w .cap) (frame .cursor) ≡ a → found w level frame ≡ foundBy w level (frame .radius) a
+  unfolding found
+  found-by a e = ap (foundBy w level (frame .radius)) e
 
-  pub to-exact : radius ≡ d → getD nodes (stateAt cap x) 0 ≡ innerState → stepTo nodes cap x d radius at l ≡ Exact x l
-  unfolding stepTo
-  to-exact h e = rw (le-ltb radius d (omega arith), e, eq-eqb radius d h)
+  pub found-chain : (at l : ℕ) → nextOf (w .nodes) (w .cap) (frame .cursor) ≡ next.Chain at l → found w level frame ≡ ToChain at l
+  found-chain at l e = found-by (next.Chain at l) e
 
-  pub to-inner : d < radius → getD nodes (stateAt cap x) 0 ≡ innerState → stepTo nodes cap x d radius at l ≡ Down x (radius - d) l
-  unfolding stepTo
-  to-inner h e = rw (le-ltb radius d (omega arith), e, ne-eqb radius d (omega arith))
+  pub found-end : nextOf (w .nodes) (w .cap) (frame .cursor) ≡ next.End → found w level frame ≡ Up
+  found-end e = found-by next.End e
+
+  module _ (x c l : ℕ) (e : nextOf (w .nodes) (w .cap) (frame .cursor) ≡ next.Child x c l) (small : c < 256) where
+    abbrev d : ℕ
+    d = byteDistance (w .b) (bitXor c (getD (w .bytes) level 0))
+
+    same-distance : distanceAt w level c ≡ d
+    same-distance =
+        let low : c % 256 ≡ c = omega arith in
+        ap (λ k. byteDistance (w .b) (bitXor k (getD (w .bytes) level 0))) low
+
+    pub found-far : frame .radius < d → found w level frame ≡ Past l
+    found-far h = found-by (next.Child x c l) e ∙ rw (same-distance, lt-ltb (frame .radius) d h) refl
+
+    pub found-near : d ≤ frame .radius → found w level frame ≡ reached w x (level + 1) (frame .radius - d) l
+    found-near h = found-by (next.Child x c l) e ∙ rw (same-distance, le-ltb (frame .radius) d h) refl
+
+-- ---- a child within the radius, by its state
+module _ (w : Given) (x level radius l : ℕ) where
+  pub to-leaf : (first : ℕ) → getD (w .nodes) (stateAt (w .cap) x) 0 ≡ leafState first → reached w x level radius l ≡ Leaf (ended first) l
+  to-leaf first e = sym (reached-by w x level radius l _ refl (kind.Leaf first) (kind-state (w .nodes) (w .cap) x (kind.Leaf first) e))
+
+  module _ (e : getD (w .nodes) (stateAt (w .cap) x) 0 ≡ innerState) where
+    pub to-exact : radius ≡ 0 → reached w x level radius l ≡ Leaf (exactFrom w x level) l
+    to-exact z = sym (reached-exact w x level radius l _ refl (kind-state (w .nodes) (w .cap) x kind.Inner e) z (exactFrom w x level) refl)
+
+    pub to-inner : 0 < radius → level < length (w .bytes) → reached w x level radius l ≡ Down x radius l
+    to-inner z h = sym (reached-down w x level radius l _ refl (kind-state (w .nodes) (w .cap) x kind.Inner e) (λ y. absurd (omega arith)) h)
 
 -- ---- what is met
 module _ (b r y : ℕ) (ys : List ℕ) where

@@ -7,23 +7,22 @@ use mathlib.Core.List.{List, [], _∷_}
 use lib.ListN.{getD}
 use Rattle.meaning.specs.Lists.{count, from, upto}
 use Rattle.meaning.specs.Sketch.{perByte, group, byteDistance}
-use Rattle.meaning.specs.Trie.{met, metIn}
 use Rattle.layout.specs.States.{kindOf}
-use Rattle.children.specs.Cursors.{firstFor}
+use Rattle.children.specs.Cursors.{allOf, lookAt, nextOf, firstFor}
 use Rattle.children.specs.Heap.{Holds}
-use Rattle.children.specs.Phys.{Phys, leafP, innerP, end, bucket, stop, link, tree, cells, noHeads, Sound}
-use Rattle.walk.specs.declared.frame.Step.the-variants.{Exact, Down}
-use Rattle.marking.specs.Mark.{marks, broken, markAll, markLeaf}
-use Rattle.walk.specs.Frame.{entered, stepTo, stepAlong, stepIn, reads}
-use Rattle.marking.specs.Given.{Given, given}
+use Rattle.children.specs.Phys.{Phys, leafP, innerP, end, bucket, stop, link, cells, noHeads, Sound}
+use Rattle.walk.specs.declared.turn.Move.the-variants.{Leaf, Down}
+use Rattle.walk.specs.Given.{Given, given, exactFrom}
+use Rattle.walk.specs.Leaves.{leaves, broken}
+use Rattle.walk.specs.Turn.{reached, found}
 use Rattle.walk.specs.Walk.{run, walkBelow, walkFrom}
-use Rattle.descent.specs.Cursor.{arrive, pass, advance, descended, drawn, leafOf}
+use Rattle.descent.specs.Cursor.{arrive, advance, descended, drawn, leafOf}
 use Rattle.walk_laws.specs.Near.{near, nearB, nearC}
 use Rattle.walk_laws.specs.Trail.{trailFrom}
 use Rattle.walk_laws.proofs.Fit.{Fit}
 use Rattle.walk_laws.proofs.Leads.{steps-below}
 use Rattle.walk_laws.proofs.Right.{WalkRight, right, right-trail}
-use Rattle.walk_laws.proofs.Example.{pageTable, block}
+use Rattle.walk_laws.proofs.Example.{pageTable}
 
 -- node 1 has byte 180, and node 2 below it byte 27 and page 7
 abbrev nodeTable : List ℕ
@@ -35,7 +34,7 @@ nodeTable =
 
 -- for a query of the bytes 181 and y
 abbrev w : ℕ → Given
-w y = given nodeTable pageTable block 1 2 (181 ∷ y ∷ [])
+w y = given nodeTable 3 2 (181 ∷ y ∷ [])
 
 abbrev t₁ : Phys
 t₁ =
@@ -78,41 +77,27 @@ fits : Fit 2 2 t 0
 unfolding perByte
 fits = (omega arith, (tt, (tt, (tt, (tt, (tt, ((omega arith, fits₁, tt), (tt, (tt, tt)))))))))
 
--- ---- the pages: within 1 the one that 181 and 27 lead to; none for a second byte at a distance, unless within 2
-met-one : met 2 1 (tree t) (181 ∷ 27 ∷ []) ≡ 7 ∷ []
-unfolding met metIn byteDistance count upto from perByte group
-met-one = refl
+-- ---- the leaves: two nodes are behind the root, and a walk reads both
+pub deeper : WalkRight (w 27) 16 8 pageTable t 1 2
+deeper = right (w 27) pageTable 8 16 (omega arith) (query 27 (omega arith)) t 1 holds sound fits (omega arith) (omega arith) 2 (omega (arith, steps-below t))
 
-met-off : met 2 1 (tree t) (181 ∷ 26 ∷ []) ≡ []
-unfolding met metIn byteDistance count upto from perByte group
-met-off = refl
+-- within 1 the one that 181 and 27 lead to; none for a second byte at a distance, unless within 2
+pub deeper-one : walkFrom (w 27) 0 1 2 ≡ leaves (8 ∷ []) 0
+unfolding walkFrom walkBelow run found reached kindOf allOf nextOf lookAt arrive firstFor advance descended drawn leafOf byteDistance count upto from perByte group
+deeper-one = refl
 
-met-two : met 2 2 (tree t) (181 ∷ 26 ∷ []) ≡ 7 ∷ []
-unfolding met metIn byteDistance count upto from perByte group
-met-two = refl
+pub deeper-off : walkFrom (w 26) 0 1 2 ≡ leaves (0 ∷ []) 0
+unfolding walkFrom walkBelow run found reached kindOf allOf nextOf lookAt arrive firstFor advance descended drawn leafOf byteDistance count upto from perByte group
+deeper-off = refl
 
--- two nodes are behind the root: a walk reads both
-pub deeper : (map : List ℕ) → WalkRight (w 27) t 1 2 map
-deeper map =
-    right (w 27) (omega arith) (query 27 (omega arith)) t 1 map holds sound fits (omega arith) (omega arith) (rw met-one (omega arith)) 2
-    (omega (arith, steps-below t))
-
-pub deeper-one : (map : List ℕ) → walkFrom (w 27) 0 1 2 map ≡ marks (markAll map 1 (7 ∷ [])) 0
-unfolding walkFrom walkBelow run reads entered stepIn stepAlong stepTo arrive kindOf firstFor advance pass descended drawn leafOf markLeaf markAll byteDistance count upto from perByte group
-deeper-one map = refl
-
-pub deeper-off : (map : List ℕ) → walkFrom (w 26) 0 1 2 map ≡ marks (markAll map 1 []) 0
-unfolding walkFrom walkBelow run reads entered stepIn stepAlong stepTo arrive kindOf firstFor advance pass descended drawn leafOf markLeaf markAll byteDistance count upto from perByte group
-deeper-off map = refl
-
-pub deeper-two : (map : List ℕ) → walkFrom (w 26) 0 2 2 map ≡ marks (markAll map 1 (7 ∷ [])) 0
-unfolding walkFrom walkBelow run reads entered stepIn stepAlong stepTo markLeaf markAll byteDistance count upto from perByte group
-deeper-two map = refl
+pub deeper-two : walkFrom (w 26) 0 2 2 ≡ leaves (8 ∷ []) 0
+unfolding walkFrom walkBelow run found reached kindOf allOf nextOf lookAt arrive firstFor advance descended drawn leafOf byteDistance count upto from perByte group
+deeper-two = refl
 
 -- with one node alone an exact descent below the first stops, and so does a walk through its chains
-pub deeper-short : (map : List ℕ) → (walkFrom (w 27) 0 1 1 map ≡ broken) × (walkFrom (w 27) 0 2 1 map ≡ broken)
-unfolding walkFrom walkBelow run reads entered stepIn stepAlong stepTo arrive kindOf firstFor advance pass descended drawn leafOf markLeaf markAll byteDistance count upto from perByte group
-deeper-short map = (refl, refl)
+pub deeper-short : (walkFrom (w 27) 0 1 1 ≡ broken) × (walkFrom (w 27) 0 2 1 ≡ broken)
+unfolding walkFrom walkBelow run found reached kindOf allOf nextOf lookAt arrive firstFor advance descended drawn leafOf byteDistance count upto from perByte group
+deeper-short = (refl, refl)
 
 -- ---- the nodes
 near-one : near 2 1 t (181 ∷ 27 ∷ []) ≡ 0 ∷ 1 ∷ 2 ∷ []
@@ -123,19 +108,17 @@ near-off : near 2 1 t (181 ∷ 26 ∷ []) ≡ 0 ∷ 1 ∷ []
 unfolding near nearB nearC byteDistance count upto from perByte group
 near-off = refl
 
-pub deeper-trail : (map : List ℕ) → trailFrom (w 27) 0 1 map ≡ 0 ∷ 1 ∷ 2 ∷ []
-deeper-trail map =
-    right-trail (w 27) (omega arith) (query 27 (omega arith)) t 1 map holds sound fits (omega arith) (omega arith) (rw met-one (omega arith)) ∙ near-one
+pub deeper-trail : trailFrom (w 27) 0 1 ≡ 0 ∷ 1 ∷ 2 ∷ []
+deeper-trail = right-trail (w 27) pageTable 8 16 (omega arith) (query 27 (omega arith)) t 1 holds sound fits (omega arith) (omega arith) ∙ near-one
 
-pub deeper-trail-off : (map : List ℕ) → trailFrom (w 26) 0 1 map ≡ 0 ∷ 1 ∷ []
-deeper-trail-off map =
-    right-trail (w 26) (omega arith) (query 26 (omega arith)) t 1 map holds sound fits (omega arith) (omega arith) (rw met-off (omega arith)) ∙ near-off
+pub deeper-trail-off : trailFrom (w 26) 0 1 ≡ 0 ∷ 1 ∷ []
+deeper-trail-off = right-trail (w 26) pageTable 8 16 (omega arith) (query 26 (omega arith)) t 1 holds sound fits (omega arith) (omega arith) ∙ near-off
 
 -- ---- the steps to node 1, which lead there
-step-one : stepIn nodeTable 3 2 (record { at = 11; last = 13; link = 2; radius = 1 }) 181 ≡ Exact 1 0
-unfolding stepIn stepAlong stepTo byteDistance count upto from perByte group
+step-one : found (w 27) 0 (record { cursor = record { at = 11; last = 13; link = 2 }; radius = 1 }) ≡ Leaf (exactFrom (w 27) 1 1) 0
+unfolding found reached kindOf nextOf lookAt byteDistance count upto from perByte group
 step-one = refl
 
-step-two : stepIn nodeTable 3 2 (record { at = 11; last = 13; link = 2; radius = 2 }) 181 ≡ Down 1 1 0
-unfolding stepIn stepAlong stepTo byteDistance count upto from perByte group
+step-two : found (w 27) 0 (record { cursor = record { at = 11; last = 13; link = 2 }; radius = 2 }) ≡ Down 1 1 0
+unfolding found reached kindOf nextOf lookAt byteDistance count upto from perByte group
 step-two = refl

@@ -7,13 +7,13 @@ use mathlib.Core.Bool.{Bool, true, false, cond}
 use mathlib.Core.List.{List, [], _∷_, _++_}
 use lib.Dec.{eqb}
 use lib.ListN.{getD}
-use borrow.Author.Tests.{eq-eqb, ne-eqb, le-ltb}
-use Rattle.layout.specs.Nodes.{linkOf, byteOf, chainWord, linkBase}
+use borrow.Author.Tests.{eq-eqb, ne-eqb}
+use Rattle.children.specs.Cursors.{lookAt}
+use Rattle.children.specs.declared.cursor.Seen.the-variants.{Child}
 use Rattle.descent.specs.declared.Cursor.{Cursor}
 use Rattle.descent.specs.Cursor.{ended, ahead, arrive, advance, descended, drawn, leafOf}
 use Rattle.descent.proofs.Steps.{descended-ended, drawn-ended, advance-along, advance-past, advance-down}
 use Rattle.walk_laws.specs.Trail.{reached, exactTrail}
-use Rattle.walk_laws.proofs.Chains.{link-in, byte-in}
 
 module _ (nodes : List ℕ) (cap : ℕ) (bytes : List ℕ) where
   -- a cursor ends within some steps, each of which reads a node, at a leaf by the link of its first page, and goes to some nodes
@@ -29,16 +29,16 @@ module _ (nodes : List ℕ) (cap : ℕ) (bytes : List ℕ) where
 
   -- ---- from cursor to cursor
   -- one that has ended stays
-  stays-none : (c : Cursor) → c .link ≡ 0 → (f : ℕ) → exactTrail nodes cap bytes f c ≡ []
+  pub ended-none : (c : Cursor) → c .link ≡ 0 → (f : ℕ) → exactTrail nodes cap bytes f c ≡ []
   unfolding exactTrail reached advance
-  stays-none c e zero = refl
-  stays-none c e (suc f) = rw (eq-eqb (c .link) 0 e) (stays-none c e f)
+  ended-none c e zero = refl
+  ended-none c e (suc f) = rw (eq-eqb (c .link) 0 e) (ended-none c e f)
 
   pub led-end : (c : Cursor) → c .link ≡ 0 → Led c (c .first) 0 []
   led-end c e = record {
     over = λ f l. ap (λ d. d .link) (descended-ended nodes cap bytes f c e) ∙ e;
     first = λ f l. ap (λ d. d .first) (descended-ended nodes cap bytes f c e);
-    went = λ f l. stays-none c e f;
+    went = λ f l. ended-none c e f;
     drew = λ f. omega (arith, drawn-ended nodes cap bytes f c e);
   }
 
@@ -92,47 +92,36 @@ module _ (nodes : List ℕ) (cap : ℕ) (bytes : List ℕ) where
   }
 
   -- ---- at the child x of byte c, which is followed by the link l
-  module _ (x c l at last y : ℕ) (below : x < cap) (word : getD nodes x 0 ≡ chainWord c l) (small : l < linkBase) (here : getD bytes at 0 ≡ y) where
+  module _ (x c l at last y : ℕ) (saw : lookAt nodes cap (x + 1) ≡ Child x c l) (here : getD bytes at 0 ≡ y) where
     abbrev at-child : Cursor
     at-child = ahead (x + 1) at last
 
-    back : x + 1 - 1 ≡ x
-    back = omega arith
-
-    word-there : getD nodes (x + 1 - 1) 0 ≡ chainWord c l
-    word-there = ap (λ k. getD nodes k 0) back ∙ word
-
-    byte-there : c ≡ byteOf (getD nodes (x + 1 - 1) 0)
-    byte-there = byte-in c l small ∙ ap byteOf (sym word-there)
-
-    link-there : linkOf (getD nodes (x + 1 - 1) 0) ≡ l
-    link-there = ap linkOf word-there ∙ link-in c l small
+    some : x + 1 ≡ 0 → ⊥
+    some e = omega arith
 
     not-there : c ≢ y → reached nodes cap bytes at-child ≡ []
     unfolding reached
-    not-there n = rw (ne-eqb (x + 1) 0 (omega arith), le-ltb cap (x + 1) (omega arith), ← byte-there, here, ne-eqb c y n)
+    not-there n = rw (ne-eqb (x + 1) 0 some, saw, here, ne-eqb c y n)
 
     there : c ≡ y → reached nodes cap bytes at-child ≡ x ∷ []
     unfolding reached
-    there e = rw (ne-eqb (x + 1) 0 (omega arith), le-ltb cap (x + 1) (omega arith), ← byte-there, here, eq-eqb c y e) (ap (λ k. k ∷ []) back)
+    there e = rw (ne-eqb (x + 1) 0 some, saw, here, eq-eqb c y e)
 
     -- on along the chain
     pub led-less : (leaf cost : ℕ) (xs : List ℕ) → c < y → Led (ahead l at last) leaf cost xs → Led at-child leaf (suc cost) xs
     led-less leaf cost xs m led =
         led-step at-child (ahead l at last) leaf cost [] xs
-        (advance-along nodes cap bytes at-child (omega arith) (omega arith) c byte-there (omega arith) ∙ ap (λ k. ahead k at last) link-there)
-        (not-there (omega arith)) led
+        (sym (advance-along nodes cap bytes at-child some (lookAt nodes cap (x + 1)) refl x c l saw (omega arith))) (not-there (omega arith)) led
 
     -- none has the byte
     pub led-more : y < c → Led at-child 0 1 []
     led-more m =
-        led-step at-child (ended 0) 0 0 [] [] (advance-past nodes cap bytes at-child (omega arith) (omega arith) c byte-there (omega arith))
-        (not-there (omega arith)) (led-end (ended 0) refl)
+        led-step at-child (ended 0) 0 0 [] []
+        (sym (advance-past nodes cap bytes at-child some (lookAt nodes cap (x + 1)) refl x c l saw (omega arith))) (not-there (omega arith))
+        (led-end (ended 0) refl)
 
     -- to the child
     pub led-same : (leaf cost : ℕ) (xs : List ℕ) → c ≡ y → Led (arrive nodes cap bytes x (at + 1) last) leaf cost xs → Led at-child leaf (suc cost) (x ∷ xs)
     led-same leaf cost xs e led =
         led-step at-child (arrive nodes cap bytes x (at + 1) last) leaf cost (x ∷ []) xs
-        (advance-down nodes cap bytes at-child (omega arith) (omega arith) c byte-there (omega arith)
-        ∙ ap (λ k. arrive nodes cap bytes k (at + 1) last) back)
-        (there e) led
+        (sym (advance-down nodes cap bytes at-child some (lookAt nodes cap (x + 1)) refl x c l saw (omega arith) (omega arith))) (there e) led

@@ -1,28 +1,27 @@
 -- An example: two leaves below a root, at distances 2 and 0 from the query's byte. So what the laws ask can be met.
-use Prim.Native.Nat.{ℕ, zero, suc, _+_, _-_, _*_, _^_, _<_}
+use Prim.Native.Nat.{ℕ, zero, suc, _+_, _*_, _^_, _<_}
 use native.Mathlib.Omega.{arith}
 use mathlib.Core.Path.{_≡_, refl, ap, _∙_}
 use mathlib.Core.List.{List, [], _∷_}
-use lib.ListN.{length, getD}
+use lib.ListN.{getD}
 use Rattle.meaning.specs.Lists.{count, from, upto}
 use Rattle.meaning.specs.Sketch.{perByte, group, byteDistance}
 use Rattle.meaning.specs.Trie.{met, metIn}
-use Rattle.layout.specs.declared.Block.{Block}
 use Rattle.layout.specs.States.{kindOf}
-use Rattle.children.specs.Cursors.{firstFor}
+use Rattle.children.specs.Cursors.{allOf, lookAt, nextOf, firstFor}
 use Rattle.children.specs.Heap.{Holds}
-use Rattle.children.specs.Phys.{Phys, leafP, innerP, end, bucket, stop, link, tree, cells, noHeads, Sound}
-use Rattle.marking.specs.Mark.{marks, broken, markAll, markLeaf}
-use Rattle.walk.specs.Frame.{entered, stepTo, stepAlong, stepIn, reads}
-use Rattle.marking.specs.Given.{Given, given}
+use Rattle.children.specs.Phys.{Phys, leafP, innerP, end, bucket, stop, link, first, tree, cells, noHeads, Sound}
+use Rattle.walk.specs.Given.{Given, given}
+use Rattle.walk.specs.Leaves.{leaves, broken}
+use Rattle.walk.specs.Turn.{reached, found}
 use Rattle.walk.specs.Walk.{run, walkBelow, walkFrom}
-use Rattle.descent.specs.Cursor.{arrive, pass, advance, descended, drawn, leafOf}
+use Rattle.descent.specs.Cursor.{arrive, advance, descended, drawn, leafOf}
 use Rattle.walk_laws.specs.Near.{near, nearB, nearC, nearNodes, nearNodesIn, pathsIn, pathsAmong}
 use Rattle.walk_laws.specs.Trail.{trailFrom, exactTrail}
 use Rattle.walk_laws.proofs.Fit.{Fit}
 use Rattle.walk_laws.proofs.Leads.{steps-below}
 use Rattle.walk_laws.proofs.Right.{WalkRight, right, right-trail}
-use Rattle.walk_laws.proofs.Exact.{sub-marks, sub-near}
+use Rattle.walk_laws.proofs.Exact.{exact-leaf, exact-near}
 
 abbrev nodeTable : List ℕ
 nodeTable =
@@ -35,11 +34,8 @@ nodeTable =
 abbrev pub pageTable : List ℕ
 pageTable = 0 ∷ 0 ∷ 0 ∷ 0 ∷ 0 ∷ 0 ∷ 0 ∷ 0 ∷ 0 ∷ 0 ∷ 0 ∷ 0 ∷ 0 ∷ 0 ∷ 0 ∷ 0 ∷ 0 ∷ 0 ∷ 0 ∷ 0 ∷ 0 ∷ 0 ∷ 0 ∷ 0 ∷ []
 
-abbrev pub block : Block
-block = record { nodes = 3; pages = 8; base = 16 }
-
 abbrev w : Given
-w = given nodeTable pageTable block 1 2 (228 ∷ [])
+w = given nodeTable 3 2 (228 ∷ [])
 
 abbrev t : Phys
 t =
@@ -81,22 +77,21 @@ unfolding met metIn byteDistance count upto from perByte group
 met-one = refl
 
 -- two nodes are behind the root, and both are read
-pub example : (map : List ℕ) → WalkRight w t 2 2 map
-example map =
-    right w (omega arith) query t 2 map holds sound fits (omega arith) (omega arith) (rw met-two (omega arith)) 2 (omega (arith, steps-below t))
+pub example : WalkRight w 16 8 pageTable t 2 2
+example = right w pageTable 8 16 (omega arith) query t 2 holds sound fits (omega arith) (omega arith) 2 (omega (arith, steps-below t))
 
-pub example-walk : (map : List ℕ) → walkFrom w 0 2 2 map ≡ marks (markAll map 1 (2 ∷ 7 ∷ [])) 0
-unfolding walkFrom walkBelow run reads entered stepIn stepAlong stepTo markLeaf markAll byteDistance count upto from perByte group
-example-walk map = refl
+pub example-walk : walkFrom w 0 2 2 ≡ leaves (3 ∷ 8 ∷ []) 0
+unfolding walkFrom walkBelow run found reached kindOf allOf nextOf lookAt arrive firstFor advance descended drawn leafOf byteDistance count upto from perByte group
+example-walk = refl
 
-pub example-near : (map : List ℕ) → walkFrom w 0 1 2 map ≡ marks (markAll map 1 (7 ∷ [])) 0
-unfolding walkFrom walkBelow run reads entered stepIn stepAlong stepTo markLeaf markAll byteDistance count upto from perByte group
-example-near map = refl
+pub example-near : walkFrom w 0 1 2 ≡ leaves (8 ∷ []) 0
+unfolding walkFrom walkBelow run found reached kindOf allOf nextOf lookAt arrive firstFor advance descended drawn leafOf byteDistance count upto from perByte group
+example-near = refl
 
 -- one is too few
-pub example-short : (map : List ℕ) → walkFrom w 0 2 1 map ≡ broken
-unfolding walkFrom walkBelow run reads entered stepIn stepAlong stepTo markLeaf markAll byteDistance count upto from perByte group
-example-short map = refl
+pub example-short : walkFrom w 0 2 1 ≡ broken
+unfolding walkFrom walkBelow run found reached kindOf allOf nextOf lookAt arrive firstFor advance descended drawn leafOf byteDistance count upto from perByte group
+example-short = refl
 
 -- ---- the nodes gone through: the root and both leaves within 2, without the first leaf within 1
 near-two : near 2 2 t (228 ∷ []) ≡ 0 ∷ 1 ∷ 2 ∷ []
@@ -107,11 +102,11 @@ near-one : near 2 1 t (228 ∷ []) ≡ 0 ∷ 2 ∷ []
 unfolding near nearB nearC byteDistance count upto from perByte group
 near-one = refl
 
-pub example-trail : (map : List ℕ) → trailFrom w 0 2 map ≡ 0 ∷ 1 ∷ 2 ∷ []
-example-trail map = right-trail w (omega arith) query t 2 map holds sound fits (omega arith) (omega arith) (rw met-two (omega arith)) ∙ near-two
+pub example-trail : trailFrom w 0 2 ≡ 0 ∷ 1 ∷ 2 ∷ []
+example-trail = right-trail w pageTable 8 16 (omega arith) query t 2 holds sound fits (omega arith) (omega arith) ∙ near-two
 
-pub example-trail-near : (map : List ℕ) → trailFrom w 0 1 map ≡ 0 ∷ 2 ∷ []
-example-trail-near map = right-trail w (omega arith) query t 1 map holds sound fits (omega arith) (omega arith) (rw met-one (omega arith)) ∙ near-one
+pub example-trail-near : trailFrom w 0 1 ≡ 0 ∷ 2 ∷ []
+example-trail-near = right-trail w pageTable 8 16 (omega arith) query t 1 holds sound fits (omega arith) (omega arith) ∙ near-one
 
 -- their paths; at radius 0 the packed length and the root
 paths : pathsIn (tree t) ≡ [] ∷ (180 ∷ []) ∷ (228 ∷ []) ∷ []
@@ -127,15 +122,15 @@ abbrev leafLink : ℕ → ℕ
 leafLink y = leafOf (descended nodeTable 3 (y ∷ []) 3 (arrive nodeTable 3 (y ∷ []) 0 0 0))
 
 exact-there : leafLink 228 ≡ 8
-unfolding leafOf descended advance pass arrive kindOf firstFor
+unfolding leafOf descended advance lookAt arrive kindOf firstFor
 exact-there = refl
 
 exact-before : leafLink 227 ≡ 0
-unfolding leafOf descended advance pass arrive kindOf firstFor
+unfolding leafOf descended advance lookAt arrive kindOf firstFor
 exact-before = refl
 
 exact-behind : leafLink 229 ≡ 0
-unfolding leafOf descended advance pass arrive kindOf firstFor
+unfolding leafOf descended advance lookAt arrive kindOf firstFor
 exact-behind = refl
 
 met-none : met 2 0 (tree t) (228 ∷ []) ≡ 7 ∷ []
@@ -146,19 +141,16 @@ near-none : near 2 0 t (228 ∷ []) ≡ 0 ∷ 2 ∷ []
 unfolding near nearB nearC byteDistance count upto from perByte group
 near-none = refl
 
-pub example-exact : (map : List ℕ) → markLeaf pageTable block 1 map (leafLink 228) 8 ≡ marks (markAll map 1 (7 ∷ [])) 7
-example-exact map =
-    sub-marks w (omega arith) query t 0 holds sound fits (omega arith) map 8 (rw met-none (omega arith))
-    ∙ ap (λ (ps : List ℕ). marks (markAll map 1 ps) (8 - length ps)) met-none
+pub example-exact : leafLink 228 ≡ 8
+example-exact = exact-leaf w pageTable 8 16 (omega arith) query t 0 holds sound fits (omega arith) ∙ ap first met-none
 
 pub example-exact-near : 0 ∷ exactTrail nodeTable 3 (228 ∷ []) 3 (arrive nodeTable 3 (228 ∷ []) 0 0 0) ≡ 0 ∷ 2 ∷ []
-example-exact-near = sub-near w (omega arith) query t 0 holds sound fits (omega arith) ∙ near-none
+example-exact-near = exact-near w pageTable 8 16 (omega arith) query t 0 holds sound fits (omega arith) ∙ near-none
 
 -- a walk at radius 0 reads the second node alone
-pub example-none : (map : List ℕ) → walkFrom w 0 0 2 map ≡ marks (markAll map 1 (7 ∷ [])) 1
-unfolding walkFrom arrive kindOf firstFor advance pass descended drawn leafOf markLeaf markAll
-example-none map = refl
+pub example-none : walkFrom w 0 0 2 ≡ leaves (8 ∷ []) 1
+unfolding walkFrom walkBelow run found reached kindOf allOf nextOf lookAt arrive firstFor advance descended drawn leafOf byteDistance count upto from perByte group
+example-none = refl
 
-pub example-trail-none : (map : List ℕ) → trailFrom w 0 0 map ≡ 0 ∷ 2 ∷ []
-example-trail-none map =
-    right-trail w (omega arith) query t 0 map holds sound fits (omega arith) (omega arith) (rw met-none (omega arith)) ∙ near-none
+pub example-trail-none : trailFrom w 0 0 ≡ 0 ∷ 2 ∷ []
+example-trail-none = right-trail w pageTable 8 16 (omega arith) query t 0 holds sound fits (omega arith) (omega arith) ∙ near-none

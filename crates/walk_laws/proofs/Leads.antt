@@ -11,10 +11,11 @@ use borrow.Author.Tests.{lt-leb}
 use Rattle.meaning.specs.Sketch.{perByte, byteDistance}
 use Rattle.meaning.specs.Trie.{Children, none, child, met, metIn, nodes, nodesIn}
 use Rattle.sketch_laws.proofs.ByteDistance.{byte-distance-zero}
-use Rattle.layout.specs.Nodes.{linkOf, chainWord, headAt, linkBase, mostNodes}
+use Rattle.layout.specs.Nodes.{linkOf, headAt, mostNodes}
 use Rattle.layout.specs.declared.nodes.Kind.the-variants as kind
 use Rattle.layout.proofs.States.{kind-state}
-use Rattle.children.specs.Cursors.{firstFor}
+use Rattle.children.specs.Cursors.{lookAt, firstFor}
+use Rattle.children.specs.declared.cursor.Seen.the-variants as seen
 use Rattle.children.specs.Heap.{Holds}
 use Rattle.children.specs.Phys.{Phys, leafP, innerP, Buckets, end, bucket, Chain, stop, link, root, first, tree, childrenB, childrenC, pageCells, cells, cellsB, cellsC, Below, Sound, SoundB, SoundC}
 use Rattle.children.proofs.Chains.{linkC, link-below, root-below, slot-word}
@@ -24,7 +25,7 @@ use Rattle.descent.specs.Cursor.{ended, ahead, arrive}
 use Rattle.descent.proofs.Steps.{arrive-leaf, arrive-inner}
 use Rattle.walk_laws.specs.Near.{near, nearB, nearC}
 use Rattle.walk_laws.proofs.Apart.{apart}
-use Rattle.walk_laws.proofs.Chains.{link-in, met-chain}
+use Rattle.walk_laws.proofs.Chains.{link-in, look-there, met-chain}
 use Rattle.walk_laws.proofs.Descent.{Led, led-end, led-within, led-less, led-more, led-same}
 use Rattle.walk_laws.proofs.Spelt.{Spelt}
 use Rattle.walk_laws.proofs.Fit.{Fit, FitB, FitC, byte-small, unmet, unmet-past, none-near, none-near-past}
@@ -123,7 +124,7 @@ module _ (N P : List ℕ) (cap pcap next b len : ℕ) (bytes : List ℕ) (last :
         (apart-met b c y ys t (childrenC ch none) (fits .0) (q .2) (omega arith)) (apart-near b c y ys t ch (fits .0) (q .2) (omega arith)) (omega arith)
         (leads-by from (ahead (linkC ch) at last) (metIn b 0 (childrenC ch none) (y ∷ ys)) (nearC b 0 ch (y ∷ ys)) (nearC b 0 ch (y ∷ ys)) (stepsAlong ch)
         (suc (stepsAlong ch)) along
-        (led-less N cap bytes (root t) c (linkC ch) at last y inside word low (q .0) (first (metIn b 0 (childrenC ch none) (y ∷ ys))) (stepsAlong ch)
+        (led-less N cap bytes (root t) c (linkC ch) at last y saw (q .0) (first (metIn b 0 (childrenC ch none) (y ∷ ys))) (stepsAlong ch)
         (nearC b 0 ch (y ∷ ys)) l (along .led)))
     | same e tests ↦
         leads-same from from ps (met b 0 (tree t) ys) xs (root t ∷ nearBelow b t ys) (suc (stepsBelow t)) cost refl
@@ -135,14 +136,14 @@ module _ (N P : List ℕ) (cap pcap next b len : ℕ) (bytes : List ℕ) (last :
         (omega arith)
         (leads-by from (arrive N cap bytes (root t) (at + 1) last) (met b 0 (tree t) ys) (nearBelow b t ys) (root t ∷ nearBelow b t ys) (stepsBelow t)
         (suc (stepsBelow t)) down
-        (led-same N cap bytes (root t) c (linkC ch) at last y inside word low (q .0) (first (met b 0 (tree t) ys)) (stepsBelow t) (nearBelow b t ys) e
+        (led-same N cap bytes (root t) c (linkC ch) at last y saw (q .0) (first (met b 0 (tree t) ys)) (stepsBelow t) (nearBelow b t ys) e
         (down .led)))
     | more l tests ↦
         leads-same from from ps [] xs [] 1 cost refl
         (unmet cap pcap b len y ys (q .2) (link c t ch) c hi k past fits (λ d u v w. absurd (omega arith)))
         (none-near cap pcap b len y ys (q .2) (link c t ch) c hi k past fits (λ d u v w. absurd (omega arith)))
         (omega arith)
-        (leads-none from 1 (led-more N cap bytes (root t) c (linkC ch) at last y inside word low (q .0) l))
+        (leads-none from 1 (led-more N cap bytes (root t) c (linkC ch) at last y saw (q .0) l))
   ]
     where
       from : Cursor
@@ -157,14 +158,10 @@ module _ (N P : List ℕ) (cap pcap next b len : ℕ) (bytes : List ℕ) (last :
       cost : ℕ
       cost = stepsAlong (link c t ch)
 
-      inside : root t < cap
-      inside = root-below cap pcap t (sound .2)
-
-      word : getD N (root t) 0 ≡ chainWord c (linkC ch)
-      word = slot-word cap next N P ch (root t) c (h .1 .1)
-
-      low : linkC ch < linkBase
-      low = omega (arith, link-below cap pcap ch (suc c) hi (sound .3))
+      saw : lookAt N cap (root t + 1) ≡ seen.Child (root t) c (linkC ch)
+      saw =
+          look-there N cap (root t) c (linkC ch) (root-below cap pcap t (sound .2)) (slot-word cap next N P ch (root t) c (h .1 .1))
+          (omega (arith, link-below cap pcap ch (suc c) hi (sound .3)))
 
       past : SoundC cap pcap (link c t ch) c hi
       past = (omega arith, sound .1, sound .2, sound .3)

@@ -1,97 +1,51 @@
--- The machine of a walk from one state to another: the steps and the nodes that it costs, the nodes it goes to, and its single steps.
-use Prim.Native.Nat.{ℕ, _+_, _*_, _-_, _≤_, _<_}
+-- The machine of a walk from one state to another: the steps and the nodes that it costs, the leaves it gives, the nodes it goes to; and its single steps.
+use Prim.Native.Nat.{ℕ, _+_, _-_, _≤_, _<_}
 use native.Mathlib.Omega.{arith}
 use mathlib.Core.Path.{_≡_, refl, sym, ap, ap₂, _∙_}
 use mathlib.Core.List.{List, [], _∷_, _++_, append-assoc}
-use lib.ListN.{length, getD}
-use borrow.Author.Tests.{eq-eqb, ne-eqb, lt-ltb}
+use lib.ListN.{length}
+use borrow.Author.Tests.{eq-eqb, ne-eqb}
 use Rattle.meaning.proofs.Stacks.{suc-pred}
-use Rattle.layout.specs.Nodes.{stateAt, stepsFor}
-use Rattle.children.specs.Heap.{Holds}
-use Rattle.children.specs.Phys.{first, pageCells, Below}
+use Rattle.layout.specs.Nodes.{stepsFor}
+use Rattle.layout.specs.States.{kindOf}
+use Rattle.layout.specs.declared.nodes.Kind.the-variants as kind
 use Rattle.descent.specs.declared.Cursor.{Cursor}
 use Rattle.walk.specs.declared.frame.Frame.{Frame}
-use Rattle.walk.specs.declared.frame.Step.{Step}
-use Rattle.walk.specs.declared.frame.Step.the-variants as step
-use Rattle.layout.specs.declared.Block.{Block}
-use Rattle.marking.specs.Mark.{Marks, marks, marked, markAll, onMarks, spend, markLeaf}
-use Rattle.walk.specs.Frame.{atLink, entered, stepIn, reads}
-use Rattle.marking.specs.Given.{Given, mark, exactFrom, leafFrom, drawnFrom, markExact}
-use Rattle.walk.specs.Walk.{State, state, run}
-use Rattle.marking.proofs.Spend.{spend-paid}
-use Rattle.marking.proofs.LeafSteps.{leaf-end, leaf-next}
-use Rattle.walk.proofs.Turns.{run-stay, run-leaf, run-exact, run-down, run-up, run-done}
-use Rattle.walk_laws.specs.Trail.{exactBelow, traceMarks, goes, trace, trail, trailFrom}
-
--- ---- the pages of a leaf
-pub leaf-marks : (P : List ℕ) (block : Block) (words : ℕ) (N map : List ℕ) (ps : List ℕ) (f : ℕ) → Holds (pageCells (block .base) ps) N P → Below (block .pages) ps
-    → length ps ≤ f → markLeaf P block words map (first ps) f ≡ marks (markAll map words ps) (f - length ps)
-unfolding markAll
-leaf-marks P block words N map [] f h b l = leaf-end P block words map 0 f refl ∙ ap (marks map) (omega arith)
-leaf-marks P block words N map (p ∷ ps) f h b l =
-    let back : p + 1 - 1 ≡ p = omega arith in
-    leaf-next P block words map (marked map words p) (p + 1) f (omega arith) (omega arith) (omega arith) (ap (marked map words) (sym back))
-    ∙ ap (λ n. markLeaf P block words (marked map words p) n (f - 1)) (ap (λ n. getD P (block .base + n) 0) back ∙ h .0)
-    ∙ leaf-marks P block words N (marked map words p) ps (f - 1) (h .1) (b .1) (omega arith)
-    ∙ ap (marks (markAll (marked map words p) words ps)) (omega arith)
-
--- ---- an exact descent that the nodes last for, to a leaf that is in order
-pub exact-paid : (w : Given) (go : List ℕ → ℕ → ℕ → Marks) (map : List ℕ) (left n : ℕ) (c : Cursor) (after : List ℕ) (l : ℕ) → drawnFrom w c ≤ n
-    → mark w map left (leafFrom w c) ≡ marks after l → markExact w go map left n c ≡ go after l (n - drawnFrom w c)
-exact-paid w go map left n c after l paid m =
-    let k : ℕ = n - drawnFrom w c in
-    spend-paid n (drawnFrom w c) (λ j. onMarks (λ a i. go a i j) (mark w map left (leafFrom w c))) paid ∙ ap (onMarks (λ a i. go a i k)) m
-
--- ---- how many nodes a step reads
-module _ (frame : Frame) where
-  pub reads-one : (x : ℕ) → frame .link ≡ x + 1 → reads frame ≡ 1
-  unfolding reads
-  reads-one x e = rw (ne-eqb (frame .link) 0 (omega arith))
-
-  pub reads-none : frame .link ≡ 0 → reads frame ≡ 0
-  unfolding reads
-  reads-none e = rw (eq-eqb (frame .link) 0 e)
-
--- ---- the trail of one step
-module _ (w : Given) (f : ℕ) (map : List ℕ) (left : ℕ) (frame : Frame) (stack : List Frame) (some : 0 < f) where
-  trail-by : (s : Step) → stepIn (w .nodes) (w .block .nodes) (w .b) frame (getD (w .bytes) (length stack) 0) ≡ s
-      → trail w f (state map left frame stack)
-      ≡ goes w (length stack) (frame .link - 1) s ++ trace w (trail w (f - 1)) map left frame stack s
-  unfolding trail
-  trail-by s e = ap (λ n. trail w n (state map left frame stack)) (suc-pred f some) ∙ ap gone e
-    where
-      gone : Step → List ℕ
-      gone q = goes w (length stack) (frame .link - 1) q ++ trace w (trail w (f - 1)) map left frame stack q
+use Rattle.walk.specs.declared.turn.Move.{Move}
+use Rattle.walk.specs.declared.turn.Move.the-variants as move
+use Rattle.walk.specs.Given.{Given, exactFrom, leafFrom, drawnFrom}
+use Rattle.walk.specs.Leaves.{leaves, before}
+use Rattle.walk.specs.Turn.{entered, atChain, atLink, found, reads}
+use Rattle.walk.specs.Walk.{State, state, follow, run}
+use Rattle.walk.proofs.Spend.{before-none, before-both, spend-paid}
+use Rattle.walk.proofs.Run.{run-by}
+use Rattle.walk_laws.specs.Trail.{exactAfter, goes, trace, trail, trailBelow, trailAs, trailFrom}
 
 -- ---- from state to state, in f steps and n nodes
-pub record Ran (w : Given) (f n : ℕ) (s s′ : State) (cost drew : ℕ) (went : List ℕ) : Type 0 where
+pub record Ran (w : Given) (f n : ℕ) (s s′ : State) (cost drew : ℕ) (gave went : List ℕ) : Type 0 where
   pub rest : ℕ
   pub enough : f ≤ rest + cost
   pub over : ℕ
   pub lasts : n ≤ over + drew
-  pub same : run w f n s ≡ run w rest over s′
+  pub same : run w f n s ≡ before gave (run w rest over s′)
   pub nodes : trail w f s ≡ went ++ trail w rest s′
 
 module _ {w : Given} {f n : ℕ} {s : State} where
-  pub ran-none : Ran w f n s s 0 0 []
-  ran-none = record { rest = f; enough = omega arith; over = n; lasts = omega arith; same = refl; nodes = refl }
+  pub ran-none : Ran w f n s s 0 0 [] []
+  ran-none = record { rest = f; enough = omega arith; over = n; lasts = omega arith; same = sym (before-none (run w f n s)); nodes = refl }
 
-  pub ran-step : {s′ : State} {xs : List ℕ} (over d : ℕ) → n ≤ over + d → run w f n s ≡ run w (f - 1) over s′ → trail w f s ≡ xs ++ trail w (f - 1) s′
-      → Ran w f n s s′ 1 d xs
-  ran-step over d l e h = record { rest = f - 1; enough = omega arith; over = over; lasts = l; same = e; nodes = h }
-
-  pub ran-then : {t u : State} {c c′ d d′ : ℕ} {xs ys : List ℕ} (r : Ran w f n s t c d xs) → Ran w (r .rest) (r .over) t u c′ d′ ys
-      → Ran w f n s u (c + c′) (d + d′) (xs ++ ys)
-  ran-then {u = u} {xs = xs} {ys = ys} r q = record {
+  pub ran-then : {t u : State} {c c′ d d′ : ℕ} {ks ls xs ys : List ℕ} (r : Ran w f n s t c d ks xs) → Ran w (r .rest) (r .over) t u c′ d′ ls ys
+      → Ran w f n s u (c + c′) (d + d′) (ks ++ ls) (xs ++ ys)
+  ran-then {u = u} {ks = ks} {ls = ls} {xs = xs} {ys = ys} r q = record {
     rest = q .rest;
     enough = omega (arith, r .enough, q .enough);
     over = q .over;
     lasts = omega (arith, r .lasts, q .lasts);
-    same = r .same ∙ q .same;
+    same = r .same ∙ ap (before ks) (q .same) ∙ before-both ks ls (run w (q .rest) (q .over) u);
     nodes = r .nodes ∙ ap (λ zs. xs ++ zs) (q .nodes) ∙ sym (append-assoc xs ys (trail w (q .rest) u));
   }
 
-  pub ran-within : {t : State} {c c′ d d′ : ℕ} {xs : List ℕ} → c ≤ c′ → d ≤ d′ → Ran w f n s t c d xs → Ran w f n s t c′ d′ xs
+  pub ran-within : {t : State} {c c′ d d′ : ℕ} {ks xs : List ℕ} → c ≤ c′ → d ≤ d′ → Ran w f n s t c d ks xs → Ran w f n s t c′ d′ ks xs
   ran-within l m r = record {
     rest = r .rest;
     enough = omega (arith, r .enough);
@@ -101,116 +55,126 @@ module _ {w : Given} {f n : ℕ} {s : State} where
     nodes = r .nodes;
   }
 
-  pub ran-to : {t u : State} {c d : ℕ} {xs : List ℕ} → t ≡ u → Ran w f n s t c d xs → Ran w f n s u c d xs
-  ran-to {xs = xs} e r = record {
+  -- by equations
+  pub ran-same : {t : State} {c d : ℕ} {ks ls xs ys : List ℕ} → ks ≡ ls → xs ≡ ys → Ran w f n s t c d ks xs → Ran w f n s t c d ls ys
+  ran-same {t = t} e g r = record {
     rest = r .rest;
     enough = r .enough;
     over = r .over;
     lasts = r .lasts;
-    same = r .same ∙ ap (run w (r .rest) (r .over)) e;
+    same = r .same ∙ ap (λ zs. before zs (run w (r .rest) (r .over) t)) e;
+    nodes = r .nodes ∙ ap (λ zs. zs ++ trail w (r .rest) t) g;
+  }
+
+  pub ran-to : {t u : State} {c d : ℕ} {ks xs : List ℕ} → t ≡ u → Ran w f n s t c d ks xs → Ran w f n s u c d ks xs
+  ran-to {ks = ks} {xs = xs} e r = record {
+    rest = r .rest;
+    enough = r .enough;
+    over = r .over;
+    lasts = r .lasts;
+    same = r .same ∙ ap (λ v. before ks (run w (r .rest) (r .over) v)) e;
     nodes = r .nodes ∙ ap (λ v. xs ++ trail w (r .rest) v) e;
   }
 
-  pub ran-went : {t : State} {c d : ℕ} {xs ys : List ℕ} → xs ≡ ys → Ran w f n s t c d xs → Ran w f n s t c d ys
-  ran-went {t = t} e r = record {
-    rest = r .rest;
-    enough = r .enough;
-    over = r .over;
-    lasts = r .lasts;
-    same = r .same;
-    nodes = r .nodes ∙ ap (λ zs. zs ++ trail w (r .rest) t) e;
+-- ---- single steps, by the move that is found
+module _ (w : Given) (f n : ℕ) (some : 0 < f) (frame : Frame) (stack : List Frame) where
+  trail-by : (m : Move) → found w (length stack) frame ≡ m
+      → trail w f (state frame stack) ≡ goes w (frame .cursor .link - 1) m ++ trace w (trail w (f - 1)) frame stack m
+  unfolding trail
+  trail-by m e = ap (λ k. trail w k (state frame stack)) (suc-pred f some) ∙ ap gone e
+    where
+      gone : Move → List ℕ
+      gone q = goes w (frame .cursor .link - 1) q ++ trace w (trail w (f - 1)) frame stack q
+
+  run-paid : (m : Move) → found w (length stack) frame ≡ m → reads m ≤ n
+      → run w f n (state frame stack) ≡ follow w (run w (f - 1)) (n - reads m) frame stack m
+  run-paid m e l =
+      run-by w f n frame stack some (length stack) refl m e ∙ spend-paid n (reads m) (λ k. follow w (run w (f - 1)) k frame stack m) l
+
+  pub step-chain : (at link : ℕ) → found w (length stack) frame ≡ move.Chain at link
+      → Ran w f n (state frame stack) (state (atChain frame at link) stack) 1 0 [] []
+  step-chain at link e = record {
+    rest = f - 1;
+    enough = omega arith;
+    over = n - 0;
+    lasts = omega arith;
+    same = run-paid (move.Chain at link) e (omega arith) ∙ sym (before-none (run w (f - 1) (n - 0) (state (atChain frame at link) stack)));
+    nodes = trail-by (move.Chain at link) e;
   }
 
--- ---- single steps, each of which reads d nodes
-module _ (w : Given) (f n : ℕ) (some : 0 < f) (map : List ℕ) (left : ℕ) (frame : Frame) (d : ℕ) (read : reads frame ≡ d) (paid : d ≤ n) where
-  spent : (go : ℕ → Marks) → spend n (reads frame) go ≡ go (n - d)
-  spent go = ap (λ k. spend n k go) read ∙ spend-paid n d go paid
+  pub step-past : (link : ℕ) → found w (length stack) frame ≡ move.Past link → 0 < n
+      → Ran w f n (state frame stack) (state (atLink frame link) stack) 1 1 [] []
+  step-past link e l = record {
+    rest = f - 1;
+    enough = omega arith;
+    over = n - 1;
+    lasts = omega arith;
+    same = run-paid (move.Past link) e l ∙ sym (before-none (run w (f - 1) (n - 1) (state (atLink frame link) stack)));
+    nodes = trail-by (move.Past link) e;
+  }
 
-  module _ (stack : List Frame) where
-    pub step-stay : (at link : ℕ) → stepIn (w .nodes) (w .block .nodes) (w .b) frame (getD (w .bytes) (length stack) 0) ≡ step.Stay at link
-        → Ran w f n (state map left frame stack) (state map left (atLink frame at link) stack) 1 d []
-    step-stay at link e =
-        ran-step (n - d) d (omega arith)
-        (run-stay w f n map left frame stack some (length stack) refl (step.Stay at link) (sym e) at link refl
-        ∙ spent (λ k. run w (f - 1) k (state map left (atLink frame at link) stack)))
-        (trail-by w f map left frame stack some (step.Stay at link) e)
+  -- to a leaf by a descent from node x, which reads at most e nodes
+  pub step-leaf : (x : ℕ) (c : Cursor) (link leaf e : ℕ) (went : List ℕ) → frame .cursor .link ≡ x + 1 → found w (length stack) frame ≡ move.Leaf c link
+      → leafFrom w c ≡ leaf → exactAfter w c ≡ went → drawnFrom w c ≤ e → 1 + e ≤ n
+      → Ran w f n (state frame stack) (state (atLink frame link) stack) 1 (1 + e) (leaf ∷ []) (x ∷ went)
+  step-leaf x c link leaf e went i g h t most paid =
+      let back : frame .cursor .link - 1 ≡ x = omega arith in
+      record {
+        rest = f - 1;
+        enough = omega arith;
+        over = n - 1 - drawnFrom w c;
+        lasts = omega arith;
+        same = run-paid (move.Leaf c link) g (omega arith)
+            ∙ spend-paid (n - 1) (drawnFrom w c) (λ k. before (leafFrom w c ∷ []) (run w (f - 1) k (state (atLink frame link) stack))) (omega arith)
+            ∙ ap (λ l. before (l ∷ []) (run w (f - 1) (n - 1 - drawnFrom w c) (state (atLink frame link) stack))) h;
+        nodes = trail-by (move.Leaf c link) g ∙ ap₂ (λ y zs. y ∷ (zs ++ trail w (f - 1) (state (atLink frame link) stack))) back t;
+      }
 
-    -- on behind a leaf
-    abbrev onward : ℕ → List ℕ → ℕ → State
-    onward link after l = state after l (atLink frame (frame .at) link) stack
+  pub step-down : (x radius link : ℕ) → frame .cursor .link ≡ x + 1 → found w (length stack) frame ≡ move.Down x radius link → 0 < n
+      → Ran w f n (state frame stack) (state (entered (w .nodes) (w .cap) x radius) (atLink frame link ∷ stack)) 1 1 [] (x ∷ [])
+  step-down x radius link i e l =
+      let back : frame .cursor .link - 1 ≡ x = omega arith in
+      let below : State = state (entered (w .nodes) (w .cap) x radius) (atLink frame link ∷ stack) in
+      record {
+        rest = f - 1;
+        enough = omega arith;
+        over = n - 1;
+        lasts = omega arith;
+        same = run-paid (move.Down x radius link) e l ∙ sym (before-none (run w (f - 1) (n - 1) below));
+        nodes = trail-by (move.Down x radius link) e ∙ ap (λ y. y ∷ trail w (f - 1) below) back;
+      }
 
-    -- to the leaf x
-    pub step-leaf : (x first′ link : ℕ) (after : List ℕ) (l : ℕ) → frame .link - 1 ≡ x
-        → stepIn (w .nodes) (w .block .nodes) (w .b) frame (getD (w .bytes) (length stack) 0) ≡ step.Leaf first′ link
-        → mark w map left first′ ≡ marks after l
-        → Ran w f n (state map left frame stack) (state after l (atLink frame (frame .at) link) stack) 1 d (x ∷ [])
-    step-leaf x first′ link after l i e m =
-        ran-step (n - d) d (omega arith)
-        (run-leaf w f n map left frame stack some (length stack) refl (step.Leaf first′ link) (sym e) first′ link refl
-        ∙ spent (λ k. onMarks (λ a j. run w (f - 1) k (onward link a j)) (mark w map left first′))
-        ∙ ap (onMarks (λ a j. run w (f - 1) (n - d) (onward link a j))) m)
-        (trail-by w f map left frame stack some (step.Leaf first′ link) e
-        ∙ ap₂ (λ k a. k ∷ traceMarks (λ b j. trail w (f - 1) (onward link b j)) a) i m)
+module _ (w : Given) (f n : ℕ) (some : 0 < f) (frame : Frame) where
+  pub step-up : (back : Frame) (stack : List Frame) → found w (length (back ∷ stack)) frame ≡ move.Up
+      → Ran w f n (state frame (back ∷ stack)) (state back stack) 1 0 [] []
+  step-up back stack e = record {
+    rest = f - 1;
+    enough = omega arith;
+    over = n - 0;
+    lasts = omega arith;
+    same = run-paid w f n some frame (back ∷ stack) move.Up e (omega arith) ∙ sym (before-none (run w (f - 1) (n - 0) (state back stack)));
+    nodes = trail-by w f n some frame (back ∷ stack) move.Up e;
+  }
 
-    -- to the inner node x, with nothing of the radius left, by a descent that reads at most e nodes
-    pub step-exact : (x link : ℕ) (after : List ℕ) (l e : ℕ) → frame .link - 1 ≡ x
-        → stepIn (w .nodes) (w .block .nodes) (w .b) frame (getD (w .bytes) (length stack) 0) ≡ step.Exact x link
-        → mark w map left (leafFrom w (exactFrom w x (length stack + 1))) ≡ marks after l
-        → drawnFrom w (exactFrom w x (length stack + 1)) ≤ e → d + e ≤ n
-        → Ran w f n (state map left frame stack) (state after l (atLink frame (frame .at) link) stack) 1 (d + e) (x ∷ exactBelow w x (length stack + 1))
-    step-exact x link after l e i g m most paid′ =
-        let c : Cursor = exactFrom w x (length stack + 1) in
-        ran-step (n - d - drawnFrom w c) (d + e) (omega arith)
-        (run-exact w f n map left frame stack some (length stack) refl (step.Exact x link) (sym g) x link refl
-        ∙ spent (λ k. markExact w (λ a j i. run w (f - 1) i (onward link a j)) map left k c)
-        ∙ exact-paid w (λ a j i. run w (f - 1) i (onward link a j)) map left (n - d) c after l (omega arith) m)
-        (trail-by w f map left frame stack some (step.Exact x link) g
-        ∙ ap₂ (λ k a. k ∷ (exactBelow w x (length stack + 1) ++ traceMarks (λ b j. trail w (f - 1) (onward link b j)) a)) i m)
+  pub step-end : found w 0 frame ≡ move.Up → run w f n (state frame []) ≡ leaves [] (n - 0)
+  step-end e = run-paid w f n some frame [] move.Up e (omega arith)
 
-    pub step-down : (x radius link : ℕ) → frame .link - 1 ≡ x
-        → stepIn (w .nodes) (w .block .nodes) (w .b) frame (getD (w .bytes) (length stack) 0) ≡ step.Down x radius link
-        → length stack + 1 < length (w .bytes)
-        → Ran w f n (state map left frame stack)
-        (state map left (entered (w .nodes) (w .block .nodes) x radius) (atLink frame (frame .at) link ∷ stack)) 1 d (x ∷ [])
-    step-down x radius link i e l =
-        let below : Frame = entered (w .nodes) (w .block .nodes) x radius in
-        let stack′ : List Frame = atLink frame (frame .at) link ∷ stack in
-        ran-step (n - d) d (omega arith)
-        (run-down w f n map left frame stack some (length stack) refl (step.Down x radius link) (sym e) x radius link below stack′ refl l refl refl
-        ∙ spent (λ k. run w (f - 1) k (state map left below stack′)))
-        (trail-by w f map left frame stack some (step.Down x radius link) e
-        ∙ rw (lt-ltb (length stack + 1) (length (w .bytes)) l) (ap (λ k. k ∷ trail w (f - 1) (state map left below stack′)) i))
+  pub trail-end : found w 0 frame ≡ move.Up → trail w f (state frame []) ≡ []
+  trail-end e = trail-by w f n some frame [] move.Up e
 
-  pub step-up : (back : Frame) (stack : List Frame)
-      → stepIn (w .nodes) (w .block .nodes) (w .b) frame (getD (w .bytes) (length (back ∷ stack)) 0) ≡ step.Up
-      → Ran w f n (state map left frame (back ∷ stack)) (state map left back stack) 1 d []
-  step-up back stack e =
-      ran-step (n - d) d (omega arith)
-      (run-up w f n map left frame (back ∷ stack) some (length (back ∷ stack)) refl step.Up (sym e) back stack refl refl
-      ∙ spent (λ k. run w (f - 1) k (state map left back stack)))
-      (trail-by w f map left frame (back ∷ stack) some step.Up e)
-
-  pub step-end : stepIn (w .nodes) (w .block .nodes) (w .b) frame (getD (w .bytes) 0 0) ≡ step.Up → run w f n (state map left frame []) ≡ marks map (n - d)
-  step-end e = run-done w f n map left frame [] some 0 refl step.Up (sym e) refl refl ∙ spent (marks map)
-
-pub trail-end : (w : Given) (f : ℕ) → 0 < f → (map : List ℕ) (left : ℕ) (frame : Frame)
-    → stepIn (w .nodes) (w .block .nodes) (w .b) frame (getD (w .bytes) 0 0) ≡ step.Up → trail w f (state map left frame []) ≡ []
-trail-end w f some map left frame e = trail-by w f map left frame [] some step.Up e
-
--- ---- from a root, by its state
-module _ (w : Given) (root radius : ℕ) (map : List ℕ) where
-  abbrev word : ℕ
-  word = getD (w .nodes) (stateAt (w .block .nodes) root) 0
-
-  pub trail-exact : 0 < word → radius ≡ 0 → trailFrom w root radius map ≡ root ∷ exactBelow w root 0
+-- ---- from a root, by what it is
+module _ (w : Given) (root radius : ℕ) where
+  pub trail-leaf : (first : ℕ) → kindOf (w .nodes) (w .cap) root ≡ kind.Leaf first → trailFrom w root radius ≡ root ∷ []
   unfolding trailFrom
-  trail-exact l z = rw (ne-eqb word 0 (omega arith), eq-eqb radius 0 z)
+  trail-leaf first e = ap (trailAs w root radius) e
 
-  pub trail-leaf : 1 < word → 0 < radius → trailFrom w root radius map ≡ root ∷ []
+  trail-inner : kindOf (w .nodes) (w .cap) root ≡ kind.Inner → trailFrom w root radius ≡ root ∷ trailBelow w root radius
   unfolding trailFrom
-  trail-leaf l r = rw (ne-eqb word 0 (omega arith), ne-eqb word 1 (omega arith), ne-eqb radius 0 (omega arith))
+  trail-inner e = ap (trailAs w root radius) e
 
-  pub trail-inner : word ≡ 1 → 0 < radius
-      → trailFrom w root radius map ≡ root ∷ trail w (stepsFor (w .block .nodes)) (state map (w .block .pages) (entered (w .nodes) (w .block .nodes) root radius) [])
-  unfolding trailFrom
-  trail-inner o r = rw (ne-eqb word 0 (omega arith), eq-eqb word 1 o, ne-eqb radius 0 (omega arith))
+  module _ (e : kindOf (w .nodes) (w .cap) root ≡ kind.Inner) where
+    pub trail-exact : radius ≡ 0 → trailFrom w root radius ≡ root ∷ exactAfter w (exactFrom w root 0)
+    trail-exact z = trail-inner e ∙ rw (eq-eqb radius 0 z) refl
+
+    pub trail-some : 0 < radius → trailFrom w root radius ≡ root ∷ trail w (stepsFor (w .cap)) (state (entered (w .nodes) (w .cap) root radius) [])
+    trail-some z = trail-inner e ∙ rw (ne-eqb radius 0 (λ y. absurd (omega arith))) refl

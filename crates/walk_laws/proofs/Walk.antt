@@ -1,5 +1,5 @@
--- The walk over one block's trie, on tables that hold a sound one: it marks exactly what is met, all of it below the page capacity, goes through
--- exactly the nodes within the radius, and reads each node behind the root at most once.
+-- The walk over one block's trie, on tables that hold a sound one: it gives exactly the leaves whose pages are met, all of them below the page
+-- capacity, goes through exactly the nodes within the radius, and reads each node behind the root at most once.
 use Prim.Native.Nat.{ℕ, suc, _+_, _-_, _*_, _^_, _≤_, _<_}
 use native.Mathlib.Omega.{arith}
 use mathlib.Core.Path.{_≡_, refl, ap, _∙_}
@@ -14,10 +14,10 @@ use Rattle.meaning.specs.Trie.{Children, met, metIn, nodes}
 use Rattle.meaning.proofs.Lists.{all-append, and-intro}
 use Rattle.layout.specs.Nodes.{mostNodes}
 use Rattle.children.specs.Heap.{Holds}
-use Rattle.children.specs.Phys.{Phys, leafP, innerP, Buckets, end, bucket, Chain, stop, link, root, tree, childrenB, childrenC, cells, Below, Sound, SoundB, SoundC}
+use Rattle.children.specs.Phys.{Phys, leafP, innerP, Buckets, end, bucket, Chain, stop, link, root, tree, childrenB, childrenC, cells, Sound, SoundB, SoundC}
 use Rattle.children.proofs.Claims.{below-all}
 use Rattle.trie_laws.specs.Sound.{soundTrie}
-use Rattle.marking.specs.Given.{Given}
+use Rattle.walk.specs.Given.{Given}
 use Rattle.walk_laws.specs.Near.{near, nearNodes, pathsIn, pathNear}
 use Rattle.walk_laws.specs.Trail.{trailFrom}
 use Rattle.walk_laws.proofs.Fit.{fit}
@@ -26,41 +26,35 @@ use Rattle.walk_laws.proofs.Near.{near-count, near-le, near-path, near-
 use Rattle.walk_laws.proofs.Right.{WalkRight, right, right-trail, steps-nodes}
 
 -- ---- on tables that hold a sound trie
-pub walk-right : (w : Given) (bytesOf : ℕ → List ℕ) (n : ℕ) (t : Phys) (radius budget : ℕ) (map : List ℕ) → w .block .nodes ≤ mostNodes
-    → ((k : ℕ) → getD (w .bytes) k 0 < 2 ^ (w .b * perByte (w .b)))
-    → Holds (cells (w .block .nodes) (w .block .base) t) (w .nodes) (w .pages) → Sound (w .block .nodes) (w .block .pages) t
-    → soundTrie bytesOf (w .b) n (length (w .bytes)) 0 (tree t) ≡ true
-    → nodes (tree t) ≤ w .block .nodes → length (met (w .b) radius (tree t) (w .bytes)) ≤ w .block .pages → nodes (tree t) ≤ budget + 1
-    → WalkRight w t radius budget map
-walk-right w bytesOf n t radius budget map small query h s sound few pages lasts =
-    right w small query t radius map h s (fit bytesOf (w .b) n (length (w .bytes)) t 0 sound) (omega (arith, steps-below t))
-    (omega (arith, steps-nodes (w .block .nodes) (w .block .pages) t s)) pages budget lasts
-
--- ---- the nodes it goes through there
-module _ (w : Given) (bytesOf : ℕ → List ℕ) (n : ℕ) (t : Phys) (radius : ℕ) (map : List ℕ) (small : w .block .nodes ≤ mostNodes)
+module _ (w : Given) (base pcap : ℕ) (P : List ℕ) (bytesOf : ℕ → List ℕ) (n : ℕ) (t : Phys) (radius : ℕ) (small : w .cap ≤ mostNodes)
     (query : (k : ℕ) → getD (w .bytes) k 0 < 2 ^ (w .b * perByte (w .b)))
-    (h : Holds (cells (w .block .nodes) (w .block .base) t) (w .nodes) (w .pages)) (s : Sound (w .block .nodes) (w .block .pages) t)
-    (sound : soundTrie bytesOf (w .b) n (length (w .bytes)) 0 (tree t) ≡ true)
-    (few : nodes (tree t) ≤ w .block .nodes) (pages : length (met (w .b) radius (tree t) (w .bytes)) ≤ w .block .pages) where
-  -- those of `near`, in order
-  pub walk-trail : trailFrom w (root t) radius map ≡ near (w .b) radius t (w .bytes)
-  walk-trail =
-      right-trail w small query t radius map h s (fit bytesOf (w .b) n (length (w .bytes)) t 0 sound) (omega (arith, steps-below t))
-      (omega (arith, steps-nodes (w .block .nodes) (w .block .pages) t s)) pages
+    (h : Holds (cells (w .cap) base t) (w .nodes) P) (s : Sound (w .cap) pcap t)
+    (sound : soundTrie bytesOf (w .b) n (length (w .bytes)) 0 (tree t) ≡ true) (few : nodes (tree t) ≤ w .cap) where
+  pub walk-right : (budget : ℕ) → nodes (tree t) ≤ budget + 1 → WalkRight w base pcap P t radius budget
+  walk-right budget lasts =
+      right w P pcap base small query t radius h s (fit bytesOf (w .b) n (length (w .bytes)) t 0 sound) (omega (arith, steps-below t))
+      (omega (arith, steps-nodes (w .cap) pcap t s)) budget lasts
 
-  pub walk-count : length (trailFrom w (root t) radius map) ≡ nearNodes (w .b) radius (tree t) (w .bytes)
+  -- ---- the nodes it goes through there
+  -- those of `near`, in order
+  pub walk-trail : trailFrom w (root t) radius ≡ near (w .b) radius t (w .bytes)
+  walk-trail =
+      right-trail w P pcap base small query t radius h s (fit bytesOf (w .b) n (length (w .bytes)) t 0 sound) (omega (arith, steps-below t))
+      (omega (arith, steps-nodes (w .cap) pcap t s))
+
+  pub walk-count : length (trailFrom w (root t) radius) ≡ nearNodes (w .b) radius (tree t) (w .bytes)
   walk-count = ap length walk-trail ∙ near-count (w .b) t radius (w .bytes)
 
   -- as many as there are paths that differ from the query's symbols on them in at most the radius
-  pub walk-paths : length (trailFrom w (root t) radius map) ≡ count (pathNear (w .b) radius (w .bytes)) (pathsIn (tree t))
+  pub walk-paths : length (trailFrom w (root t) radius) ≡ count (pathNear (w .b) radius (w .bytes)) (pathsIn (tree t))
   walk-paths = walk-count ∙ near-path bytesOf (w .b) n (tree t) radius (w .bytes) sound
 
   -- no more than the table has
-  pub walk-few : length (trailFrom w (root t) radius map) ≤ w .block .nodes
+  pub walk-few : length (trailFrom w (root t) radius) ≤ w .cap
   walk-few = omega (arith, walk-count, near-le (w .b) (tree t) radius (w .bytes))
 
   -- at radius 0 at most the packed length and the root
-  pub walk-zero : radius ≡ 0 → length (trailFrom w (root t) radius map) ≤ length (w .bytes) + 1
+  pub walk-zero : radius ≡ 0 → length (trailFrom w (root t) radius) ≤ length (w .bytes) + 1
   walk-zero z =
       omega (
         arith,

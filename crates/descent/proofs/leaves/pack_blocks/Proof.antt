@@ -1,11 +1,9 @@
 -- `pack_blocks`: the blocks before j are packed.
-use lib.ListN.{length-set}
 use Prim.Native.Nat.{_-_}
 use native.Mathlib.Omega.{arith}
-use mathlib.Core.Path.{_≡_, _∙_, sym}
+use mathlib.Core.Path.{_∙_, sym}
 use borrow.Author.Needs.{needs}
-use Rattle.descent.proofs.Sizes.{block-most}
-use Rattle.descent.proofs.Blocks.{PackedTo, packed-none, packed-all, packed-fits, packed-next}
+use Rattle.descent.proofs.Blocks.{PackedTo, packed-all, packed-fits, packed-next}
 use Rattle.descent.proofs.leaves.pack_blocks.Statement.{statement}
 use Rattle.descent.proofs.leaves.pack_blocks.Tie as tie
 

@@ -1,8 +1,7 @@
 -- `start_all`: the descents of the blocks before j stand at their roots.
-use lib.ListN.{length-set}
 use Prim.Native.Nat.{_+_, _-_, _*_, _≤_, _<_}
 use native.Mathlib.Omega.{arith}
-use mathlib.Core.Path.{_≡_, _∙_, sym, ap, refl}
+use mathlib.Core.Path.{_≡_, _∙_, ap, refl}
 use borrow.Author.Needs.{needs}
 use Rattle.meaning.specs.Sketch.{packedLength}
 use Rattle.descent.specs.Cursor.{arrive}

@@ -1,5 +1,4 @@
 -- `begin` is at the root, by what it is.
-use mathlib.Core.Path.{refl}
 use Rattle.walk.proofs.Batches.{begins-free, begins-leaf, begins-inner}
 use borrow.Author.Needs.{needs}
 use Rattle.walk.proofs.batch.begin.Statement.{statement}

@@ -3,7 +3,7 @@ use borrow.Author.Needs.{needs}
 use Prim.Native.Nat.{_-_, _≤_}
 use native.Mathlib.Omega.{arith}
 use mathlib.Core.Path.{_≡_, refl}
-use lib.ListN.{getD, length, length-set}
+use lib.ListN.{getD, length-set}
 use Rattle.descent.specs.Cursor.{ended, leafOf}
 use Rattle.descent.proofs.Each.{each-put}
 use Rattle.walk.specs.Waiting.{AllLeaves}

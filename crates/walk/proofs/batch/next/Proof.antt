@@ -1,8 +1,6 @@
 -- `next`: each turn takes one step of the machine, behind the leaves that wait.
-use lib.ListN.{length-set}
-use Prim.Native.Nat.{_<_}
 use native.Mathlib.Omega.{arith}
-use mathlib.Core.Path.{refl, ap, _∙_}
+use mathlib.Core.Path.{refl, ap}
 use borrow.Author.Needs.{needs}
 use Rattle.walk.specs.Given.{within}
 use Rattle.walk.specs.Batch.{from}

@@ -1,7 +1,5 @@
 -- `rest_of` is `restOf`.
-use mathlib.Core.Path.{ap, sym, _∙_}
 use borrow.Author.Tests.{lt-ltb, le-ltb}
-use Rattle.walk.specs.Waiting.{restOf}
 use borrow.Author.Needs.{needs}
 use Rattle.walk.proofs.batch.rest_of.Statement.{statement}
 use Rattle.walk.proofs.batch.rest_of.Tie as tie

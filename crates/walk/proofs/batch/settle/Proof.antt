@@ -1,5 +1,5 @@
 -- `settle` lets the descents end, and collects their leaves.
-use mathlib.Core.Path.{refl, sym, ap, _∙_}
+use mathlib.Core.Path.{refl, ap, _∙_}
 use Rattle.descent.specs.Cursor.{leafOf}
 use Rattle.walk.specs.Waiting.{restOf}
 use borrow.Author.Needs.{needs}
