@@ -1,4 +1,5 @@
 pub mod Links
+pub mod Bounded
 pub mod Agree
 pub mod Maps
 pub mod Rounds

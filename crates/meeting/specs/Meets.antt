@@ -21,6 +21,11 @@ abbrev pub andThen : Meets → (ℕ → Meets) → Meets
 andThen (met ps k) go = after ps (go k)
 andThen broken go = broken
 
+-- with another number left
+abbrev pub withLeft : ℕ → Meets → Meets
+withLeft n (met ps k) = met ps n
+withLeft n broken = broken
+
 module _ (pages : List ℕ) (cap : ℕ) where
   -- the pages from a link on, at most f of them: page p's link to the next stands at base + p, and 0 ends the chain
   unfoldable pub chainOf : ℕ → ℕ → ℕ → Meets

@@ -1,5 +1,0 @@
-pub mod Spend
-pub mod LeafSteps
-pub mod Flush
-pub mod Pending
-pub mod Marking

@@ -1,3 +1,0 @@
-pub mod Mark
-pub mod Given
-pub mod Waiting
