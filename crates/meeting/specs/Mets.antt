@@ -2,17 +2,15 @@
 use Prim.Native.Nat.{ℕ, _+_, _*_, _<_, _≤_}
 use mathlib.Core.Path.{_≡_}
 use mathlib.Core.Bool.{Bool, _&&_, _||_}
-use mathlib.Core.List.{List, map}
+use mathlib.Core.List.{List}
 use lib.Dec.{eqb}
-use lib.ListN.{length, getD, take, drop}
-use Rattle.meaning.specs.Lists.{any, upto}
-use Rattle.layout.specs.Pages.{nextAt}
+use lib.ListN.{length, getD, drop}
+use Rattle.meaning.specs.Lists.{any}
 use Rattle.words.specs.Bits.{flag}
 use Rattle.marks.specs.Marks.{summaryOf, Room, Summarised, listOf}
 use Rattle.hits.specs.Hit.{Fitting}
 use Rattle.hits.specs.Probes.{Prepared, testBy}
 use Rattle.meeting.specs.declared.Chain.{Chain}
-use Rattle.meeting.specs.declared.Chains.{Chains}
 use Rattle.meeting.specs.declared.Scope.{Scope}
 use Rattle.meeting.specs.declared.Tally.{Tally}
 use Rattle.meeting.specs.declared.Tallies.{Tallies}
@@ -48,17 +46,3 @@ pub record Inside (cap long : ℕ) (cs : List Chain) (n : ℕ) : Type 0 where
   pub all : length cs ≡ 16
   pub few : n ≤ 16
   pub each : (j : ℕ) → j < n → getD cs j (chain 0 0) .base + cap ≤ long
-
--- the chains with these first links, all from one base
-pub record ChainsAt (base : ℕ) (links : List ℕ) (cs : Chains) : Type 0 where
-  pub same : take (cs .n) (cs .each) ≡ map (chain base) links
-  pub inside : (cap long : ℕ) → base + cap ≤ long → Inside cap long (cs .each) (cs .n)
-
--- the chain of block j, in a table of cap pages, by the link to its first page
-abbrev pub chainIn : ℕ → List ℕ → ℕ → Chain
-chainIn cap firsts j = chain (nextAt cap j) (getD firsts j 0)
-
--- a chain in each of q blocks
-pub record ChainsIn (cap : ℕ) (firsts : List ℕ) (q : ℕ) (cs : Chains) : Type 0 where
-  pub same : take (cs .n) (cs .each) ≡ map (chainIn cap firsts) (upto q)
-  pub inside : (long : ℕ) → (2 + q) * cap ≤ long → Inside cap long (cs .each) (cs .n)
