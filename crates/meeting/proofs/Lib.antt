@@ -4,5 +4,4 @@ pub mod Agree
 pub mod Maps
 pub mod Rounds
 pub mod Held
-pub mod Listed
 pub mod Example
