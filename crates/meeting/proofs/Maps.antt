@@ -11,7 +11,7 @@ use borrow.Author.Tests.{eqb-true}
 use Rattle.meaning.specs.Lists.{any, keep, upto}
 use Rattle.meaning.proofs.Lists.{any-append}
 use Rattle.words.specs.Bits.{rising, flag, zeroed}
-use Rattle.words.proofs.Rising.{rising-same, rising-length}
+use Rattle.words.proofs.Rising.{rising-same}
 use Rattle.marks.specs.Marks.{summaryOf, Room, Summarised, marked, fresh, listOf}
 use Rattle.marks.proofs.Marked.{marked-length, marked-behind, marked-flag, marked-count, marked-summarised}
 use Rattle.marks.proofs.Pages.{rising-over, rising-keep}
@@ -33,10 +33,6 @@ pub kept-cleared : {words : ℕ} {before after : List ℕ} → Kept words before
     → zeroed after 0 (words + summaryOf words) ≡ zeroed before 0 (words + summaryOf words)
 unfolding zeroed
 kept-cleared {words} k = rw (zero-add (words + summaryOf words), k .behind)
-
-pub list-most : (map : List ℕ) (words : ℕ) → length (listOf map words) ≤ words * 32
-unfolding listOf
-list-most map words = rising-length (flag map 0) 0 (words * 32)
 
 module _ (hit : ℕ → Bool) (words : ℕ) where
   -- ---- no page, and more pages
