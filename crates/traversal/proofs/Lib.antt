@@ -1,1 +1,9 @@
 pub mod Bases
+pub mod Left
+pub mod Going
+pub mod Pages
+pub mod Linked
+pub mod Tables
+pub mod Exact
+pub mod Batches
+pub mod AllBlocks

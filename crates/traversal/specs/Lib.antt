@@ -1,3 +1,4 @@
 pub mod Meets
 pub mod Chains
 pub mod Ready
+pub mod Bytes

@@ -10,6 +10,7 @@ ghost use Rattle.hits.specs.Probes.{testBy};
 ghost use Rattle.meeting.specs.Mets.{Meeting};
 ghost use Rattle.traversal.specs.Meets.{meetBlock, meetFrom, meetBlocks};
 ghost use Rattle.traversal.specs.Ready.{Prepared};
+use crate::bytes::pack;
 use crate::chains::chains_of;
 use descent::Left;
 use meeting::Scope;
@@ -43,12 +44,14 @@ fn meet_block(
     ensures { λ r. ⌜ Meeting (passes (testBy (now (pages .entry)) (now (sketches .entry)) (now (query .entry)) (scope .probe))) (scope .words) (meetBlock (scope .probe .header) (now (nodes .entry)) (now (pages .entry)) (now (query .entry)) (start .radius) (start .block) (start .tally .left)) (now (map .entry)) (now (map .exit)) r ⌝ }
 {
     let h = scope.probe.header;
-    let b = h.b as u32;
     let j = start.block;
-    let mut bytes = [0u8; 64];
-    sketch::blocks::pack_block(b, h.m, h.q, j, query, &mut bytes);
-    let n = sketch::limits::packed_length(b, sketch::blocks::block_length(h.m, h.q, j));
-    let trie = walk::Scope { cap: h.nodes, b };
+    let packed = pack(h, query, j);
+    let bytes = packed.bytes;
+    let n = packed.n;
+    let trie = walk::Scope {
+        cap: h.nodes,
+        b: h.b as u32,
+    };
     let base = layout::pages::next_at(h.pages, j);
     let mut stack = [0u32; 256];
     let mut tally = Tally {

@@ -9,7 +9,7 @@ use meeting::Chains;
 // leaves of one block, the capacity for a leaf of each block.
 pub fn chains_of(links: &[u32], n: usize, first: usize, step: usize) -> Chains
     requires { ⌜ (n ≤ 16) × (n ≤ length (now links)) ⌝ }
-    requires { ⌜ first + 16 * step < 1048576 ⌝ }
+    requires { ⌜ first + 16 * step < 2097152 ⌝ }
     ensures { λ r. ⌜ Linked (baseOf first step) (now (links .entry)) n r ⌝ }
 {
     let mut each = [Chain {

@@ -1,143 +1,185 @@
+-- `meet_block`: the walk's leaves come in batches, and the pages of each batch are met before the walk goes on.
+use Prim.Native.Nat.{_≤_}
+use native.Mathlib.Omega.{arith}
+use mathlib.Core.Path.{_≡_, refl, sym}
+use borrow.Author.Needs.{needs}
+use lib.ListN.{length, take}
+use lib.Seq.{length-take-le}
+use Rattle.layout.specs.Pages.{nextAt}
+use Rattle.hits.specs.Hit.{passes}
+use Rattle.hits.specs.Probes.{testBy}
+use Rattle.walk.specs.Given.{within}
+use Rattle.walk.proofs.Batches.{gives-ready}
+use Rattle.traversal.specs.Chains.{baseOf, Linked}
+use Rattle.traversal.proofs.Tables.{ready-kept, links-inside, links-small, fitting}
+use Rattle.traversal.proofs.Linked.{linked-from, inside-in}
+use Rattle.traversal.proofs.Pages.{pagesFrom}
+use Rattle.traversal.proofs.Batches.{stepsOf, comingFrom, next-less, Walking, walking-start, walking-unmet, walking-next, walking-done, walking-broken, walked}
 use Rattle.traversal.proofs.blocks.meet_block.Statement.{statement}
 use Rattle.traversal.proofs.blocks.meet_block.Tie as tie
-use Rattle.traversal.proofs.blocks.meet_block.Reads as reads
-use Rattle.traversal.proofs.blocks.meet_block.Lts as lts
-use Rattle.layout.proofs.pages.next_at.Reads as next-at-reads
-use Rattle.meeting.proofs.meet.Reads as meet-reads
-use Rattle.sketch.proofs.blocks.block_length.Reads as block-length-reads
-use Rattle.sketch.proofs.blocks.pack_block.Reads as pack-block-reads
-use Rattle.sketch.proofs.limits.packed_length.Reads as packed-length-reads
-use Rattle.traversal.proofs.chains.chains_of.Reads as chains-of-reads
-use Rattle.walk.proofs.batch.begin.Reads as begin-reads
-use Rattle.walk.proofs.batch.next.Reads as next-reads
 
 abbrev Inv-loop : tie.InvT-loop
-Inv-loop table nodes pages sketches query map₀ scope b j bytes n trie base stack₀ tally₀ batch₀ map stack tally batch =
-    ?
+Inv-loop table nodes pages sketches query map₀ scope j bytes n trie base stack₀ tally₀ batch₀ map stack tally batch =
+    let w = within nodes (take n bytes) trie in
+    Walking (passes (testBy pages sketches query (scope .probe))) (scope .words) (scope .probe .header) pages j w
+    (pagesFrom (scope .probe .header) pages j (tally₀ .left) (comingFrom w stack₀ batch₀)) map₀ map stack tally batch
 
 abbrev μ-loop : tie.MeasureT-loop
-μ-loop table nodes pages sketches query map₀ scope b j bytes n trie base stack₀ tally₀ batch₀ map stack tally batch =
-    ?
+μ-loop table nodes pages sketches query map₀ scope j bytes n trie base stack₀ tally₀ batch₀ map stack tally batch = stepsOf (batch .rest)
 
--- src/blocks.rt:46:13
-cast-b : tie.Need-cast-b Inv-loop μ-loop
-cast-b c = ?
+-- ---- before the loop
+pack-requires : tie.Need-pack-requires Inv-loop μ-loop
+pack-requires c κs =
+    let pre = c .before .before .before .before .before .before .pre in
+    (pre .1 .0 .ready .fitting .limits, (pre .1 .0 .ready .fitting .query, (pre .1 .0 .range, pre .1 .1 .0 .0)))
 
--- src/blocks.rt:49:55
-slice-aggregate-pack-block : tie.Need-slice-aggregate-pack-block Inv-loop μ-loop
-slice-aggregate-pack-block c = ?
+cast-t25 : tie.Need-cast-t25 Inv-loop μ-loop
+cast-t25 c = record { fits = omega (arith, c .before .before .before .before .before .before .before .before .before .pre .1 .0 .ready .fitting .limits .bits-most) }
 
--- src/blocks.rt:49:5
-pack-block-requires : tie.Need-pack-block-requires Inv-loop μ-loop
-pack-block-requires c κs = ?
-
--- src/blocks.rt:50:46
-block-length-requires : tie.Need-block-length-requires Inv-loop μ-loop
-block-length-requires c κs = ?
-
--- src/blocks.rt:50:9
-packed-length-requires : tie.Need-packed-length-requires Inv-loop μ-loop
-packed-length-requires c κs = ?
-
--- src/blocks.rt:52:9
 next-at-requires : tie.Need-next-at-requires Inv-loop μ-loop
-next-at-requires c κs = ?
+next-at-requires c κs =
+    let pre = c .before .before .before .before .before .before .before .before .before .pre in
+    (pre .1 .0 .ready .fitting .limits .pages-most, omega (arith, pre .1 .1 .0 .0, pre .1 .0 .ready .fitting .limits .blocks-most))
 
--- src/blocks.rt:55:15
-cast-t29 : tie.Need-cast-t29 Inv-loop μ-loop
-cast-t29 c = ?
+cast-t25-2 : tie.Need-cast-t25-2 Inv-loop μ-loop
+cast-t25-2 c = record { fits = omega (arith, c .before .before .before .before .before .before .before .before .before .before .before .pre .1 .0 .ready .fitting .limits .pages-most) }
 
--- src/blocks.rt:58:47
+-- the bytes of the block lie in the array
+bytes-there : (c : tie.After-pack Inv-loop μ-loop) → c .pack .result .n ≤ length (c .pack .result .bytes)
+bytes-there c = omega (arith, c .pack .ensures .few, c .pack .ensures .long)
+
 array-share-prefix-bytes : tie.Need-array-share-prefix-bytes Inv-loop μ-loop
-array-share-prefix-bytes c = ?
+array-share-prefix-bytes c = bytes-there (c .before .before .before .before)
 
--- src/blocks.rt:58:47
 slice-aggregate-begin : tie.Need-slice-aggregate-begin Inv-loop μ-loop
-slice-aggregate-begin c = ?
+slice-aggregate-begin c = sym (length-take-le (c .before .before .before .before .before .pack .result .n) _ (bytes-there (c .before .before .before .before .before)))
 
--- src/blocks.rt:58:9
 begin-requires : tie.Need-begin-requires Inv-loop μ-loop
-begin-requires c κs = ?
+begin-requires c κs =
+    let pre = c .before .before .before .before .before .before .before .before .before .before .before .before .pre in
+    let inside = pre .1 .1 .0 in (
+      fitting (pre .1 .0) _ (inside .0) _ (c .before .before .before .before .before .pack .ensures .same),
+      (omega (arith, inside .0, pre .1 .0 .ready .fitting .limits .nodes-least), inside .2, inside .1),
+    )
 
--- src/blocks.rt:59:5
+begin-long : (c : tie.After-begin Inv-loop μ-loop) → length (c .begin .result .links) ≡ 16
+begin-long c = search needs
+
 loop-holds : tie.Need-loop-holds Inv-loop μ-loop
-loop-holds c = ?
+loop-holds c = walking-start _ _ _ _ _ _ _ _ _ (c .begin .ensures _ refl) (begin-long c) (c .before .before .before .before .before .before .before .before .before .before .before .before .before .pre .1 .1 .1)
 
--- src/blocks.rt:61:30
+-- ---- a batch
+abbrev start : tie.At-loop Inv-loop μ-loop → tie.Start Inv-loop μ-loop
+start c = c .before .before .before .before .before .before .before .before .before .before .before .before .before .before
+
 slice-aggregate-chains-of : tie.Need-slice-aggregate-chains-of Inv-loop μ-loop
-slice-aggregate-chains-of c = ?
+slice-aggregate-chains-of c = sym (c .before .before .loop .inv .long)
 
--- src/blocks.rt:61:13
 chains-of-requires : tie.Need-chains-of-requires Inv-loop μ-loop
-chains-of-requires c κs = ?
+chains-of-requires c κs =
+    let at = c .before .before in
+    let pre = start at .pre in
+    ((at .loop .inv .gives .few, omega (arith, at .loop .inv .gives .few, at .loop .inv .long)), omega (arith, at .before .before .before .before .next-at .ensures, links-small (pre .1 .0) _ (pre .1 .1 .0 .0)))
 
--- src/blocks.rt:62:15
+-- the chains of a batch
+linked : (c : tie.After-chains-of Inv-loop μ-loop) →
+    let at = c .before .before .before in
+    Linked (baseOf (nextAt (start at .args .scope .probe .header .pages) (start at .args .start .block)) 0) (at .loop .batch .links) (at .loop .batch .n) (c .chains-of .result)
+linked c = linked-from _ _ _ (c .before .before .before .before .before .before .before .next-at .ensures) (c .chains-of .ensures)
+
 meet-requires : tie.Need-meet-requires Inv-loop μ-loop
-meet-requires c κs = ?
+meet-requires c κs =
+    let at = c .before .before .before .before in
+    let pre = start at .pre in (
+      pre .0,
+      (
+        ready-kept (at .loop .inv .going .met .kept) (pre .1 .0 .ready),
+        (
+          inside-in _ (linked (c .before)) (at .loop .inv .gives .few) _ _ (links-inside (pre .1 .0) _ (pre .1 .1 .0 .0)),
+          at .loop .inv .going .counted,
+        ),
+      ),
+    )
 
--- src/blocks.rt:63:27
 enum-known-met : tie.Need-enum-known-met Inv-loop μ-loop
-enum-known-met c = ?
+enum-known-met c = search needs
 
--- src/blocks.rt:66:32
 enum-told : tie.Need-enum-told Inv-loop μ-loop
-enum-told c = ?
+enum-told c = search needs
 
--- src/blocks.rt:66:32
-same-length : tie.Need-same-length Inv-loop μ-loop
-same-length c = ?
-
--- src/blocks.rt:66:32
 returns : tie.Need-returns Inv-loop μ-loop
-returns c = ?
+returns c =
+    let meet = c .before .before .before .before in
+    let at = meet .before .before .before .before .before in
+    walked _ _ _ _ _ _ _ _ _ (at .before .before .before .before .before .before .before .pack .ensures .same) (at .before .begin .ensures _ refl)
+    (walking-unmet _ _ _ _ _ _ (at .loop .inv) (linked (meet .before .before)) (meet .meet .ensures) (c .enum-told .given .1))
 
--- src/blocks.rt:70:24
+same-length : tie.Need-same-length Inv-loop μ-loop
+same-length c =
+    let meet = c .before .before .before .before in
+    let at = meet .before .before .before .before .before in
+    walking-unmet _ _ _ _ _ _ (at .loop .inv) (linked (meet .before .before)) (meet .meet .ensures) (c .enum-told .given .1) .kept .long
+
 enum-known-rest : tie.Need-enum-known-rest Inv-loop μ-loop
-enum-known-rest c = ?
+enum-known-rest c = search needs
 
--- src/blocks.rt:71:57
+-- ---- the walk goes on
 array-share-prefix-bytes-2 : tie.Need-array-share-prefix-bytes-2 Inv-loop μ-loop
-array-share-prefix-bytes-2 c = ?
+array-share-prefix-bytes-2 c = bytes-there (c .before .before .before .before .before .before .before .before .before .before .before .before .before .before .before .before .before .before .before .before)
 
--- src/blocks.rt:71:57
 slice-aggregate-next : tie.Need-slice-aggregate-next Inv-loop μ-loop
-slice-aggregate-next c = ?
+slice-aggregate-next c = sym (length-take-le (c .before .before .before .before .before .before .before .before .before .before .before .before .before .before .before .before .before .before .before .before .before .pack .result .n) _ (bytes-there (c .before .before .before .before .before .before .before .before .before .before .before .before .before .before .before .before .before .before .before .before .before)))
 
--- src/blocks.rt:71:17
 next-requires : tie.Need-next-requires Inv-loop μ-loop
-next-requires c κs = ?
+next-requires c κs =
+    let at = c .before .before .before .before .before .before .before .before .before .before .before .before .before .before .before in
+    let pre = start at .pre in
+    (pre .0, (fitting (pre .1 .0) _ (pre .1 .1 .0 .0) _ (at .before .before .before .before .before .before .before .pack .ensures .same), gives-ready (at .loop .inv .gives) _ (c .before .before .before .rest .given .1) .0))
 
--- src/blocks.rt:59:5
 loop-less : tie.Need-loop-less Inv-loop μ-loop
-loop-less c = ?
+loop-less c = next-less _ _ (c .before .before .before .before .rest .given .1) (c .next .ensures)
 
--- src/blocks.rt:59:5
+next-long : (c : tie.After-next Inv-loop μ-loop) → length (c .next .result .links) ≡ 16
+next-long c = search needs
+
 loop-again : tie.Need-loop-again Inv-loop μ-loop
-loop-again c = ?
+loop-again c =
+    let meet = c .before .before .before .before .before .before .before .before .before .before .before in
+    let at = meet .before .before .before .before .before in
+    walking-next _ _ _ _ _ _ (at .loop .inv) (linked (meet .before .before)) (meet .meet .ensures) _ (c .before .before .before .before .before .before .before .met .given .1) _ (c .before .before .before .before .rest .given .1) (c .next .ensures) (next-long c)
 
--- src/blocks.rt:73:24
+-- ---- the walk is over
 enum-known-rest-2 : tie.Need-enum-known-rest-2 Inv-loop μ-loop
-enum-known-rest-2 c = ?
+enum-known-rest-2 c = search needs
 
--- src/blocks.rt:74:17
-same-length-2 : tie.Need-same-length-2 Inv-loop μ-loop
-same-length-2 c = ?
-
--- src/blocks.rt:74:17
 returns-2 : tie.Need-returns-2 Inv-loop μ-loop
-returns-2 c = ?
+returns-2 c =
+    let meet = c .before .before .before .before .before .before .before .before in
+    let at = meet .before .before .before .before .before in
+    walked _ _ _ _ _ _ _ _ _ (at .before .before .before .before .before .before .before .pack .ensures .same) (at .before .begin .ensures _ refl)
+    (walking-done _ _ _ _ _ _ (at .loop .inv) (linked (meet .before .before)) (meet .meet .ensures) _ (c .before .before .before .before .met .given .1) _ (c .before .rest2 .given .1))
 
--- src/blocks.rt:79:29
+same-length-2 : tie.Need-same-length-2 Inv-loop μ-loop
+same-length-2 c =
+    let meet = c .before .before .before .before .before .before .before .before in
+    let at = meet .before .before .before .before .before in
+    walking-done _ _ _ _ _ _ (at .loop .inv) (linked (meet .before .before)) (meet .meet .ensures) _ (c .before .before .before .before .met .given .1) _ (c .before .rest2 .given .1) .kept .long
+
 enum-told-2 : tie.Need-enum-told-2 Inv-loop μ-loop
-enum-told-2 c = ?
+enum-told-2 c = search needs
 
--- src/blocks.rt:79:29
-same-length-3 : tie.Need-same-length-3 Inv-loop μ-loop
-same-length-3 c = ?
-
--- src/blocks.rt:79:29
 returns-3 : tie.Need-returns-3 Inv-loop μ-loop
-returns-3 c = ?
+returns-3 c =
+    let meet = c .before .before .before .before .before .before .before in
+    let at = meet .before .before .before .before .before in
+    walked _ _ _ _ _ _ _ _ _ (at .before .before .before .before .before .before .before .pack .ensures .same) (at .before .begin .ensures _ refl)
+    (walking-broken _ _ _ _ _ _ (at .loop .inv) (linked (meet .before .before)) (meet .meet .ensures) _ (c .before .before .before .met .given .1) (c .enum-told2 .given .1))
+
+same-length-3 : tie.Need-same-length-3 Inv-loop μ-loop
+same-length-3 c =
+    let meet = c .before .before .before .before .before .before .before in
+    let at = meet .before .before .before .before .before in
+    walking-broken _ _ _ _ _ _ (at .loop .inv) (linked (meet .before .before)) (meet .meet .ensures) _ (c .before .before .before .met .given .1) (c .enum-told2 .given .1) .kept .long
 
 pub meet-block-spec : {M : Type 1} → statement M
 meet-block-spec =
@@ -145,13 +187,10 @@ meet-block-spec =
     (tie.spec
     Inv-loop
     μ-loop
-    cast-b
-    slice-aggregate-pack-block
-    pack-block-requires
-    block-length-requires
-    packed-length-requires
+    pack-requires
+    cast-t25
     next-at-requires
-    cast-t29
+    cast-t25-2
     array-share-prefix-bytes
     slice-aggregate-begin
     begin-requires

@@ -1,76 +1,105 @@
+-- `meet_exact`: the descents draw on the budget, then the chains of their leaves are met.
+use native.Mathlib.Omega.{arith}
+use native.Mathlib.Nat.{mul-le-mul-right}
+use mathlib.Core.Path.{_≡_}
 use borrow.Author.Needs.{needs}
+use lib.ListN.{length}
+use Rattle.layout.specs.Pages.{nextAt}
+use Rattle.traversal.specs.Chains.{baseOf, Linked}
+use Rattle.traversal.proofs.Going.{going-start, going-broken}
+use Rattle.traversal.proofs.Tables.{nodes-there, links-inside}
+use Rattle.traversal.proofs.Linked.{linked-from, inside-each}
+use Rattle.traversal.proofs.Exact.{exact-spent, exact-met, exact-unmet}
 use Rattle.traversal.proofs.blocks.meet_exact.Statement.{statement}
 use Rattle.traversal.proofs.blocks.meet_exact.Tie as tie
-use Rattle.traversal.proofs.blocks.meet_exact.Reads as reads
-use Rattle.traversal.proofs.blocks.meet_exact.Lts as lts
-use Rattle.descent.proofs.leaves.leaves.Reads as leaves-reads
-use Rattle.layout.proofs.pages.next_at.Reads as next-at-reads
-use Rattle.meeting.proofs.meet.Reads as meet-reads
-use Rattle.traversal.proofs.chains.chains_of.Reads as chains-of-reads
 
--- src/blocks.rt:102:9
 leaves-requires : tie.Need-leaves-requires
-leaves-requires c κs = ?
+leaves-requires c κs =
+    let pre = c .before .before .before .before .before .before .pre in
+    (pre .1 .0 .ready .fitting .limits, (nodes-there (pre .1 .0), (pre .1 .0 .ready .fitting .query, (pre .1 .0 .range, pre .1 .1 .0))))
 
--- src/blocks.rt:104:20
 enum-known-unread : tie.Need-enum-known-unread
-enum-known-unread c = ?
+enum-known-unread c = search needs
 
--- src/blocks.rt:105:9
 enum-told : tie.Need-enum-told
-enum-told c = ?
+enum-told c = search needs
 
--- src/blocks.rt:105:9
 returns : tie.Need-returns
-returns c = ?
+returns c =
+    going-broken _ _ (going-start _ _ _ _ _ (c .before .before .before .before .before .before .before .before .before .pre .1 .1 .1)) (exact-spent _ _ _ _ _ _ (c .before .before .leaves .ensures) (c .enum-told .given .1))
 
--- src/blocks.rt:108:26
 slice-aggregate-chains-of : tie.Need-slice-aggregate-chains-of
-slice-aggregate-chains-of c = ?
+slice-aggregate-chains-of c = search needs
 
--- src/blocks.rt:108:40
 next-at-requires : tie.Need-next-at-requires
-next-at-requires c κs = ?
+next-at-requires c κs = search needs
 
--- src/blocks.rt:108:9
+firsts-long : (c : tie.After-leaves) → length (c .leaves .result .firsts) ≡ 8
+firsts-long c = search needs
+
 chains-of-requires : tie.Need-chains-of-requires
-chains-of-requires c κs = ?
+chains-of-requires c κs =
+    let limits = c .before .before .before .before .before .before .before .before .before .before .before .before .before .pre .1 .0 .ready .fitting .limits in
+    ((omega (arith, limits .blocks-most), omega (arith, limits .blocks-most, firsts-long (c .before .before .before .before .before .before))), omega (arith, limits .pages-most, c .next-at .ensures))
 
--- src/blocks.rt:110:16
+-- the product of the blocks and the capacity is small
 mul-t19 : tie.Need-mul-t19
-mul-t19 c = ?
+mul-t19 c =
+    let limits = c .before .before .before .before .before .before .before .before .before .before .before .before .before .before .before .pre .1 .0 .ready .fitting .limits in
+    record { fits = omega (arith, limits .pages-most, mul-le-mul-right (c .before .before .before .before .before .before .before .before .before .before .before .before .before .before .before .args .scope .probe .header .pages) (limits .blocks-most)) }
 
--- src/blocks.rt:110:15
 cast-t20 : tie.Need-cast-t20
-cast-t20 c = ?
+cast-t20 c =
+    let limits = c .before .before .before .before .before .before .before .before .before .before .before .before .before .before .before .pre .1 .0 .ready .fitting .limits in
+    record { fits = omega (arith, limits .pages-most, mul-le-mul-right (c .before .before .before .before .before .before .before .before .before .before .before .before .before .before .before .args .scope .probe .header .pages) (limits .blocks-most)) }
 
--- src/blocks.rt:113:11
+abbrev start : tie.After-chains-of → tie.Start
+start c = c .before .before .before .before .before .before .before .before .before .before .before .before .before .before
+
+-- the chains, a leaf of each block
+linked : (c : tie.After-chains-of) →
+    let h = start c .args .scope .probe .header in
+    Linked (baseOf (nextAt (h .pages) 0) (h .pages)) (c .before .before .before .before .before .before .before .leaves .result .firsts) (h .q) (c .chains-of .result)
+linked c = linked-from _ _ _ (c .before .next-at .ensures) (c .chains-of .ensures)
+
 meet-requires : tie.Need-meet-requires
-meet-requires c κs = ?
+meet-requires c κs =
+    let pre = start (c .before .before) .pre in (
+      pre .0,
+      (
+        pre .1 .0 .ready,
+        (
+          inside-each _ (linked (c .before .before)) (omega (arith, pre .1 .0 .ready .fitting .limits .blocks-most)) _ (λ i l. links-inside (pre .1 .0) i l),
+          pre .1 .1 .1,
+        ),
+      ),
+    )
 
--- src/blocks.rt:114:23
 enum-known-met : tie.Need-enum-known-met
-enum-known-met c = ?
+enum-known-met c = search needs
 
--- src/blocks.rt:118:28
 enum-told-2 : tie.Need-enum-told-2
-enum-told-2 c = ?
+enum-told-2 c = search needs
 
--- src/blocks.rt:85:1
 same-length : tie.Need-same-length
-same-length c = ?
+same-length c = search needs
 
--- src/blocks.rt:85:1
 returns-2 : tie.Need-returns-2
-returns-2 c = ?
+returns-2 c =
+    let meet = c .before .before .before .before .before in
+    let chains = meet .before .before .before in
+    let pre = start chains .pre in
+    exact-met _ _ _ _ _ _ (chains .before .before .before .before .before .before .before .leaves .ensures) _ (chains .before .before .before .before .before .unread .given .1) (linked chains) (omega (arith, pre .1 .0 .ready .fitting .limits .blocks-most)) _ _ _ (pre .1 .1 .1) (meet .meet .ensures) _ (c .before .met .given .1)
 
--- src/blocks.rt:85:1
 same-length-2 : tie.Need-same-length-2
-same-length-2 c = ?
+same-length-2 c = search needs
 
--- src/blocks.rt:85:1
 returns-3 : tie.Need-returns-3
-returns-3 c = ?
+returns-3 c =
+    let meet = c .before .before .before .before in
+    let chains = meet .before .before .before in
+    let pre = start chains .pre in
+    exact-unmet _ _ _ _ _ _ (chains .before .before .before .before .before .before .before .leaves .ensures) _ (chains .before .before .before .before .before .unread .given .1) (linked chains) (omega (arith, pre .1 .0 .ready .fitting .limits .blocks-most)) _ _ _ (pre .1 .1 .1) (meet .meet .ensures) (c .enum-told2 .given .1)
 
 pub meet-exact-spec : {M : Type 1} → statement M
 meet-exact-spec =
