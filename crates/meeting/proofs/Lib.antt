@@ -4,6 +4,5 @@ pub mod Agree
 pub mod Maps
 pub mod Rounds
 pub mod Held
-pub mod Listed
 pub mod Example
 pub mod Answers

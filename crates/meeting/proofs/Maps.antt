@@ -34,10 +34,6 @@ pub kept-cleared : {words : ℕ} {before after : List ℕ} → Kept words before
 unfolding zeroed
 kept-cleared {words} k = rw (zero-add (words + summaryOf words), k .behind)
 
-pub list-most : (map : List ℕ) (words : ℕ) → length (listOf map words) ≤ words * 32
-unfolding listOf
-list-most map words = rising-length (flag map 0) 0 (words * 32)
-
 module _ (hit : ℕ → Bool) (words : ℕ) where
   -- ---- no page, and more pages
   pub met-none : (map : List ℕ) → Met hit words map [] map

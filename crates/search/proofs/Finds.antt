@@ -1,66 +1,50 @@
--- The last passes of a search: the hits are counted, then listed or counted only, and the maps are cleared.
-use Prim.Native.Nat.{ℕ, zero, suc, _+_, _*_, _≤_, _<_}
+-- Once the tries are walked: what the search answers by the pages met, and by the map of those that passed.
+use Prim.Native.Nat.{ℕ, _*_, _≤_, _<_}
 use native.Mathlib.Omega.{arith}
-use mathlib.Core.Path.{_≡_, refl, ap, _∙_}
-use mathlib.Core.Bool.{Bool}
-use mathlib.Core.List.{List}
-use borrow.Author.Tests.{le-leb, lt-leb}
-use lib.ListN.{length, drop, getD}
-use lib.Seq.{drop-set-lt}
-use Rattle.meaning.specs.Lists.{onto}
-use Rattle.meaning.specs.SketchCalls.{outputLeft}
-use Rattle.words.specs.Bits.{flag, zeroed}
-use Rattle.words.proofs.Rising.{rising-length}
-use Rattle.hits.specs.Marks.{keptWord, summaryOf, Room, Summarised, listOf, changed, keptMap}
-use Rattle.hits.proofs.Changed.{length-changed}
-use Rattle.hits.proofs.Listed.{kept-summarised}
+use mathlib.Core.Path.{_≡_, refl, sym, _∙_}
+use mathlib.Core.Bool.{Bool, false}
+use mathlib.Core.List.{List, []}
+use lib.ListN.{length}
+use Rattle.words.specs.Bits.{flag}
+use Rattle.words.proofs.Rising.{rising-none}
 use Rattle.promises.specs.Readings.{Lists}
-use Rattle.search_laws.proofs.Marks.{same-zeroed}
+use Rattle.marks.specs.Marks.{Summarised, listOf}
+use Rattle.meeting.specs.declared.Tally.{Tally}
+use Rattle.meeting.specs.declared.Tallies.{Tallies}
+use Rattle.meeting.specs.declared.Tallies.the-variants.{Some, Broken}
+use Rattle.meeting.specs.Meets.{Meets, met, broken}
+use Rattle.meeting.specs.Mets.{Met, Meeting}
+use Rattle.meeting.proofs.Maps.{met-listed}
+use Rattle.search_laws.specs.Answer.{passing, Answered}
 
--- ---- the map of the hits
-drop-changed : (f : ℕ → ℕ → ℕ) (ws : List ℕ) (n m : ℕ) → n ≤ m → drop m (changed f ws n) ≡ drop m ws
-unfolding changed
-drop-changed f ws zero m l = refl
-drop-changed f ws (suc n) m l =
-    drop-set-lt m (changed f ws n) n (f n (getD ws n 0)) l ∙ drop-changed f ws n m (omega arith)
+pub answers-stopped : (m : Meets) (hit : ℕ → Bool) (cap : ℕ) (out : List ℕ) → m ≡ broken → Answered m hit cap out 14 0 out
+answers-stopped m hit cap out e =
+    record { stopped = λ z. (refl, refl, refl); listed = λ ps k z. let w : _≡_ {A = ℕ} 0 1 = cc in absurd (omega arith) }
 
-module _ (hit : ℕ → Bool) (map : List ℕ) (words : ℕ) (room : Room map words) (kept : List ℕ) (e : kept ≡ keptMap hit map words) where
-  pub kept-room : Room kept words
-  unfolding keptMap
-  kept-room = record { most = room .most; long = rw e (omega (arith, room .long, length-changed (λ i w. keptWord hit (i * 32) w) map words)) }
+answers-listed : (m : Meets) (hit : ℕ → Bool) (cap : ℕ) (out ps : List ℕ) (k n count : ℕ) (after : List ℕ) → m ≡ met ps k
+    → Lists (passing hit cap ps) out n count after → Answered m hit cap out n count after
+answers-listed m hit cap out ps k n count after e l = record {
+  stopped = λ z. let w : _≡_ {A = ℕ} 0 1 = cc in absurd (omega arith);
+  listed = λ qs j z. let same : ps ≡ qs = cc in rw (← same) l;
+}
 
-  pub kept-summary : Summarised map words → Summarised kept words
-  kept-summary s = rw e (kept-summarised hit map words (omega (arith, room .long)) s)
+-- the walks ended
+module _ {hit : ℕ → Bool} {words : ℕ} {m : Meets} {map after : List ℕ} {a : Tallies} (r : Meeting hit words m map after a) (t : Tally) (e : a ≡ Some t) where
+  pub found-summary : Summarised map words → Summarised after words
+  found-summary = r .some t e .2 .summarised
 
-  pub kept-clears : zeroed kept 0 (words + summaryOf words) ≡ zeroed map 0 (words + summaryOf words)
-  unfolding keptMap
-  kept-clears =
-      same-zeroed (words + summaryOf words) map kept
-      (ap (drop (words + summaryOf words)) e ∙ drop-changed (λ i w. keptWord hit (i * 32) w) map words (words + summaryOf words) (omega arith))
+  pub found-count : t .count ≡ length (listOf after words)
+  found-count = r .some t e .3
 
--- no more pages than the map has bits
-pub list-few : (map : List ℕ) (words : ℕ) → words ≤ 2048 → length (listOf map words) ≤ 65536
-unfolding listOf
-list-few map words most = omega (arith, rising-length (flag map 0) 0 (words * 32))
+  -- no page was marked before
+  module _ (none : listOf map words ≡ []) where
+    unmarked : (k : ℕ) → k < words * 32 → flag map 0 k ≡ false
+    unfolding listOf
+    unmarked k h = rising-none (flag map 0) 0 (words * 32) none k (omega arith) (omega arith)
 
--- ---- the answer
-module _ (hit : ℕ → Bool) (map : List ℕ) (words : ℕ) (kept : List ℕ) (e : kept ≡ keptMap hit map words)
-    (n : ℕ) (f : n ≡ length (listOf kept words)) (before : List ℕ) where
-  abbrev found : List ℕ
-  found = listOf (keptMap hit map words) words
-
-  counts : n ≡ length found
-  counts = f ∙ ap (λ m. length (listOf m words)) e
-
-  pub lists-short : length before < n → Lists found before 13 n before
-  unfolding outputLeft
-  lists-short l =
-      record { refusal = rw (lt-leb (length found) (length before) (omega (arith, counts))) refl; counted = counts; output = refl }
-
-  pub lists-all : n ≤ length before → (after : List ℕ) → after ≡ onto (listOf kept words) before → Lists found before 0 n after
-  unfolding outputLeft
-  lists-all l after g = record {
-    refusal = rw (le-leb (length found) (length before) (omega (arith, counts))) refl;
-    counted = counts;
-    output = g ∙ ap (λ m. onto (listOf m words) before) e;
-  }
+    pub answers-found : (cap : ℕ) → cap ≤ words * 32 → ((p : ℕ) → cap ≤ p → hit p ≡ false) → (out : List ℕ) (n count : ℕ) (left : List ℕ)
+        → Lists (listOf after words) out n count left → Answered m hit cap out n count left
+    unfolding passing
+    answers-found cap fits below out n count left l =
+        answers-listed m hit cap out (r .some t e .0) (t .left) n count left (r .some t e .1)
+        (rw (met-listed hit words cap fits below unmarked (r .some t e .2)) at l)

@@ -1,78 +1,84 @@
 -- A search keeps its promise, by the way out.
-use Prim.Native.Nat.{ℕ, _+_, _≤_}
+use Prim.Native.Nat.{ℕ, _+_}
 use native.Mathlib.Omega.{arith}
+use native.Mathlib.Nat.{zero-add}
 use mathlib.Core.Path.{_≡_, refl, sym, ap, _∙_}
 use mathlib.Core.Bool.{Bool, true, false, cond, _&&_}
 use mathlib.Core.Logic.{_≢_, _⊎_, inl, inr}
-use mathlib.Core.List.{List, [], _∷_, _++_, append-nil}
+use mathlib.Core.List.{List, [], _∷_}
 use borrow.Author.Tests.{le-leb, ne-eqb}
 use lib.Dec.{leb, eqb}
-use lib.ListN.{length, take, drop, replicate, length-replicate, drop-of-length-le}
-use lib.Seq.{take-at, drop-at}
+use lib.ListN.{length, drop, replicate, length-replicate}
+use lib.Seq.{drop-at}
 use Rattle.meaning.specs.Lists.{onto}
 use Rattle.meaning.specs.Refusal.{Question, ask, firstNo}
 use Rattle.meaning.specs.Sketch.{inRange}
 use Rattle.meaning.specs.Trie.{Tree}
 use Rattle.meaning.specs.Ledger.{search, reading}
 use Rattle.meaning.specs.Questions.{asked}
-use Rattle.words.specs.Bits.{flag, zeroed}
+use Rattle.words.specs.Bits.{zeroed}
 use Rattle.layout.specs.declared.Header.{Header}
 use Rattle.layout.specs.declared.Opening.the-variants.{Shown, Refused}
 use Rattle.layout.specs.Settings.{settingsLength, showsOpening}
 use Rattle.layout.specs.Header.{headerOf, bare}
-use Rattle.layout.specs.Lengths.{sketchesLength, workingLength}
-use Rattle.layout.specs.Limits.{HeaderLimits}
+use Rattle.layout.specs.Lengths.{workingLength}
+use Rattle.layout.specs.Tables.{Fits}
 use Rattle.layout.specs.Working.{mapWords, summaryWords}
 use Rattle.layout.proofs.Sizes.{same-lengths}
+use Rattle.rights.specs.declared.Classes.{Classes}
 use Rattle.rights.specs.Open.{openClasses}
 use Rattle.promises.specs.Tables.{Tables, given, byTables, scan}
 use Rattle.promises.specs.Answers.{number, entered, shown56, longSettings, longNodes, longPages, longWorking, longFor}
-use Rattle.hits.specs.Hit.{test, isHit}
-use Rattle.hits.specs.Marks.{summaryOf, Room}
-use Rattle.hits.proofs.Listed.{testOf}
 use Rattle.promises.specs.Sound.{Sound}
 use Rattle.promises.specs.Readings.{workingLeft, listedOf, Lists, earlyNumber, SearchPromise}
-use Rattle.marking.specs.Mark.{Marks, marks, broken}
-use Rattle.search_laws.specs.Marks.{markBlocks}
-use Rattle.search_laws.specs.Answer.{Answered, words, cleared as blank, walks, AnsweredBy}
-use Rattle.search_laws.proofs.Marks.{zeroed-onto}
-use Rattle.search_laws.proofs.Lists.{foundIn, list-met, walks-whole, list-all}
-use Rattle.search.specs.Ready.{Fits}
 use Rattle.entry.specs.Entry.{tablesAsked, entry}
 use Rattle.entry.proofs.Enters.{entry-refused, Entered, entry-shown}
+use Rattle.marks.specs.Marks.{summaryOf}
+use Rattle.hits.specs.declared.Probe.{Probe}
+use Rattle.hits.specs.Hit.{Fitting, passes}
+use Rattle.hits.specs.Probes.{probeOf, testBy}
+use Rattle.meeting.specs.Meets.{Meets, met, broken}
+use Rattle.traversal.specs.Meets.{meetBlocks}
+use Rattle.search_laws.specs.Answer.{Answered, testOf, meets, AnsweredBy}
+use Rattle.search_laws.proofs.Lists.{foundIn, metBy, list-met, walks-whole, list-all}
 use Rattle.search.specs.Questions.{queryAsked}
-use Rattle.search.proofs.Enters.{lends}
 use Rattle.search.proofs.Queries.{query-passed}
-use Rattle.search.proofs.Walked.{lent-room}
 
--- ---- past 11, by the walks
+-- ---- past 11, by the pages met
 module _ (T : Tables) (reader radius : ℕ) (x before : List ℕ) (n count : ℕ) (after : List ℕ)
-    (a : Answered (walks T reader radius x) (isHit (testOf T reader radius x)) (words T reader radius x) before n count after) where
+    (a : Answered (meets T reader radius x) (passes (testOf T reader radius x)) (given T .pages) before n count after) where
   answer-refused : n ≢ 0 → n ≢ 13 → (count ≡ 0) × (after ≡ before)
-  answer-refused k l = go (walks T reader radius x) refl
+  answer-refused k l = go (meets T reader radius x) refl
     where
       neither : (t : Bool) → n ≡ cond t 0 13 → ⊥
       neither true z = k z
       neither false z = l z
 
-      go : (w : Marks) → walks T reader radius x ≡ w → (count ≡ 0) × (after ≡ before)
-      go (marks m j) z = absurd (neither (leb (length (foundIn T reader radius x m)) (length before)) (a .listed m j z .refusal))
+      go : (m : Meets) → meets T reader radius x ≡ m → (count ≡ 0) × (after ≡ before)
+      go (met ps j) z = absurd (neither (leb (length (foundIn T reader radius x ps)) (length before)) (a .listed ps j z .refusal))
       go broken z = let s = a .stopped z in (s .1, s .2)
 
-  module _ (room : Room (T .working) (words T reader radius x)) where
-    answer-open : (n ≡ 14) ⊎ ((met : ℕ → Bool) × Lists (listedOf met T reader radius x) before n count after)
-    answer-open = go (walks T reader radius x) refl
-      where
-        go : (w : Marks) → walks T reader radius x ≡ w
-            → (n ≡ 14) ⊎ ((met : ℕ → Bool) × Lists (listedOf met T reader radius x) before n count after)
-        go (marks m j) z = inr (flag m 0, rw (list-met T reader radius x room m j z) at (a .listed m j z))
-        go broken z = inl (a .stopped z .0)
+  answer-open : (n ≡ 14) ⊎ ((met : ℕ → Bool) × Lists (listedOf met T reader radius x) before n count after)
+  answer-open = go (meets T reader radius x) refl
+    where
+      go : (m : Meets) → meets T reader radius x ≡ m → (n ≡ 14) ⊎ ((met : ℕ → Bool) × Lists (listedOf met T reader radius x) before n count after)
+      go (met ps j) z = inr (metBy T reader radius x ps, rw (list-met T reader radius x ps) at (a .listed ps j z))
+      go broken z = inl (a .stopped z .0)
 
-    answer-sound : HeaderLimits (headerOf (given T)) → sketchesLength (given T) ≤ length (T .sketches) → length x ≡ given T .symbols
-        → inRange (given T .bits) x ≡ true → (F : List Tree) → Sound T F → Lists (scan T reader radius x) before n count after
-    answer-sound limits rows c r F s =
-        let w = walks-whole T reader radius x room limits rows c r F s in
-        rw (list-all T reader radius x room limits rows c r F s _ _ (w .same)) at (a .listed _ _ (w .same))
+  answer-sound : Fitting (testOf T reader radius x) → inRange (given T .bits) x ≡ true → (F : List Tree) → Sound T F
+      → Lists (scan T reader radius x) before n count after
+  answer-sound fit range F s =
+      let w = walks-whole T reader radius x fit range F s in
+      rw (list-all T reader radius x fit range F s) at (a .listed _ _ (w .same))
+
+-- ---- the words cleared
+zeroed-onto : (n : ℕ) (map : List ℕ) → zeroed map 0 n ≡ onto (replicate n 0) map
+unfolding zeroed onto
+zeroed-onto n map = rw (zero-add n, length-replicate {A = ℕ} n 0)
+
+zeroed-again : (n : ℕ) (map : List ℕ) → zeroed (zeroed map 0 n) 0 n ≡ zeroed map 0 n
+unfolding zeroed
+zeroed-again n map = rw (zero-add n, drop-at (replicate n 0) (drop n map) n (length-replicate {A = ℕ} n 0))
 
 -- ---- the questions
 -- two questions ahead of others
@@ -151,59 +157,31 @@ module _ (T : Tables) (reader radius : ℕ) (x before : List ℕ) where
             λ z. absurd (some (sym same ∙ z)),
           )
 
-      -- past 11: the walks are lent the needed part alone
-      abbrev needed : ℕ
-      needed = w + summaryOf w
+      -- past 11
+      module _ (q : firstNo (queryAsked h reader radius x) ≡ 0) (k : Classes) (c : k ≡ openClasses (T .settings) reader) (p : Probe) (r : p ≡ probeOf h k x radius) where
+        fit : Fitting (testOf T reader radius x)
+        fit = rw (in-order .header)
+            record { limits = in-order .limits; pages = in-order .pages-long; sketches = in-order .sketches-long; query = query-passed h reader radius x q .1 .count }
 
-      zeros : List ℕ
-      zeros = replicate needed 0
-
-      zeros-long : length zeros ≡ needed
-      unfolding zeros
-      zeros-long = length-replicate {A = ℕ} needed 0
-
-      part-clear : take needed cleared ≡ zeros
-      unfolding zeroed zeros
-      part-clear = ap (take needed) g ∙ take-at zeros (drop (0 + needed) (T .working)) needed zeros-long
-
-      part-again : zeroed zeros 0 needed ≡ zeros
-      unfolding zeroed zeros
-      part-again =
-          let none : drop (0 + needed) zeros ≡ [] = drop-of-length-le zeros {i = 0 + needed} (omega (arith, zeros-long)) in
-          ap (λ r. zeros ++ r) none ∙ append-nil zeros
-
-      put-back : zeroed (take needed cleared) 0 needed ++ drop needed cleared ≡ zeroed (T .working) 0 needed
-      unfolding zeroed zeros
-      put-back =
-          ap (λ l. zeroed l 0 needed ++ drop needed cleared) part-clear
-          ∙ ap (λ l. l ++ drop needed cleared) part-again
-          ∙ ap (λ l. zeros ++ drop needed l) g
-          ∙ ap (λ l. zeros ++ l) (drop-at zeros (drop (0 + needed) (T .working)) needed zeros-long)
-
-      pub promise-found : firstNo (queryAsked h reader radius x) ≡ 0 → (k : ℕ) → k ≡ workingLength (bare h) → (n count : ℕ) (after last : List ℕ)
-          → Answered (markBlocks h (T .nodes) (T .pages) x radius (take k cleared)) (isHit (test (T .pages) (T .sketches) h (openClasses (T .settings) reader) x radius)) w before n count after
-          → last ≡ zeroed (take k cleared) 0 needed
-          → SearchPromise T reader radius x before n count after (last ++ drop k cleared) × AnsweredBy T reader radius x before n count after
-      unfolding workingLength summaryWords blank zeros
-      promise-found q k e n count after last a z =
-          let i = rw (← in-order .header) at in-order in
-          let fits : Fits (headerOf (given T)) x = rw (← in-order .header) at (query-passed h reader radius x q .1) in
-          let size : k ≡ needed = e ∙ ap (λ v. v + summaryOf v) (sym f) in
-          let b : Answered (walks T reader radius x) (isHit (testOf T reader radius x)) (words T reader radius x) before n count after =
-          rw (size, part-clear, f, ← in-order .header) at a in
-          let rows : sketchesLength (given T) ≤ length (T .sketches) = rw (same-lengths (given T) h (in-order .header) .sketches) at (in-order .sketches-long) in
-          let room = lent-room (headerOf (given T)) (T .nodes) (T .pages) (T .working) (lends T (headerOf (given T)) i) (words T reader radius x) refl in (
-            record {
-              early = λ k. absurd (k (early-query ∙ q));
-              sound = λ F s y. answer-sound T reader radius x before n count after b room (i .limits) rows (fits .count) (fits .range) F s;
-              open-list = λ y. answer-open T reader radius x before n count after b room;
-              refused = answer-refused T reader radius x before n count after b;
-              working-left =
-                  ap (λ m. m ++ drop k cleared) z
-                  ∙ ap (λ j. zeroed (take j cleared) 0 needed ++ drop j cleared) size
-                  ∙ put-back
-                  ∙ ap (λ v. zeroed (T .working) 0 (v + summaryOf v)) f
-                  ∙ left-cleared;
-            },
-            λ y. b,
-          )
+        pub promise-found : (n count : ℕ) (after last : List ℕ)
+            → Answered (meetBlocks (p .header) (T .nodes) (T .pages) x (p .radius)) (passes (testBy (T .pages) (T .sketches) x p)) (p .header .pages) before n count after
+            → last ≡ zeroed cleared 0 (w + summaryOf w)
+            → SearchPromise T reader radius x before n count after last × AnsweredBy T reader radius x before n count after
+        promise-found n count after last a z =
+            let b : Answered (meets T reader radius x) (passes (testOf T reader radius x)) (given T .pages) before n count after =
+            rw (r, c, ← in-order .header) at a in
+            let range : inRange (given T .bits) x ≡ true = ap (λ g. inRange (g .b) x) (in-order .header) ∙ query-passed h reader radius x q .1 .range in (
+              record {
+                early = λ k. absurd (k (early-query ∙ q));
+                sound = λ F s y. answer-sound T reader radius x before n count after b fit range F s;
+                open-list = λ y. answer-open T reader radius x before n count after b;
+                refused = answer-refused T reader radius x before n count after b;
+                working-left =
+                    z
+                    ∙ ap (λ m. zeroed m 0 (w + summaryOf w)) g
+                    ∙ zeroed-again (w + summaryOf w) (T .working)
+                    ∙ ap (λ v. zeroed (T .working) 0 (v + summaryOf v)) f
+                    ∙ left-cleared;
+              },
+              λ y. b,
+            )

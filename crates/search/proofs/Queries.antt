@@ -13,7 +13,7 @@ use Rattle.meaning.specs.Sketch.{inRange}
 use Rattle.meaning.proofs.Lists.{and-first}
 use Rattle.layout.specs.declared.Header.{Header}
 use Rattle.entry.proofs.Questions.{all-yes}
-use Rattle.search.specs.Ready.{Fits}
+use Rattle.layout.specs.Tables.{Fits}
 use Rattle.search.specs.Questions.{queryAsked}
 
 module _ (h : Header) (reader radius : ℕ) (x : List ℕ) where

@@ -1,5 +1,3 @@
 // Search: the pages open to a reader whose sketches are within a radius of a query.
-mod list;
-mod marks;
 mod questions;
 pub mod search;

@@ -26,7 +26,7 @@ use Rattle.trie_laws.specs.Block.{SoundBlock}
 use Rattle.trie_laws.proofs.Block.{each-get}
 use Rattle.trie_laws.proofs.Pages.{stands-any}
 use Rattle.promises.specs.Tables.{Tables, given, pageClass, pageRow, isShown}
-use Rattle.hits.proofs.Listed.{wanted}
+use Rattle.hits.proofs.Wanted.{wanted}
 use Rattle.promises.specs.Sound.{Sound, livePage, pageBytes}
 use Rattle.search_laws.proofs.Paths.{sound-path, sound-shallow}
 use Rattle.search_laws.proofs.Meets.{met-from}

@@ -1,6 +1,5 @@
 pub mod Paths
 pub mod Meets
-pub mod Marks
 pub mod Sound
 pub mod Complete
 pub mod Lists

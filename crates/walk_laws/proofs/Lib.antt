@@ -12,7 +12,6 @@ pub mod Pages
 pub mod Through
 pub mod Right
 pub mod Walk
-pub mod Left
 pub mod Blocks
 pub mod Example
 pub mod Deeper

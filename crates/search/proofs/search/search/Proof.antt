@@ -1,16 +1,17 @@
 -- `search` keeps its promise.
+use Prim.Native.Nat.{_<_}
 use mathlib.Core.Path.{_≡_, sym, _∙_}
 use borrow.Author.Needs.{needs}
 use Rattle.layout.specs.declared.Header.{Header}
 use Rattle.layout.specs.declared.Opening.the-variants.{Shown}
+use Rattle.layout.specs.Tables.{Fits}
+use Rattle.meaning.specs.Refusal.{firstNo}
 use Rattle.promises.specs.Tables.{Tables, tables}
 use Rattle.entry.specs.Entry.{entry}
 use Rattle.entry.proofs.Enters.{Entered, entry-shown}
-use Rattle.search.proofs.Enters.{lends}
+use Rattle.search.specs.Questions.{queryAsked}
+use Rattle.search.proofs.Enters.{entered-room, entered-list, entered-summary, prepared}
 use Rattle.search.proofs.Queries.{query-passed}
-use lib.Seq.{length-take-le}
-use native.Mathlib.Omega.{arith}
-use Rattle.search.proofs.Walked.{lent-room, cleared-lent, part-long, part-lent, part-summary}
 use Rattle.search.proofs.Promises.{promise-tables, promise-query, promise-found}
 use Rattle.search.proofs.search.search.Statement.{statement}
 use Rattle.search.proofs.search.search.Tie as tie
@@ -54,9 +55,7 @@ map-words-requires : tie.Need-map-words-requires
 map-words-requires c κs = opened c .limits
 
 clear-marks-requires : tie.Need-clear-marks-requires
-clear-marks-requires c κs =
-    let k = c .before .before in
-    lent-room _ _ _ _ (lends _ _ (opened k)) _ (c .before .map-words .ensures)
+clear-marks-requires c κs = entered-room _ _ (opened (c .before .before)) _ (c .before .map-words .ensures)
 
 query-number-requires : tie.Need-query-number-requires
 query-number-requires c κs = opened (c .before .before .before .before .before) .limits
@@ -71,45 +70,33 @@ returns-2 c =
     let k = m .before .before .before in
     promise-query _ _ _ _ _ _ (shows k) _ (m .before .before .map-words .ensures) _ (m .clear-marks .ensures) _ (q .query-number .ensures) (c .if1 .taken)
 
-working-length-requires : tie.Need-working-length-requires
-working-length-requires c κs = opened (c .before .before .before .before .before .before .before) .limits
+-- past 11
+abbrev marks : tie.Else1 → tie.After-clear-marks
+marks e = e .before .before .before .before
 
--- the needed part lies in the working table
-slice-relend-prefix-find : tie.Need-slice-relend-prefix-find
-slice-relend-prefix-find c =
-    let ready = cleared-lent _ _ _ _ (lends _ _ (opened (c .before .before .before .before .before .before .before .before))) _ (c .before .before .before .before .before .before .before .map-words .ensures) _ (c .before .before .before .before .before .clear-marks .ensures) in
-    omega (arith, c .working-length .ensures, ready .working-long)
+abbrev known : tie.Else1 → tie.After-known-told2
+known e = marks e .before .before .before
 
-slice-aggregate-find : tie.Need-slice-aggregate-find
-slice-aggregate-find c = sym (length-take-le _ _ (slice-relend-prefix-find (c .before)))
+abbrev none : (e : tie.Else1) → firstNo (queryAsked (header (known e)) (start (known e) .args .reader) (start (known e) .args .radius) (start (known e) .args .sketch .now)) ≡ 0
+none e = sym (e .before .query-number .ensures) ∙ e .if1 .left
+
+passed : (e : tie.Else1) → (start (known e) .args .reader < 256) × Fits (header (known e)) (start (known e) .args .sketch .now)
+passed e = query-passed _ _ _ _ (none e)
+
+open-classes-requires : tie.Need-open-classes-requires
+open-classes-requires c κs = (opened (known c) .settings-long, passed c .0)
+
+probe-of-requires : tie.Need-probe-of-requires
+probe-of-requires c κs = (opened (known (c .before)) .limits, passed (c .before) .1)
 
 find-requires : tie.Need-find-requires
 find-requires c κs =
-    let q = c .before .before .before .before in
-    let m = c .before .before .before .before .before .before .before in
-    let o = opened (c .before .before .before .before .before .before .before .before .before .before) in
-    let lent-now = lends _ _ o in
-    let words = c .before .before .before .before .before .before .before .before .before .map-words .ensures in
-    let size = c .before .before .working-length .ensures in
-    let passed = query-passed _ _ _ _ (sym (q .query-number .ensures) ∙ c .before .before .before .if1 .left) in (
-      part-lent _ _ _ _ lent-now _ words _ (m .clear-marks .ensures) _ size,
-      (
-        o .sketches-long,
-        (
-          passed .1,
-          (
-            (o .settings-long, passed .0),
-            (
-              words,
-              (
-                part-long _ _ _ _ lent-now _ words _ (m .clear-marks .ensures) _ size,
-                part-summary _ _ _ _ lent-now _ words _ (m .clear-marks .ensures) _ size,
-              ),
-            ),
-          ),
-        ),
-      ),
-    )
+    let p = c .before .before in
+    let e = p .before .before in
+    let o = opened (known e) in
+    let words = marks e .before .before .map-words .ensures in
+    let cleared = marks e .clear-marks .ensures in
+    (prepared _ _ o _ words _ cleared _ (passed e .1) _ _ _ (p .probe-of .ensures), (entered-list _ _ o _ words _ cleared, entered-summary _ _ o _ words _ cleared))
 
 same-length-3 : tie.Need-same-length-3
 same-length-3 c = search needs
@@ -120,9 +107,10 @@ same-length-4 c = search needs
 returns-3 : tie.Need-returns-3
 returns-3 c =
     let f = c .before .before .before .before in
-    let k = c .before .before .before .before .before .before .before .before .before .before .before .before .before .before .before in
-    promise-found _ _ _ _ _ _ (shows k) _ (c .before .before .before .before .before .before .before .before .before .before .before .before .before .before .map-words .ensures) _ (c .before .before .before .before .before .before .before .before .before .before .before .before .clear-marks .ensures) (sym (c .before .before .before .before .before .before .before .before .before .query-number .ensures) ∙ c .before .before .before .before .before .before .before .before .if1 .left) _ (c .before .before .before .before .before .before .before .working-length .ensures) _ _ _ _
-    (f .find .ensures .0) (f .find .ensures .1)
+    let p = f .before .before .before in
+    let e = p .before .before in
+    promise-found _ _ _ _ _ _ (shows (known e)) _ (marks e .before .before .map-words .ensures) _ (marks e .clear-marks .ensures) (none e) _ (p .before .open-classes .ensures) _ (p .probe-of .ensures)
+    _ _ _ _ (f .find .ensures .0) (f .find .ensures .1)
 
 pub search-spec : {M : Type 1} → statement M
 search-spec =
@@ -138,9 +126,8 @@ search-spec =
     query-number-requires
     same-length-2
     returns-2
-    working-length-requires
-    slice-relend-prefix-find
-    slice-aggregate-find
+    open-classes-requires
+    probe-of-requires
     find-requires
     same-length-3
     same-length-4
