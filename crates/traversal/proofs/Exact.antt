@@ -12,7 +12,6 @@ use Rattle.meaning.proofs.Lists.{length-from}
 use Rattle.layout.specs.declared.Header.{Header}
 use Rattle.layout.specs.Pages.{nextAt}
 use Rattle.marks.specs.Marks.{listOf}
-use Rattle.descent.specs.declared.Left.{Left}
 use Rattle.descent.specs.declared.Left.the-variants as left
 use Rattle.descent.specs.Cursor.{leftOf}
 use Rattle.descent.specs.declared.leaves.Ends.{Ends}

@@ -72,6 +72,16 @@ loop-holds c = walking-start _ _ _ _ _ _ _ _ _ (c .begin .ensures _ refl) (begin
 abbrev start : tie.At-loop Inv-loop μ-loop → tie.Start Inv-loop μ-loop
 start c = c .before .before .before .before .before .before .before .before .before .before .before .before .before .before
 
+abbrev packed : tie.At-loop Inv-loop μ-loop → tie.After-pack Inv-loop μ-loop
+packed c = c .before .before .before .before .before .before .before
+
+-- where the pages of a batch are met, and the walk goes on
+abbrev loop : tie.After-meet Inv-loop μ-loop → tie.At-loop Inv-loop μ-loop
+loop c = c .before .before .before .before .before
+
+abbrev onward : tie.After-known-told2 Inv-loop μ-loop → tie.After-meet Inv-loop μ-loop
+onward c = c .before .before .before .before .before .before .before .before
+
 slice-aggregate-chains-of : tie.Need-slice-aggregate-chains-of Inv-loop μ-loop
 slice-aggregate-chains-of c = sym (c .before .before .loop .inv .long)
 
@@ -110,31 +120,30 @@ enum-told c = search needs
 returns : tie.Need-returns Inv-loop μ-loop
 returns c =
     let meet = c .before .before .before .before in
-    let at = meet .before .before .before .before .before in
-    walked _ _ _ _ _ _ _ _ _ (at .before .before .before .before .before .before .before .pack .ensures .same) (at .before .begin .ensures _ refl)
+    let at = loop meet in
+    walked _ _ _ _ _ _ _ _ _ (packed at .pack .ensures .same) (at .before .begin .ensures _ refl)
     (walking-unmet _ _ _ _ _ _ (at .loop .inv) (linked (meet .before .before)) (meet .meet .ensures) (c .enum-told .given .1))
 
 same-length : tie.Need-same-length Inv-loop μ-loop
-same-length c =
-    let meet = c .before .before .before .before in
-    let at = meet .before .before .before .before .before in
-    walking-unmet _ _ _ _ _ _ (at .loop .inv) (linked (meet .before .before)) (meet .meet .ensures) (c .enum-told .given .1) .kept .long
+same-length c = returns c .kept .long
 
 enum-known-rest : tie.Need-enum-known-rest Inv-loop μ-loop
 enum-known-rest c = search needs
 
 -- ---- the walk goes on
 array-share-prefix-bytes-2 : tie.Need-array-share-prefix-bytes-2 Inv-loop μ-loop
-array-share-prefix-bytes-2 c = bytes-there (c .before .before .before .before .before .before .before .before .before .before .before .before .before .before .before .before .before .before .before .before)
+array-share-prefix-bytes-2 c = bytes-there (packed (loop (onward c)))
 
 slice-aggregate-next : tie.Need-slice-aggregate-next Inv-loop μ-loop
-slice-aggregate-next c = sym (length-take-le (c .before .before .before .before .before .before .before .before .before .before .before .before .before .before .before .before .before .before .before .before .before .pack .result .n) _ (bytes-there (c .before .before .before .before .before .before .before .before .before .before .before .before .before .before .before .before .before .before .before .before .before)))
+slice-aggregate-next c =
+    let bytes = packed (loop (onward (c .before))) in
+    sym (length-take-le (bytes .pack .result .n) _ (bytes-there bytes))
 
 next-requires : tie.Need-next-requires Inv-loop μ-loop
 next-requires c κs =
-    let at = c .before .before .before .before .before .before .before .before .before .before .before .before .before .before .before in
+    let at = loop (onward (c .before .before)) in
     let pre = start at .pre in
-    (pre .0, (fitting (pre .1 .0) _ (pre .1 .1 .0 .0) _ (at .before .before .before .before .before .before .before .pack .ensures .same), gives-ready (at .loop .inv .gives) _ (c .before .before .before .rest .given .1) .0))
+    (pre .0, (fitting (pre .1 .0) _ (pre .1 .1 .0 .0) _ (packed at .pack .ensures .same), gives-ready (at .loop .inv .gives) _ (c .before .before .before .rest .given .1) .0))
 
 loop-less : tie.Need-loop-less Inv-loop μ-loop
 loop-less c = next-less _ _ (c .before .before .before .before .rest .given .1) (c .next .ensures)
@@ -144,8 +153,8 @@ next-long c = search needs
 
 loop-again : tie.Need-loop-again Inv-loop μ-loop
 loop-again c =
-    let meet = c .before .before .before .before .before .before .before .before .before .before .before in
-    let at = meet .before .before .before .before .before in
+    let meet = onward (c .before .before .before) in
+    let at = loop meet in
     walking-next _ _ _ _ _ _ (at .loop .inv) (linked (meet .before .before)) (meet .meet .ensures) _ (c .before .before .before .before .before .before .before .met .given .1) _ (c .before .before .before .before .rest .given .1) (c .next .ensures) (next-long c)
 
 -- ---- the walk is over
@@ -155,15 +164,12 @@ enum-known-rest-2 c = search needs
 returns-2 : tie.Need-returns-2 Inv-loop μ-loop
 returns-2 c =
     let meet = c .before .before .before .before .before .before .before .before in
-    let at = meet .before .before .before .before .before in
-    walked _ _ _ _ _ _ _ _ _ (at .before .before .before .before .before .before .before .pack .ensures .same) (at .before .begin .ensures _ refl)
+    let at = loop meet in
+    walked _ _ _ _ _ _ _ _ _ (packed at .pack .ensures .same) (at .before .begin .ensures _ refl)
     (walking-done _ _ _ _ _ _ (at .loop .inv) (linked (meet .before .before)) (meet .meet .ensures) _ (c .before .before .before .before .met .given .1) _ (c .before .rest2 .given .1))
 
 same-length-2 : tie.Need-same-length-2 Inv-loop μ-loop
-same-length-2 c =
-    let meet = c .before .before .before .before .before .before .before .before in
-    let at = meet .before .before .before .before .before in
-    walking-done _ _ _ _ _ _ (at .loop .inv) (linked (meet .before .before)) (meet .meet .ensures) _ (c .before .before .before .before .met .given .1) _ (c .before .rest2 .given .1) .kept .long
+same-length-2 c = returns-2 c .kept .long
 
 enum-told-2 : tie.Need-enum-told-2 Inv-loop μ-loop
 enum-told-2 c = search needs
@@ -171,15 +177,12 @@ enum-told-2 c = search needs
 returns-3 : tie.Need-returns-3 Inv-loop μ-loop
 returns-3 c =
     let meet = c .before .before .before .before .before .before .before in
-    let at = meet .before .before .before .before .before in
-    walked _ _ _ _ _ _ _ _ _ (at .before .before .before .before .before .before .before .pack .ensures .same) (at .before .begin .ensures _ refl)
+    let at = loop meet in
+    walked _ _ _ _ _ _ _ _ _ (packed at .pack .ensures .same) (at .before .begin .ensures _ refl)
     (walking-broken _ _ _ _ _ _ (at .loop .inv) (linked (meet .before .before)) (meet .meet .ensures) _ (c .before .before .before .met .given .1) (c .enum-told2 .given .1))
 
 same-length-3 : tie.Need-same-length-3 Inv-loop μ-loop
-same-length-3 c =
-    let meet = c .before .before .before .before .before .before .before in
-    let at = meet .before .before .before .before .before in
-    walking-broken _ _ _ _ _ _ (at .loop .inv) (linked (meet .before .before)) (meet .meet .ensures) _ (c .before .before .before .met .given .1) (c .enum-told2 .given .1) .kept .long
+same-length-3 c = returns-3 c .kept .long
 
 pub meet-block-spec : {M : Type 1} → statement M
 meet-block-spec =

@@ -87,9 +87,7 @@ returns-2 c =
     blocks-stop _ _ _ _ _ _ _ _ _ (call .before .before .before .before .loop .inv .0) (call .before .before .before .loop-test .taken) (call .meet-block .ensures) (c .enum-told .given .1)
 
 same-length-2 : tie.Need-same-length-2 Inv-loop μ-loop
-same-length-2 c =
-    let call = c .before .before .before .before in
-    blocks-stop _ _ _ _ _ _ _ _ _ (call .before .before .before .before .loop .inv .0) (call .before .before .before .loop-test .taken) (call .meet-block .ensures) (c .enum-told .given .1) .kept .long
+same-length-2 c = returns-2 c .kept .long
 
 add-j : tie.Need-add-j Inv-loop μ-loop
 add-j c = omega (arith, c .before .before .before .before .before .before .before .before .loop-test .taken, start (c .before .before .before .before .before .before .before .before .before) .pre .0 .ready .fitting .limits .blocks-most)
