@@ -4,3 +4,4 @@ pub mod Places
 pub mod Links
 pub mod Order
 pub mod Cursors
+pub mod Held

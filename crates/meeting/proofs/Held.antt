@@ -8,7 +8,8 @@ use Rattle.children.specs.Heap.{Holds}
 use Rattle.children.specs.Phys.{first, pageCells, Below}
 use Rattle.meeting.specs.declared.Chain.{Chain}
 use Rattle.meeting.specs.Meets.{Meets, met, after, andThen, chainOf, chainsOf, chain}
-use Rattle.meeting.specs.Held.{HeldChains, HeldAt}
+use Rattle.children.specs.Held.{Held}
+use Rattle.meeting.specs.Held.{HeldChains}
 use Rattle.meeting.proofs.Links.{chain-ended, chain-more}
 
 module _ (N P : List ℕ) (cap : ℕ) where
@@ -41,10 +42,10 @@ module _ (N P : List ℕ) (cap : ℕ) where
       ∙ ap (met (ps ++ flatten lists)) left
 
   -- from one base
-  at-base : (base : ℕ) (lists : List (List ℕ)) → HeldAt N P cap base lists → HeldChains N P cap (map (chain base) (map first lists)) lists
+  at-base : (base : ℕ) (lists : List (List ℕ)) → Held base cap lists N P → HeldChains N P cap (map (chain base) (map first lists)) lists
   at-base base [] h = tt
   at-base base (ps ∷ lists) (holds, below, later) = ((refl, holds, below), at-base base lists later)
 
-  pub chains-at : (base : ℕ) (lists : List (List ℕ)) (total : ℕ) → HeldAt N P cap base lists → length (flatten lists) ≤ total
+  pub chains-at : (base : ℕ) (lists : List (List ℕ)) (total : ℕ) → Held base cap lists N P → length (flatten lists) ≤ total
       → chainsOf P cap total (map (chain base) (map first lists)) ≡ met (flatten lists) (total - length (flatten lists))
   chains-at base lists total h = chains-held (map (chain base) (map first lists)) lists total (at-base base lists h)

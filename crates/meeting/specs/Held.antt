@@ -16,8 +16,3 @@ module _ (N P : List ℕ) (cap : ℕ) where
   HeldChains [] (ps ∷ lists) = ⊥
   HeldChains (c ∷ cs) [] = ⊥
   HeldChains (c ∷ cs) (ps ∷ lists) = HeldChain c ps × HeldChains cs lists
-
-  -- lists of pages, all with their links from one base on
-  abbrev pub HeldAt : ℕ → List (List ℕ) → Type 0
-  HeldAt base [] = Unit {0}
-  HeldAt base (ps ∷ lists) = Holds (pageCells base ps) N P × Below cap ps × HeldAt base lists

@@ -26,10 +26,8 @@ use Rattle.trie_laws.proofs.Nodes.{nodes-some}
 use Rattle.trie_laws.proofs.Pages.{stands-length}
 use Rattle.promises.specs.Sound.{triesCells, Rooted}
 use Rattle.meeting.specs.Meets.{Meets, met as pages, after, andThen, withLeft}
-use Rattle.meeting.specs.Held.{HeldAt}
 use Rattle.meeting.proofs.Held.{chains-at}
 use Rattle.walk.specs.Walk.{walkFrom}
-use Rattle.walk_laws.specs.Held.{Held}
 use Rattle.walk_laws.proofs.Walk.{walk-right}
 use Rattle.traversal.specs.Meets.{walkOf, pagesOf, meetBlock, meetFrom, meetBlocks}
 use Rattle.search_laws.proofs.Meets.{met-most}
@@ -45,11 +43,6 @@ pub record Whole (m : Meets) (ps : List ℕ) (budget read : ℕ) : Type 0 where
   pub left : ℕ
   pub enough : budget ≤ left + read
   pub same : m ≡ pages ps left
-
--- lists of pages that lie in the tables
-held-at : (base cap : ℕ) (lists : List (List ℕ)) (N P : List ℕ) → Held base cap lists N P → HeldAt N P cap base lists
-held-at base cap [] N P h = tt
-held-at base cap (ps ∷ lists) N P h = ((h .0, h .1), held-at base cap lists N P (h .2))
 
 -- what is met first, and what then
 joined : (m : Meets) (go : ℕ → Meets) (ps qs : List ℕ) (k l : ℕ) → m ≡ pages ps k → go k ≡ pages qs l → andThen m go ≡ pages (ps ++ qs) l
@@ -94,7 +87,7 @@ module _ (s : Settings) (limits : HeaderLimits (headerOf s)) (N P x : List ℕ) 
             enough = walk .enough;
             same = ap (λ k. pagesOf (headerOf s) N P x j (walkFrom (walkOf (headerOf s) N P x j) k blockRadius budget)) (sym r)
                 ∙ ap (pagesOf (headerOf s) N P x j) (walk .same)
-                ∙ ap (withLeft (walk .left)) (chains-at N P (s .pages) base (walk .lists) (s .pages) (held-at base (s .pages) (walk .lists) N P (walk .held)) most)
+                ∙ ap (withLeft (walk .left)) (chains-at N P (s .pages) base (walk .lists) (s .pages) (walk .held) most)
                 ∙ ap (λ ps. pages ps (walk .left)) (walk .met);
           }
 

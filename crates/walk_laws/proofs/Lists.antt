@@ -8,7 +8,7 @@ use lib.Dec.{leb, eqb}
 use borrow.Author.Tests.{eq-eqb, ne-eqb}
 use Rattle.meaning.specs.Sketch.{byteDistance}
 use Rattle.meaning.specs.Trie.{Tree, leaf, inner, Children, none, child, met, metIn}
-use Rattle.walk_laws.specs.Held.{Held}
+use Rattle.children.specs.Held.{Held}
 
 unfoldable mutual
   pub lists : ℕ → ℕ → Tree → List ℕ → List (List ℕ)

@@ -14,7 +14,7 @@ use Rattle.children.specs.Heap.{Holds}
 use Rattle.children.specs.Phys.{Phys, Kids, leafP, innerP, noKid, kid, tree, childrenOf, cells, Sound, SoundK}
 use Rattle.children.proofs.Claims.{Trees, kid-trees}
 use Rattle.walk.specs.Given.{Given}
-use Rattle.walk_laws.specs.Held.{Held}
+use Rattle.children.specs.Held.{Held}
 use Rattle.walk_laws.proofs.Fit.{Fit, FitK}
 use Rattle.walk_laws.proofs.Exact.{exact-held, exact-below}
 use Rattle.walk_laws.proofs.Lists.{lists, listsIn, lists-none, lists-some, held-append, held-some}

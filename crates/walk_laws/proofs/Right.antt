@@ -21,7 +21,7 @@ use Rattle.walk.proofs.Run.{from-exact, from-by}
 use Rattle.walk.proofs.Spend.{spend-paid}
 use Rattle.walk_laws.specs.Near.{near, nearK}
 use Rattle.walk_laws.specs.Trail.{trail, trailFrom}
-use Rattle.walk_laws.specs.Held.{Held}
+use Rattle.children.specs.Held.{Held}
 use Rattle.walk_laws.proofs.Ran.{step-end, trail-end, trail-leaf, trail-exact, trail-some}
 use Rattle.walk_laws.proofs.Fit.{Fit}
 use Rattle.walk_laws.proofs.Leads.{stepsBelow, stepsAmong, steps-below}

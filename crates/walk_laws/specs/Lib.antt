@@ -1,3 +1,2 @@
 pub mod Near
 pub mod Trail
-pub mod Held
