@@ -7,13 +7,14 @@ use lib.Dec.{ltb, leb}
 use lib.ListN.{length}
 use Rattle.meaning.specs.Sketch.{distance}
 use Rattle.layout.specs.declared.Header.{Header}
-use Rattle.layout.specs.Header.{bare}
+use Rattle.layout.specs.Header.{headerOf, bare}
 use Rattle.layout.specs.Limits.{HeaderLimits}
 use Rattle.layout.specs.Lengths.{pagesLength, sketchesLength}
 use Rattle.layout.specs.Pages.{isLive, classOf, signatureAt, rowOf}
 use Rattle.layout.specs.Signature.{signature}
 use Rattle.rights.specs.declared.Classes.{Classes}
-use Rattle.rights.specs.Open.{isOpen}
+use Rattle.rights.specs.Open.{isOpen, openClasses}
+use Rattle.promises.specs.Tables.{Tables, given}
 use Rattle.signature.specs.Distance.{signatureDistance}
 
 -- what a page is tested by: the tables, the capacities, the open classes, the query and its radius
@@ -28,6 +29,10 @@ pub record Test : Type 0 where
 abbrev pub test : List ℕ → List ℕ → Header → Classes → List ℕ → ℕ → Test
 test pages sketches header classes query radius =
     record { pages = pages; sketches = sketches; header = header; classes = classes; query = query; radius = radius }
+
+-- by the tables lent to a search, for a reader
+abbrev pub testOf : Tables → ℕ → ℕ → List ℕ → Test
+testOf T reader radius x = test (T .pages) (T .sketches) (headerOf (given T)) (openClasses (T .settings) reader) x radius
 
 -- the capacities are within their limits, the tables long enough for them, and the query has m symbols
 pub record Fitting (t : Test) : Type 0 where

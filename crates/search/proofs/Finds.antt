@@ -1,7 +1,7 @@
 -- Once the tries are walked: what the search answers by the pages met, and by the map of those that passed.
 use Prim.Native.Nat.{ℕ, _*_, _≤_, _<_}
 use native.Mathlib.Omega.{arith}
-use mathlib.Core.Path.{_≡_, refl, sym, _∙_}
+use mathlib.Core.Path.{_≡_, refl}
 use mathlib.Core.Bool.{Bool, false}
 use mathlib.Core.List.{List, []}
 use lib.ListN.{length}
@@ -11,9 +11,9 @@ use Rattle.promises.specs.Readings.{Lists}
 use Rattle.marks.specs.Marks.{Summarised, listOf}
 use Rattle.meeting.specs.declared.Tally.{Tally}
 use Rattle.meeting.specs.declared.Tallies.{Tallies}
-use Rattle.meeting.specs.declared.Tallies.the-variants.{Some, Broken}
+use Rattle.meeting.specs.declared.Tallies.the-variants.{Some}
 use Rattle.meeting.specs.Meets.{Meets, met, broken}
-use Rattle.meeting.specs.Mets.{Met, Meeting}
+use Rattle.meeting.specs.Mets.{Meeting}
 use Rattle.meeting.proofs.Maps.{met-listed}
 use Rattle.search_laws.specs.Answer.{passing, Answered}
 

@@ -22,7 +22,6 @@ use Rattle.layout.specs.declared.Opening.the-variants.{Shown, Refused}
 use Rattle.layout.specs.Settings.{settingsLength, showsOpening}
 use Rattle.layout.specs.Header.{headerOf, bare}
 use Rattle.layout.specs.Lengths.{workingLength}
-use Rattle.layout.specs.Tables.{Fits}
 use Rattle.layout.specs.Working.{mapWords, summaryWords}
 use Rattle.layout.proofs.Sizes.{same-lengths}
 use Rattle.rights.specs.declared.Classes.{Classes}
@@ -35,11 +34,11 @@ use Rattle.entry.specs.Entry.{tablesAsked, entry}
 use Rattle.entry.proofs.Enters.{entry-refused, Entered, entry-shown}
 use Rattle.marks.specs.Marks.{summaryOf}
 use Rattle.hits.specs.declared.Probe.{Probe}
-use Rattle.hits.specs.Hit.{Fitting, passes}
+use Rattle.hits.specs.Hit.{Fitting, testOf, passes}
 use Rattle.hits.specs.Probes.{probeOf, testBy}
 use Rattle.meeting.specs.Meets.{Meets, met, broken}
 use Rattle.traversal.specs.Meets.{meetBlocks}
-use Rattle.search_laws.specs.Answer.{Answered, testOf, meets, AnsweredBy}
+use Rattle.search_laws.specs.Answer.{Answered, meets, AnsweredBy}
 use Rattle.search_laws.proofs.Lists.{foundIn, metBy, list-met, walks-whole, list-all}
 use Rattle.search.specs.Questions.{queryAsked}
 use Rattle.search.proofs.Queries.{query-passed}

@@ -1,26 +1,24 @@
 -- What a search lists: on any tables pages that it met and that it is to list, on a sound store all that it is to list.
-use Prim.Native.Nat.{ℕ, _≤_, _<_}
+use Prim.Native.Nat.{ℕ, _<_}
 use native.Mathlib.Omega.{arith}
 use mathlib.Core.Path.{_≡_, refl, sym, ap, _∙_, subst}
 use mathlib.Core.Bool.{Bool, true, false, _&&_, and-assoc}
 use mathlib.Core.List.{List}
 use lib.Dec.{ltb, eqb}
-use lib.ListN.{length}
 use borrow.Author.Tests.{ltb-true}
 use Rattle.meaning.specs.Lists.{any, upto}
 use Rattle.meaning.specs.Sketch.{inRange}
 use Rattle.meaning.specs.Trie.{Tree}
 use Rattle.meaning.specs.Forest.{metFrom, totalNodes}
 use Rattle.meaning.proofs.Lists.{and-first, keep-from}
-use Rattle.layout.specs.Header.{headerOf}
 use Rattle.layout.specs.Lengths.{sketchesLength}
 use Rattle.layout.specs.Pages.{isLive}
 use Rattle.promises.specs.Tables.{Tables, given, scan}
 use Rattle.promises.specs.Sound.{Sound, livePage, pageBytes}
 use Rattle.promises.specs.Readings.{listedOf}
-use Rattle.hits.specs.Hit.{Fitting, nearQuery, passes}
+use Rattle.hits.specs.Hit.{Fitting, testOf, nearQuery, passes}
 use Rattle.hits.proofs.Wanted.{wanted, passes-wanted, passes-sound}
-use Rattle.search_laws.specs.Answer.{passing, testOf, meets}
+use Rattle.search_laws.specs.Answer.{passing, meets}
 use Rattle.search_laws.proofs.Sound.{Whole, blocks-right}
 use Rattle.search_laws.proofs.Complete.{met-wanted}
 

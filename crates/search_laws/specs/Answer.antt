@@ -6,10 +6,9 @@ use mathlib.Core.List.{List}
 use lib.Dec.{eqb}
 use Rattle.meaning.specs.Lists.{any, keep, upto}
 use Rattle.layout.specs.Header.{headerOf}
-use Rattle.rights.specs.Open.{openClasses}
 use Rattle.promises.specs.Tables.{Tables, given}
 use Rattle.promises.specs.Readings.{Lists, earlyNumber}
-use Rattle.hits.specs.Hit.{Test, test, passes}
+use Rattle.hits.specs.Hit.{testOf, passes}
 use Rattle.meeting.specs.Meets.{Meets, met, broken}
 use Rattle.traversal.specs.Meets.{meetBlocks}
 
@@ -25,10 +24,6 @@ pub record Answered (m : Meets) (hit : ℕ → Bool) (cap : ℕ) (before : List 
 
 -- ---- by the tables
 module _ (T : Tables) (reader radius : ℕ) (x : List ℕ) where
-  -- what a page is tested by
-  abbrev pub testOf : Test
-  testOf = test (T .pages) (T .sketches) (headerOf (given T)) (openClasses (T .settings) reader) x radius
-
   -- what the walks of the blocks lead to
   abbrev pub meets : Meets
   meets = meetBlocks (headerOf (given T)) (T .nodes) (T .pages) x radius
@@ -36,4 +31,4 @@ module _ (T : Tables) (reader radius : ℕ) (x : List ℕ) where
   -- past 11, on any tables: 14 where a walk stopped, else the pages met that pass
   abbrev pub AnsweredBy : List ℕ → ℕ → ℕ → List ℕ → Type 0
   AnsweredBy before n count after =
-      earlyNumber T reader radius x ≡ 0 → Answered meets (passes testOf) (given T .pages) before n count after
+      earlyNumber T reader radius x ≡ 0 → Answered meets (passes (testOf T reader radius x)) (given T .pages) before n count after

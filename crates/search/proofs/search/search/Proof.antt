@@ -1,6 +1,7 @@
 -- `search` keeps its promise.
 use Prim.Native.Nat.{_<_}
 use mathlib.Core.Path.{_≡_, sym, _∙_}
+use native.Mathlib.Omega.{arith}
 use borrow.Author.Needs.{needs}
 use Rattle.layout.specs.declared.Header.{Header}
 use Rattle.layout.specs.declared.Opening.the-variants.{Shown}
@@ -84,7 +85,7 @@ passed : (e : tie.Else1) → (start (known e) .args .reader < 256) × Fits (head
 passed e = query-passed _ _ _ _ (none e)
 
 open-classes-requires : tie.Need-open-classes-requires
-open-classes-requires c κs = (opened (known c) .settings-long, passed c .0)
+open-classes-requires c κs = (opened (known c) .settings-long, omega (arith, passed c .0))
 
 probe-of-requires : tie.Need-probe-of-requires
 probe-of-requires c κs = (opened (known (c .before)) .limits, passed (c .before) .1)
