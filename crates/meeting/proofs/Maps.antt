@@ -3,7 +3,7 @@ use Prim.Native.Nat.{ℕ, _+_, _*_, _/_, _<_, _≤_}
 use native.Mathlib.Omega.{arith}
 use native.Mathlib.Nat.{add-zero, zero-add}
 use mathlib.Core.Path.{_≡_, refl, sym, ap, subst, _∙_}
-use mathlib.Core.Bool.{Bool, true, false, cond, _&&_, _||_, or-false}
+use mathlib.Core.Bool.{Bool, true, false, false≢true, _&&_, _||_, or-false}
 use mathlib.Core.List.{List, [], _∷_, _++_}
 use lib.Dec.{eqb}
 use lib.ListN.{length}
@@ -68,14 +68,6 @@ module _ (hit : ℕ → Bool) (words : ℕ) where
   }
 
   -- ---- one page
-  -- as the code has it
-  module _ (map : List ℕ) (p : ℕ) where
-    pub turned-out : hit p ≡ false → Turned hit words map p map 0
-    turned-out e = record { map = rw e; new = rw e }
-
-    pub turned-in : (after : List ℕ) (r : ℕ) → hit p ≡ true → after ≡ marked map words p → r ≡ fresh map p → Turned hit words map p after r
-    turned-in after r e f g = record { map = rw e f; new = rw e g }
-
   module _ (map : List ℕ) (p : ℕ) (inside : p / 32 < words) (room : Room map words) where
     left-out : hit p ≡ false → Met hit words map (p ∷ []) map
     unfolding any
@@ -102,20 +94,32 @@ module _ (hit : ℕ → Bool) (words : ℕ) where
         all true t e = sym (e refl)
         all false t e = refl
 
-    module _ (after : List ℕ) (r : ℕ) (turned : Turned hit words map p after r) where
-      pub turned-met : Met hit words map (p ∷ []) after
-      turned-met = subst (Met hit words map (p ∷ [])) (sym (turned .map)) (go (hit p) refl)
-        where
-          go : (t : Bool) → hit p ≡ t → Met hit words map (p ∷ []) (cond t (marked map words p) map)
-          go true e = put-in e
-          go false e = left-out e
+    -- a page that is marked already need not be tested
+    again : flag map 0 p ≡ true → Met hit words map (p ∷ []) map
+    unfolding any
+    again e = record {
+      kept = kept-same words map;
+      flags = λ k h. sym (there (flag map 0 k) (eqb k p) (hit k) (λ q. ap (flag map 0) (eqb-true k p q) ∙ e));
+      summarised = λ s. s;
+    }
+      where
+        there : (f q t : Bool) → (q ≡ true → f ≡ true) → f || ((q || false) && t) ≡ f
+        there true q t e = refl
+        there false true t e = absurd (false≢true (e refl))
+        there false false t e = refl
 
-      pub turned-count : length (listOf after words) ≡ length (listOf map words) + r
-      turned-count = ap (λ l. length (listOf l words)) (turned .map) ∙ go (hit p) ∙ ap (λ d. length (listOf map words) + d) (sym (turned .new))
-        where
-          go : (t : Bool) → length (listOf (cond t (marked map words p) map) words) ≡ length (listOf map words) + cond t (fresh map p) 0
-          go true = marked-count map words p inside room
-          go false = sym (add-zero (length (listOf map words)))
+    -- as the code has it
+    pub turned-again : flag map 0 p ≡ true → Turned hit words map p map 0
+    turned-again e = record { met = again e; new = sym (add-zero (length (listOf map words))) }
+
+    pub turned-out : hit p ≡ false → Turned hit words map p map 0
+    turned-out e = record { met = left-out e; new = sym (add-zero (length (listOf map words))) }
+
+    pub turned-in : (after : List ℕ) (r : ℕ) → hit p ≡ true → after ≡ marked map words p → r ≡ fresh map p → Turned hit words map p after r
+    turned-in after r e f g = record {
+      met = subst (Met hit words map (p ∷ [])) (sym f) (put-in e);
+      new = ap (λ l. length (listOf l words)) f ∙ marked-count map words p inside room ∙ ap (λ d. length (listOf map words) + d) (sym g);
+    }
 
   -- ---- what is listed then
   -- from a map without marks: the pages met that are hits, all below the capacity, once each and rising
