@@ -61,15 +61,6 @@ pub record Same (xs ys : Cells) : Type 0 where
   pub to : Less xs ys
   pub back : Less ys xs
 
-pub same-trans : {xs ys zs : Cells} → Same xs ys → Same ys zs → Same xs zs
-same-trans s r = record { to = less-trans (s .to) (r .to); back = less-trans (r .back) (s .back) }
-
-pub same-right : {xs ys : Cells} (zs : Cells) → Same xs ys → Same (zs ⊕ xs) (zs ⊕ ys)
-same-right zs s = record { to = less-right zs (s .to); back = less-right zs (s .back) }
-
-pub same-left : {xs ys : Cells} (zs : Cells) → Same xs ys → Same (xs ⊕ zs) (ys ⊕ zs)
-same-left zs s = record { to = less-left zs (s .to); back = less-left zs (s .back) }
-
 pub same-assoc : (xs ys zs : Cells) → Same ((xs ⊕ ys) ⊕ zs) (xs ⊕ ys ⊕ zs)
 same-assoc xs ys zs =
     record {

@@ -5,4 +5,3 @@ pub mod Maps
 pub mod Rounds
 pub mod Held
 pub mod Example
-pub mod Answers

@@ -12,6 +12,5 @@ pub mod Pages
 pub mod Through
 pub mod Right
 pub mod Walk
-pub mod Blocks
 pub mod Example
 pub mod Deeper

@@ -1,21 +1,16 @@
--- The walk over one block's trie, on tables that hold a sound one: it gives exactly the leaves whose pages are met, all of them below the page
--- capacity, goes through exactly the nodes within the radius, and reads each node behind the root at most once.
-use Prim.Native.Nat.{ℕ, suc, _+_, _-_, _*_, _^_, _≤_, _<_}
+-- The walk over one block's trie, on tables that hold a sound one: it gives exactly the leaves whose pages are met, goes through exactly the nodes within the radius, and reads each node behind the root at most once.
+use Prim.Native.Nat.{ℕ, _+_, _*_, _^_, _≤_, _<_}
 use native.Mathlib.Omega.{arith}
-use mathlib.Core.Path.{_≡_, refl, ap, _∙_}
-use mathlib.Core.Bool.{Bool, true, false, cond}
-use mathlib.Core.List.{List, [], _∷_, _++_}
-use lib.Dec.{ltb, leb}
+use mathlib.Core.Path.{_≡_, ap, _∙_}
+use mathlib.Core.Bool.{true}
+use mathlib.Core.List.{List}
 use lib.ListN.{length, getD}
-use lib.Bits.{bitXor}
-use Rattle.meaning.specs.Lists.{all, count}
-use Rattle.meaning.specs.Sketch.{perByte, byteDistance}
-use Rattle.meaning.specs.Trie.{met, metIn, nodes}
-use Rattle.meaning.proofs.Lists.{all-append, and-intro}
+use Rattle.meaning.specs.Lists.{count}
+use Rattle.meaning.specs.Sketch.{perByte}
+use Rattle.meaning.specs.Trie.{nodes}
 use Rattle.layout.specs.Nodes.{mostNodes}
 use Rattle.children.specs.Heap.{Holds}
-use Rattle.children.specs.Phys.{Phys, Kids, leafP, innerP, noKid, kid, root, tree, childrenOf, cells, Sound, SoundK}
-use Rattle.children.proofs.Claims.{below-all}
+use Rattle.children.specs.Phys.{Phys, root, tree, cells, Sound}
 use Rattle.trie_laws.specs.Sound.{soundTrie}
 use Rattle.walk.specs.Given.{Given}
 use Rattle.walk_laws.specs.Near.{near, nearNodes, pathsIn, pathNear}
@@ -63,31 +58,3 @@ module _ (w : Given) (base pcap : ℕ) (P : List ℕ) (bytesOf : ℕ → List �
         ap (λ r. nearNodes (w .b) r (tree t) (w .bytes)) z,
         near-zero bytesOf (w .b) n (length (w .bytes)) (tree t) 0 (w .bytes) query sound,
       )
-
--- ---- what is met is below the page capacity
-module _ (cap pcap b : ℕ) where
-  abbrev small : List ℕ → Bool
-  small ps = all (λ p. ltb p pcap) ps
-
-  both-small : (ps qs : List ℕ) → small ps ≡ true → small qs ≡ true → small (ps ++ qs) ≡ true
-  both-small ps qs h g = all-append (λ p. ltb p pcap) ps qs ∙ and-intro (small ps) (small qs) h g
-
-  cond-small : (q : Bool) (ps : List ℕ) → small ps ≡ true → small (cond q ps []) ≡ true
-  unfolding all
-  cond-small true ps h = h
-  cond-small false ps h = refl
-
-  mutual
-    unfolding met metIn all
-
-    pub met-small : (t : Phys) (r : ℕ) (ys : List ℕ) → Sound cap pcap t → small (met b r (tree t) ys) ≡ true
-    met-small (leafP x ps) r ys s = below-all pcap ps (s .1)
-    met-small (innerP x ks) r ys s = met-small-kids ks r ys 0 (s .1)
-
-    met-small-kids : (ks : Kids) (r : ℕ) (ys : List ℕ) (lo : ℕ) → SoundK cap pcap ks lo → small (metIn b r (childrenOf ks) ys) ≡ true
-    met-small-kids noKid r ys lo s = refl
-    met-small-kids (kid c t ks) r [] lo s = refl
-    met-small-kids (kid c t ks) r (y ∷ ys) lo s =
-        let d : ℕ = byteDistance b (bitXor c y) in
-        both-small (cond (leb d r) (met b (r - d) (tree t) ys) []) (metIn b r (childrenOf ks) (y ∷ ys))
-        (cond-small (leb d r) (met b (r - d) (tree t) ys) (met-small t (r - d) ys (s .2))) (met-small-kids ks r (y ∷ ys) (suc c) (s .3))
