@@ -16,18 +16,18 @@
  *   14  the tables are damaged: a link that was followed leads outside its table
  *       or to a free node, an inner node stands where no byte is left, or more
  *       nodes or pages were passed than a sound store has. Drop: the page is in
- *       no leaf on its path. Add: a leaf to be split has children, or the free
- *       nodes ran out after all. Add and drop may have changed words of the
- *       trees, and add the page's row. It never occurs on tables that only
- *       these calls have written
+ *       no leaf on its path. Add: a leaf to be split has a child, which is no
+ *       leaf, or the free nodes ran out after all. Add and drop may have changed
+ *       words of the trees, and add the page's row. It never occurs on tables
+ *       that only these calls have written
  *
  * and 1 to 3 of a journal command's form. docs/OPERATING.md says what to do.
  *
  * Any numbers and any contents may be handed over. A slice or table is a pointer
  * and a length; the pointer is not read where the length is 0. A pointer to a
  * single number must not be null. What a call writes must not overlap what else
- * it is lent. A longer table, and an output, keeps its rest as
- * it was; a refused call changes nothing but the working table, and 14 as said.
+ * it is lent. A longer table, and an output, keeps its rest as it was; a refused
+ * call changes nothing but the working table, and 14 as said.
  *
  * The calls keep nothing between them and take no lock: see to it that no call
  * runs on tables that another one writes (docs/OPERATING.md).
@@ -110,9 +110,10 @@ uint32_t vetch_revoke(uint32_t *settings, size_t settings_len, uint32_t group,
                       uint32_t class_of_pages);
 
 /* All pages within the radius (0 to 64) of a sketch, of the classes open to the
- * reader now, in rising order; on damaged tables some of them may be missing. *count is how many there are, with 13 too: so
- * many places the output needs. With any other refusal it is 0. The needed part
- * of the working table holds zeros afterwards, unless 5 or 6 refused the call. */
+ * reader now, in rising order; on damaged tables some of them may be missing.
+ * *count is how many there are, with 13 too: so many places the output needs.
+ * With any other refusal it is 0. The needed part of the working table holds
+ * zeros afterwards, unless 5 or 6 refused the call. */
 uint32_t vetch_search(const uint32_t *settings, size_t settings_len,
                       const uint32_t *nodes, size_t nodes_len,
                       const uint32_t *pages, size_t pages_len,

@@ -1,5 +1,6 @@
 -- A store is sound (document 01): the tables hold a trie for each block, in which the live pages stand and no others, and every
--- other node is free to use. It need not be one that calls can reach.
+-- other node is free to use. It need not be one that calls can reach. This layout adds that the signature stored for a live page is
+-- that of its row.
 use Prim.Native.Nat.{ℕ, suc, _+_, _<_}
 use mathlib.Core.Path.{_≡_}
 use mathlib.Core.Bool.{Bool, true, _&&_}
@@ -23,7 +24,7 @@ abbrev pub triesCells : ℕ → ℕ → ℕ → List Phys → Cells
 triesCells N P j [] = nil
 triesCells N P j (t ∷ ts) = cells N (nextAt P j) t ⊕ triesCells N P (suc j) ts
 
--- node j is the root of block j; numbers are below the capacities, and siblings rise within their chains
+-- node j is the root of block j; numbers are below the capacities, and siblings rise
 abbrev pub Rooted : ℕ → ℕ → ℕ → List Phys → Type 0
 Rooted N P j [] = Unit {0}
 Rooted N P j (t ∷ ts) = (root t ≡ j) × SoundNodes N P t × Rooted N P (suc j) ts

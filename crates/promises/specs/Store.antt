@@ -1,4 +1,4 @@
--- What add, drop, search and check promise. On a sound store every answer and table is settled, but for what is named here; on any
+-- What add and drop promise. On a sound store every answer and table is settled, but for what is named here; on any
 -- other, what is left open is said, and what holds of it.
 --
 -- What the promises of add and drop leave open on a sound store: the numbers of the nodes that are no roots, as which node a fresh leaf

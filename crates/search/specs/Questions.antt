@@ -1,4 +1,4 @@
--- 7, 10 and 11 of a search. 5 and 6 are those of every call that takes all the tables (`entry` of index).
+-- 7, 10 and 11 of a search. 5 and 6 are those of every call that takes all the tables (crate `entry`).
 use Prim.Native.Nat.{ℕ}
 use mathlib.Core.Bool.{_&&_}
 use mathlib.Core.List.{List, [], _∷_}
