@@ -18,7 +18,6 @@ use Rattle.meaning.specs.Trie.{byteAt}
 use Rattle.meaning.specs.Ledger.{Settings}
 use Rattle.meaning.specs.Forest.{blockBytes, bytesOfSketch}
 use Rattle.layout.specs.Pages.{rowOf}
-use Rattle.layout.specs.Header.{headerOf, bare}
 use Rattle.sketch.specs.Settings.{Bits}
 use Rattle.sketch.proofs.Lists.{window}
 use Rattle.sketch.proofs.BlockEnds.{block-ends}
@@ -77,11 +76,6 @@ unfolding rowBytes
 row-same s j S p r = rw (reduced-same (s .bits) (rowOf (s .symbols) S p) r)
 
 -- ---- block j
--- a header has all that is asked of settings
-pub rows-bare : (s : Settings) (j : ℕ) → rowsOf (bare (headerOf s)) j ≡ rowsOf s j
-unfolding rowsOf blockBytes
-rows-bare s j = refl
-
 -- the symbols of byte k of a block of len symbols, as far as it has them
 part : (z len k : ℕ) (xs : List ℕ) → take (min z (len - k * z)) (drop (k * z) xs) ≡ take (min z (len - k * z)) (drop (min (k * z) len) xs)
 part z len k xs =

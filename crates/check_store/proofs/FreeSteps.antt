@@ -7,9 +7,8 @@ use mathlib.Core.Logic.{_≢_}
 use mathlib.Core.List.{List}
 use borrow.Author.Tests.{eq-eqb, ne-eqb, lt-ltb, le-ltb, not-true, not-false}
 use lib.Dec.{ltb}
-use lib.ListN.{getD}
 use Rattle.layout.specs.Nodes.{freeState, leafState}
-use Rattle.layout.specs.States.{kindOf, stateOf}
+use Rattle.layout.specs.States.{kindOf, stateOf, nextFree}
 use Rattle.layout.specs.declared.nodes.Kind.the-variants.{Free, Inner, Leaf}
 use Rattle.layout.proofs.States.{state-kind}
 use Rattle.node_check.specs.declared.leaf.Left.{Left}
@@ -47,7 +46,7 @@ module _ (N : List ℕ) (cap link f : ℕ) (R : Left) (inv : freeFrom N cap link
     chain-spent z = rw (← inv, z, ne-eqb link 0 some) refl
 
     module _ (more : f ≢ 0) where
-      step : cond (ltb cap link) Failed (cond (isFree N cap (link - 1)) (freeFrom N cap (getD N (link - 1) 0) (f - 1)) Failed) ≡ R
+      step : cond (ltb cap link) Failed (cond (isFree N cap (link - 1)) (freeFrom N cap (nextFree N (link - 1)) (f - 1)) Failed) ≡ R
       unfolding freeFrom
       step =
           let q : f ≡ suc (f - 1) = omega arith in
@@ -57,11 +56,11 @@ module _ (N : List ℕ) (cap link f : ℕ) (R : Left) (inv : freeFrom N cap link
       chain-broken h = rw (lt-ltb cap link (omega arith)) at step
 
       module _ (inside : link - 1 < cap) (r : Bool) (free : r ≡ isFree N cap (link - 1)) where
-        tested : cond r (freeFrom N cap (getD N (link - 1) 0) (f - 1)) Failed ≡ R
+        tested : cond r (freeFrom N cap (nextFree N (link - 1)) (f - 1)) Failed ≡ R
         tested = rw free (rw (le-ltb cap link (omega arith)) at step)
 
         pub chain-used : not r ≡ true → Failed ≡ R
         chain-used e = rw (not-true r e) at tested
 
-        pub chain-next : not r ≡ false → freeFrom N cap (getD N (link - 1) 0) (f - 1) ≡ R
-        chain-next e = rw (not-false r e) at tested
+        pub chain-next : not r ≡ false → (next : ℕ) → next ≡ nextFree N (link - 1) → freeFrom N cap next (f - 1) ≡ R
+        chain-next e next is = rw is (rw (not-false r e) at tested)

@@ -7,7 +7,7 @@ use mathlib.Core.Logic.{by-cases}
 use mathlib.Core.Bool.{Bool, true, false, cond}
 use mathlib.Core.List.{List}
 use borrow.Author.Tests.{lt-ltb, ltb-true, eq-eqb, eqb-true}
-use lib.Dec.{ltb, eqb}
+use lib.Dec.{ltb}
 use Rattle.meaning.specs.Lists.{count, from, upto}
 use Rattle.meaning.specs.Sketch.{inRange}
 use Rattle.meaning.specs.Ledger.{Settings}

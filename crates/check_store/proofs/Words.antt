@@ -16,7 +16,8 @@ use Rattle.children.specs.Phys.{Phys, tree, cells, freeCells, Below}
 use Rattle.children.specs.Phys.{Sound as SoundNodes}
 use Rattle.meaning.specs.Trie.{pagesIn}
 use Rattle.trie_check_laws.specs.Uses.{uses}
-use Rattle.trie_check_laws.proofs.Claims.{owner, trie-words, state-claims, free-words, uses-beyond, used-state, free-zero}
+use Rattle.children.proofs.Owner.{owner}
+use Rattle.trie_check_laws.proofs.Claims.{trie-words, state-claims, free-words, uses-beyond, used-state, free-zero}
 use Rattle.store.proofs.Claims.{free-none, trie-claims, trie-none, tries-behind}
 use Rattle.promises.specs.Sound.{triesCells, Rooted}
 use Rattle.check_store.proofs.Tries.{Each, usesAll}

@@ -5,6 +5,7 @@ use mathlib.Core.List.{List}
 use lib.Dec.{ltb, eqb}
 use lib.ListN.{getD}
 use Rattle.layout.specs.Nodes.{stateAt, freeState}
+use Rattle.layout.specs.States.{nextFree}
 use Rattle.node_check.specs.declared.leaf.Left.{Left}
 use Rattle.node_check.specs.declared.leaf.Left.the-variants.{Some, Failed}
 use Rattle.children.specs.Order.{bare}
@@ -19,7 +20,7 @@ freeFrom N cap link zero = cond (eqb link 0) (Some 0) Failed
 freeFrom N cap link (suc f) =
     cond (eqb link 0) (Some (suc f))
     (cond (ltb cap link) Failed
-    (cond (isFree N cap (link - 1)) (freeFrom N cap (getD N (link - 1) 0) f) Failed))
+    (cond (isFree N cap (link - 1)) (freeFrom N cap (nextFree N (link - 1)) f) Failed))
 
 -- how many nodes are not free
 unfoldable pub testFree : List ℕ → ℕ → ℕ → Left

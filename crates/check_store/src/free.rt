@@ -4,6 +4,7 @@ ghost use Prim.Native.Nat.{_<_};
 ghost use Rattle.layout.specs.Tables.{NodeTable};
 ghost use Rattle.check_store.specs.Free.{isFree, testFree};
 use layout::nodes::Kind;
+use layout::nodes::next_free;
 use node_check::leaf::Left;
 
 fn is_free(nodes: &[u32], cap: usize, x: usize) -> bool
@@ -39,7 +40,7 @@ pub fn test_free(nodes: &[u32], cap: usize, first: u32) -> Left
         if !is_free(nodes, cap, x) {
             return Left::Failed;
         }
-        link = nodes[x];
+        link = next_free(nodes, cap, x);
         left -= 1;
     }
 }

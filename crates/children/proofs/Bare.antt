@@ -1,5 +1,5 @@
 -- A node without children, as `is_bare` tests it and as it lies in the tables.
-use Prim.Native.Nat.{ℕ, _<_}
+use Prim.Native.Nat.{ℕ, _≤_, _<_}
 use native.Mathlib.Omega.{arith}
 use mathlib.Core.Path.{_≡_, refl}
 use mathlib.Core.Bool.{true}
@@ -8,7 +8,7 @@ use borrow.Author.Tests.{eq-eqb, eqb-true}
 use lib.Dec.{eqb}
 use lib.ListN.{getD}
 use Rattle.meaning.specs.Lists.{all, from, upto}
-use Rattle.layout.specs.Nodes.{headAt}
+use Rattle.layout.specs.Nodes.{headAt, headsAt, nodeWords}
 use Rattle.meaning.proofs.Lists.{upto-all}
 use Rattle.children.specs.Heap.{Holds}
 use Rattle.children.specs.Phys.{noKids}
@@ -37,3 +37,7 @@ module _ (N P : List ℕ) (cap x : ℕ) where
         at 7 (omega arith),
       )
       refl
+
+  -- where all heads are 0
+  pub zeros-bare : x < cap → ((a : ℕ) → headsAt cap ≤ a → a < nodeWords cap → getD N a 0 ≡ 0) → Holds (noKids cap x) N P
+  zeros-bare h z = held-heads cap x N P (λ g. 0) 8 0 (λ g l m. z (headAt cap x g) (omega arith) (omega arith))

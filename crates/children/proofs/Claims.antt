@@ -1,6 +1,6 @@
 -- What the cells of a trie claim: the links of the pages in a chain, once for each time that a page stands there, the heads of a node, and
 -- the words of its children; and what its pages are below.
-use Prim.Native.Nat.{ℕ, zero, suc, _+_, _≤_, _<_}
+use Prim.Native.Nat.{ℕ, zero, suc, _+_, _≤_}
 use native.Mathlib.Omega.{arith}
 use mathlib.Core.Path.{_≡_, refl}
 use mathlib.Core.Bool.{Bool, true, false, cond}

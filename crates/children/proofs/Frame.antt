@@ -40,22 +40,6 @@ less-right zs l =
       pages = λ a. omega (arith, l .pages a);
     }
 
-pub less-left : {xs ys : Cells} (zs : Cells) → Less xs ys → Less (xs ⊕ zs) (ys ⊕ zs)
-less-left zs l =
-    record {
-      holds = λ N P h. (l .holds N P (h .0), h .1);
-      nodes = λ a. omega (arith, l .nodes a);
-      pages = λ a. omega (arith, l .pages a);
-    }
-
-pub less-trans : {xs ys zs : Cells} → Less xs ys → Less ys zs → Less xs zs
-less-trans l m =
-    record {
-      holds = λ N P h. m .holds N P (l .holds N P h);
-      nodes = λ a. omega (arith, l .nodes a, m .nodes a);
-      pages = λ a. omega (arith, l .pages a, m .pages a);
-    }
-
 -- the same cells in another order
 pub record Same (xs ys : Cells) : Type 0 where
   pub to : Less xs ys

@@ -5,6 +5,7 @@ pub mod Steps
 pub mod Places
 pub mod Kids
 pub mod Claims
+pub mod Owner
 pub mod Held
 pub mod SpotList
 pub mod Spot

@@ -1,5 +1,5 @@
 -- On any table, `findPlace` gives a slot and a child inside it.
-use Prim.Native.Nat.{ℕ, zero, suc, _*_, _/_, _<_}
+use Prim.Native.Nat.{ℕ, zero, suc, _/_, _<_}
 use native.Mathlib.Omega.{arith}
 use mathlib.Core.Path.{_≡_, refl}
 use mathlib.Core.Bool.{Bool, true, false, cond}

@@ -89,6 +89,3 @@ module _ (cap pcap base : ℕ) (small : cap ≤ mostNodes) {ks : Kids} {n b : �
     spot-none =
         ap (λ (js : Kids). has b (childrenOf js)) (sym spot-same) ∙ ap (has b) (s .children gap)
         ∙ out-none b (s .before (s .later)) (s .skip (out b) (out-skips b) (s .later) ∙ ap (s .before) (rw (has-above b (s .later) (s .above)) refl))
-
-    pub spot-put : (v : Phys) → childrenOf (s .put (held v)) ≡ putChild b (tree v) (childrenOf ks)
-    spot-put v = with-child v ∙ ap (λ (js : Kids). putChild b (tree v) (childrenOf js)) spot-same

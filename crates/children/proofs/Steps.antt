@@ -1,5 +1,5 @@
 -- `placeFrom`, one step at a time, and the bounds that a match on a place tells.
-use Prim.Native.Nat.{ℕ, suc, _*_, _-_, _<_, _≤_}
+use Prim.Native.Nat.{ℕ, suc, _-_, _<_, _≤_}
 use mathlib.Core.Path.{_≡_, ap, _∙_, sym}
 use mathlib.Core.List.{List}
 use mathlib.Core.Bool.{cond}

@@ -32,9 +32,6 @@ module _ (h : Header) (x : List ℕ) where
     pub long : length out ≡ 512
     pub each : (i k : ℕ) → i < j → k < length (bytesOf i) → getD out (64 * i + k) 0 ≡ getD (bytesOf i) k 0
 
-  pub packed-none : (out : List ℕ) → length out ≡ 512 → PackedTo out 0
-  packed-none out e = record { most = omega arith; long = e; each = λ i k l m. absurd (omega arith) }
-
   pub packed-all : {out : List ℕ} {j : ℕ} → PackedTo out j → h .q ≤ j → Packed h x out
   packed-all p end = record { long = p .long; each = λ i k l m. p .each i k (omega (arith, p .most)) m }
 

@@ -10,16 +10,9 @@ use Rattle.meaning.specs.Refusal.{firstNo}
 use Rattle.meaning.specs.Trie.{Tree}
 use Rattle.meaning.specs.Ledger.{drop}
 use Rattle.meaning.specs.Questions.{asked}
-use Rattle.layout.specs.Lengths.{pagesLength, sketchesLength, nodesLength}
+use Rattle.layout.specs.Lengths.{pagesLength, sketchesLength}
 use Rattle.layout.specs.Pages.{isLive}
-use Rattle.layout.proofs.Rows.{row-inside, rows-apart}
-use Rattle.meaning.proofs.Lists.{and-first, and-second}
-use Rattle.layout.specs.Settings.{settingsLength, showsOpening}
-use Rattle.layout.specs.declared.Header.{Header}
-use Rattle.layout.specs.declared.Opening.the-variants.{Shown, Refused}
-use Rattle.layout.specs.Header.{headerOf, tablesFirst, pick}
-use Rattle.layout.specs.Limits.{HeaderLimits}
-use Rattle.layout.proofs.Openings.{shown, shows, apart}
+use Rattle.layout.proofs.Rows.{row-inside}
 use Rattle.layout.proofs.Words.{signature-inside}
 use Rattle.promises.specs.Tables.{Tables, given, byTables}
 use Rattle.promises.specs.Answers.{number, entered, shown56, longSettings, longFor}

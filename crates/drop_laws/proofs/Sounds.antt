@@ -16,8 +16,8 @@ use Rattle.meaning.specs.Forest.{bytesOfSketch, bytesIn, eachFrom, forestAfter,
 use Rattle.meaning.proofs.Lists.{and-first}
 use Rattle.layout.specs.Settings.{freeAt, settingsOf}
 use Rattle.layout.specs.Lengths.{pagesLength}
-use Rattle.layout.specs.Pages.{isLive, signatureAt, rowOf, withoutPage, linksAt, nextAt}
-use Rattle.layout.proofs.Words.{live-struck, live-struck-other, class-struck-other, signature-struck, live-kept, class-kept, signature-kept, link-behind}
+use Rattle.layout.specs.Pages.{isLive, signatureAt, rowOf, withoutPage, linksAt}
+use Rattle.layout.proofs.Words.{live-struck, live-struck-other, class-struck-other, signature-struck, live-kept, class-kept, signature-kept}
 use Rattle.layout.proofs.Written.{settings-set}
 use Rattle.children.specs.Heap.{Cells, Heap, hit, pageClaims, nil, page, _⊕_}
 use Rattle.children.specs.Phys.{tree, freeCells}

@@ -18,7 +18,7 @@ use Rattle.layout.specs.Limits.{HeaderLimits}
 use Rattle.layout.specs.Settings.{settingsLength, showsOpening}
 use Rattle.layout.specs.Lengths.{nodesLength, pagesLength, sketchesLength, workingLength}
 use Rattle.layout.specs.Working.{mapWords, summaryWords}
-use Rattle.layout.proofs.Openings.{shown, shows, shown-number, refused-number, refused-range}
+use Rattle.layout.proofs.Openings.{shown, shows}
 use Rattle.promises.specs.Tables.{Tables, tables, given}
 use Rattle.promises.specs.Answers.{longNodes, longPages, longWorking}
 use Rattle.entry.specs.Entry.{storeAsked, storeEntry, tablesAsked, entry}

@@ -14,13 +14,13 @@ use Rattle.meaning.specs.Ledger.{Settings, opening}
 use Rattle.meaning.specs.Questions.{inLimits}
 use Rattle.meaning.proofs.Lists.{length-from}
 use Rattle.layout.specs.Settings.{freeAt, header, registerLength}
-use Rattle.layout.specs.Nodes.{nodeWords, headAt, stateAt, freeState}
+use Rattle.layout.specs.Nodes.{nodeWords, headsAt, stateAt, freeState}
 use Rattle.layout.specs.Pages.{isLive}
 use Rattle.layout.specs.Lengths.{nodesLength}
 use Rattle.layout.proofs.Limits.{bounds}
 use Rattle.children.specs.Heap.{Holds}
 use Rattle.children.specs.Phys.{tree, first, noKids, freeCells, Below}
-use Rattle.children.proofs.Kids.{held-heads}
+use Rattle.children.proofs.Bare.{zeros-bare}
 use Rattle.trie_laws.proofs.Block.{fresh-forest}
 use Rattle.trie_laws.proofs.Forest.{total-fresh}
 use Rattle.promises.specs.Tables.{Tables, given}
@@ -65,15 +65,15 @@ module _ (s : Settings) (limits : inLimits s ≡ true) (T : Tables) where
       word-at (N + x) (omega arith) ∙ past-map (freshChain s) N _ x
       ∙ unfold upto in map-from (freshState s) 0 N _ x h ∙ ap (freshState s) (omega arith)
 
-  head-at : (x g : ℕ) → x < N → g < 8 → getD ws (headAt N x g) 0 ≡ 0
+  heads-zero : (a : ℕ) → headsAt N ≤ a → a < nodeWords N → getD ws a 0 ≡ 0
   unfolding freshNodes
-  head-at x g h l =
-      let e : headAt N x g ≡ N + (N + (8 * x + g)) = omega arith in
-      word-at (headAt N x g) (omega arith)
-      ∙ rw (e, past-map (freshChain s) N _ (N + (8 * x + g)), past-map (freshState s) N _ (8 * x + g)) (getD-replicate (8 * N) (8 * x + g) 0 0 (omega arith))
+  heads-zero a l h =
+      let e : a ≡ N + (N + (a - headsAt N)) = omega arith in
+      word-at a h
+      ∙ rw (e, past-map (freshChain s) N _ (N + (a - headsAt N)), past-map (freshState s) N _ (a - headsAt N)) (getD-replicate (8 * N) (a - headsAt N) 0 0 (omega arith))
 
   no-heads : (x : ℕ) → x < N → Holds (noKids N x) ws (opened s T .pages)
-  no-heads x h = held-heads N x ws (opened s T .pages) (λ g. 0) 8 0 (λ g l m. head-at x g h (omega arith))
+  no-heads x h = zeros-bare ws (opened s T .pages) N x h heads-zero
 
   -- the roots are empty leaves
   tries-held : (P j n : ℕ) → j + n ≤ s .blocks → s .blocks ≤ N → Holds (triesCells N P j (roots j n)) ws (opened s T .pages)

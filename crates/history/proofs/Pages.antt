@@ -10,11 +10,9 @@ use lib.ListN.{length, take}
 use borrow.Author.Tests.{eqb-true, eqb-false}
 use Rattle.meaning.specs.Lists.{keep}
 use Rattle.meaning.specs.Ledger.{Row, row, putRow}
-use Rattle.layout.specs.Pages.{isLive, classOf, rowOf, withPage, withoutPage, linksAt}
-use Rattle.layout.specs.Settings.{membersAt}
+use Rattle.layout.specs.Pages.{isLive, classOf, rowOf, withPage, withoutPage}
 use Rattle.layout.proofs.Words.{live-kept, class-kept, live-written, live-written-other, class-written, class-written-other, live-struck, live-struck-other, class-struck-other}
-use Rattle.layout.proofs.Written.{settings-kept}
-use Rattle.promises.specs.Tables.{Tables, given, pageClass, pageRow, rowsFrom, rowsOf}
+use Rattle.promises.specs.Tables.{rowsFrom}
 use Rattle.history.proofs.Lists.{rows-upto, rows-put, rows-strike}
 
 -- the row of a page, m symbols a row, and the rows of P pages
@@ -23,24 +21,6 @@ rowAt m pages sketches p = row p (classOf pages p) (rowOf m sketches p)
 
 abbrev pub rowsIn : ℕ → ℕ → List ℕ → List ℕ → List Row
 rowsIn P m pages sketches = rowsFrom (isLive pages) (rowAt m pages sketches) 0 P
-
--- ---- they are read off the first 2 × P words of the page table: the links behind are not read
-
-rows-same : (P m : ℕ) (pages pages′ sketches sketches′ : List ℕ) → take (2 * P) pages′ ≡ take (2 * P) pages
-    → ((i : ℕ) → i < P → rowOf m sketches′ i ≡ rowOf m sketches i) → rowsIn P m pages′ sketches′ ≡ rowsIn P m pages sketches
-rows-same P m pages pages′ sketches sketches′ e rows =
-    rows-upto (isLive pages′) (isLive pages) (rowAt m pages′ sketches′) (rowAt m pages sketches) P
-    (live-kept P pages′ pages e)
-    (λ i h live. cc (class-kept P pages′ pages e i h, rows i h))
-
--- of all tables they read the header, these words and the rows of the sketch table
-pub rows-of : (T T′ : Tables) → take membersAt (T′ .settings) ≡ take membersAt (T .settings)
-    → take (linksAt (given T .pages)) (T′ .pages) ≡ take (linksAt (given T .pages)) (T .pages)
-    → ((i : ℕ) → i < given T .pages → rowOf (given T .symbols) (T′ .sketches) i ≡ rowOf (given T .symbols) (T .sketches) i) → rowsOf T′ ≡ rowsOf T
-unfolding rowsOf pageClass pageRow
-rows-of T T′ h e rows =
-    rw (settings-kept (T′ .settings) (T .settings) h)
-    (rows-same (given T .pages) (given T .symbols) (T .pages) (T′ .pages) (T .sketches) (T′ .sketches) e rows)
 
 -- ---- page p written, or struck out, and the links in any way
 

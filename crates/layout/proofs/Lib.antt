@@ -6,5 +6,4 @@ pub mod Openings
 pub mod Sizes
 pub mod Words
 pub mod Rows
-pub mod Links
 pub mod States

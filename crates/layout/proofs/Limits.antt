@@ -3,7 +3,7 @@ use Prim.Native.Nat.{ℕ, _<_}
 use native.Mathlib.Omega.{arith}
 use mathlib.Core.Path.{_≡_, refl}
 use mathlib.Core.Bool.{Bool, true, _&&_, and-true}
-use borrow.Author.Tests.{lt-ltb, le-leb, ltb-true, leb-true, eqb-true}
+use borrow.Author.Tests.{lt-ltb, ltb-true, leb-true, eqb-true}
 use lib.Dec.{ltb}
 use lib.ListN.{length, getD}
 use Rattle.meaning.specs.Lists.{all}
@@ -44,23 +44,6 @@ module _ (h : Header) where
     nodes-most = leb-true (h .nodes) 262144 (search (and-first, and-second));
   }
 
-  pub limits-header : HeaderLimits h → limitsOn h 64 ≡ true
-  unfolding limitsOf sketchLimits
-  limits-header l =
-      rw (
-        lt-ltb 0 (h .b) (l .bits-least),
-        le-leb (h .b) 8 (l .bits-most),
-        lt-ltb 0 (h .m) (l .symbols-least),
-        le-leb (h .m) 64 (l .symbols-most),
-        lt-ltb 0 (h .q) (l .blocks-least),
-        le-leb (h .q) 8 (l .blocks-most),
-        le-leb (h .q) (h .m) (l .blocks-fit),
-        lt-ltb 0 (h .pages) (l .pages-least),
-        lt-ltb (h .pages) 65536 (omega arith),
-        le-leb (h .q) (h .nodes) (l .nodes-least),
-        le-leb (h .nodes) 262144 (l .nodes-most),
-      )
-
 pub bounds : (s : Settings) → inLimits s ≡ true → Bounds s
 unfolding inLimits limitsOf
 bounds s e = record {
@@ -68,11 +51,6 @@ bounds s e = record {
   count = eqb-true (length (s .thresholds)) 64 (search (and-first, and-second));
   below = λ k. ltb-true (getD (s .thresholds) k 0) 65536 (all-at short (s .thresholds) k 0 (search (and-first, and-second)) refl);
 }
-
-pub in-bounds : (s : Settings) → Bounds s → inLimits s ≡ true
-in-bounds s b =
-    rw (in-limits, b .count, limits-header (headerOf s) (b .header))
-    (at-all short (s .thresholds) 0 (λ k. lt-ltb (getD (s .thresholds) k 0) 65536 (b .below k)))
 
 -- thresholds that are lent as numbers of 16 bits
 pub limits-lent : (s : Settings) → ((k : ℕ) → getD (s .thresholds) k 0 < 65536) → inLimits s ≡ limitsOn (headerOf s) (length (s .thresholds))

@@ -42,10 +42,6 @@ module _ (s : Settings) (l : HeaderLimits (headerOf s)) where
   unfolding mapWords
   map-most = omega arith
 
-  pub map-some : 1 ≤ mapWords s
-  unfolding mapWords
-  map-some = omega arith
-
   pub summary-most : summaryWords s ≤ 64
   unfolding summaryWords
   summary-most = omega (arith, map-most)
@@ -58,10 +54,6 @@ pages-mapped s = omega arith
 pub nodes-mapped : (s : Settings) → s .nodes ≤ 8 * (32 * mapWords s)
 unfolding mapWords
 nodes-mapped s = omega arith
-
-pub words-mapped : (s : Settings) → mapWords s ≤ 32 * summaryWords s
-unfolding summaryWords
-words-mapped s = omega arith
 
 -- the limits of document 01: 12 words a node, 4 + q a page, m bytes a page, 2,048 words and 8 for each node and page, 1,024 words of settings
 pub nodes-limit : (s : Settings) → nodesLength s ≤ 12 * s .nodes

@@ -10,7 +10,7 @@ use borrow.Author.Tests.{lt-ltb}
 use lib.Arith.{digits-lt}
 use lib.Dec.{ltb}
 use lib.ListN.{length, getD, set, take, length-set}
-use lib.Seq.{getD-set-same, getD-set-other, getD-take, take-set-le}
+use lib.Seq.{getD-set-same, getD-set-other, getD-take}
 use Rattle.meaning.specs.Ledger.{Settings}
 use Rattle.layout.specs.Pages.{wordAt, nextAt, isLive, classOf, signatureAt, withPage, withoutPage}
 use Rattle.layout.specs.Lengths.{pagesLength}
@@ -25,9 +25,6 @@ page-inside s {p} h = rw (zero-mul, zero-add) at (word-inside s {k = 0} {p = p} 
 
 pub signature-inside : (s : Settings) {p : ℕ} → p < s .pages → s .pages + p < pagesLength s
 signature-inside s {p} h = rw one-mul at (word-inside s {k = 1} {p = p} (omega arith) h)
-
-pub link-inside : (s : Settings) (j : ℕ) {p : ℕ} → j < s .blocks → p < s .pages → nextAt (s .pages) j + p < pagesLength s
-link-inside s j hj h = word-inside s {k = 2 + j} (omega arith) h
 
 -- ---- a page is live, and has its class, by its page word
 module _ (pages others : List ℕ) (p r : ℕ) (same : getD pages p 0 ≡ getD others r 0) where
@@ -104,10 +101,6 @@ module _ (P : ℕ) (pages : List ℕ) (p : ℕ) (page : p < P) (long : P + p < l
     unfolding withoutPage signatureAt
     signature-struck = getD-set-other pages p (P + r) 0 0 (omega arith)
 
-  pub behind-struck : (i : ℕ) → 2 * P ≤ i → getD (withoutPage pages p) i 0 ≡ getD pages i 0
-  unfolding withoutPage
-  behind-struck i h = getD-set-other pages p i 0 0 (omega arith)
-
 -- ---- page words and signatures are the first 2 × P words; the links stand behind them
 module _ (P : ℕ) (pages others : List ℕ) (same : take (2 * P) pages ≡ take (2 * P) others) where
   kept : (i : ℕ) → i < 2 * P → getD pages i 0 ≡ getD others i 0
@@ -126,6 +119,3 @@ module _ (P : ℕ) (pages others : List ℕ) (same : take (2 * P) pages ≡ take
 
 pub link-behind : (P j p : ℕ) → 2 * P ≤ nextAt P j + p
 link-behind P j p = omega (arith, mul-le-mul-right P (le-add-right 2 j))
-
-pub link-set : (P : ℕ) (pages : List ℕ) (j p v : ℕ) → take (2 * P) (set pages (nextAt P j + p) v) ≡ take (2 * P) pages
-link-set P pages j p v = take-set-le (2 * P) pages (nextAt P j + p) v (link-behind P j p)

@@ -3,13 +3,13 @@ use Prim.Native.Nat.{ℕ, _≤_}
 use native.Mathlib.Omega.{arith}
 use mathlib.Core.Path.{_≡_, sym, ap, _∙_}
 use mathlib.Core.List.{List, [], _∷_, _++_}
-use lib.ListN.{length, set, take, drop, length-append, length-drop, length-set}
-use lib.Seq.{take-at, drop-at, take-all, take-take, drop-drop, getD-take, take-set-le, sets, sets-eq, paste}
+use lib.ListN.{length, set, take, drop}
+use lib.Seq.{take-at, take-all, take-take, drop-drop, getD-take, take-set-le, sets, sets-eq, paste}
 use Rattle.meaning.specs.Ledger.{Settings}
 use Rattle.meaning.specs.Questions.{inLimits}
 use Rattle.layout.specs.declared.Header.{Header}
 use Rattle.layout.specs.Settings.{mark, header, settingsOf, showsOpening, withHeader}
-use Rattle.layout.specs.Header.{withThresholds, openingOf}
+use Rattle.layout.specs.Header.{withThresholds}
 use Rattle.layout.proofs.Parts.{drop-take}
 
 -- ---- a table that begins with a header
@@ -42,23 +42,6 @@ module _ (ws : List ℕ) (h : Header) (ts : List ℕ) (long : 70 ≤ length ws) 
       ap (λ l. paste l 6 ts 64) (sets-eq six ws 0 (omega arith))
       ∙ rw (take-all 64 ts (omega arith), drop-drop 64 6 ws)
 
-module _ (ws : List ℕ) (s : Settings) (count : length (s .thresholds) ≡ 64) where
-  seventy : length (header s) ≡ 70
-  unfolding header
-  seventy = omega arith
-
-  pub take-header : take 70 (withHeader ws s) ≡ header s
-  unfolding withHeader
-  take-header = take-at (header s) (drop 70 ws) 70 seventy
-
-  pub drop-header : drop 70 (withHeader ws s) ≡ drop 70 ws
-  unfolding withHeader
-  drop-header = drop-at (header s) (drop 70 ws) 70 seventy
-
-  pub length-header : 70 ≤ length ws → length (withHeader ws s) ≡ length ws
-  unfolding withHeader
-  length-header long = omega (arith, length-append (header s) (drop 70 ws), length-drop 70 ws, seventy)
-
 -- ---- an opening hangs on the first 70 words alone
 settings-take : (ws : List ℕ) → settingsOf (take 70 ws) ≡ settingsOf ws
 unfolding settingsOf
@@ -72,28 +55,11 @@ settings-take ws = λ i.
       thresholds = (ap (take 64) (drop-take 6 64 ws) ∙ take-take 64 64 (drop 6 ws) (omega arith)) i;
     }
 
-shows-take : (ws : List ℕ) → showsOpening (take 70 ws) ≡ showsOpening ws
-unfolding showsOpening
-shows-take ws = rw (settings-take, getD-take 70 ws 0 0 (omega arith))
-
 module _ (ws vs : List ℕ) (same : take 70 ws ≡ take 70 vs) where
   pub settings-kept : settingsOf ws ≡ settingsOf vs
   settings-kept = sym (settings-take ws) ∙ ap settingsOf same ∙ settings-take vs
-
-  pub shows-kept : showsOpening ws ≡ showsOpening vs
-  shows-kept = sym (shows-take ws) ∙ ap showsOpening same ∙ shows-take vs
-
-  pub opening-kept : length ws ≡ length vs → openingOf ws ≡ openingOf vs
-  unfolding openingOf
-  opening-kept long = rw (long, settings-kept, shows-kept)
 
 -- a store behind them
 module _ (ws : List ℕ) (i v : ℕ) (behind : 70 ≤ i) where
   pub settings-set : settingsOf (set ws i v) ≡ settingsOf ws
   settings-set = settings-kept (set ws i v) ws (take-set-le 70 ws i v behind)
-
-  pub shows-set : showsOpening (set ws i v) ≡ showsOpening ws
-  shows-set = shows-kept (set ws i v) ws (take-set-le 70 ws i v behind)
-
-  pub opening-set : openingOf (set ws i v) ≡ openingOf ws
-  opening-set = opening-kept (set ws i v) ws (take-set-le 70 ws i v behind) (length-set ws i v)

@@ -1,5 +1,5 @@
 -- The settings table: a mark, b, m, q, the capacities, 64 thresholds, 256 words of memberships, 64 words of grants, the free link.
-use Prim.Native.Nat.{ℕ, _+_, _*_}
+use Prim.Native.Nat.{ℕ, _+_}
 use mathlib.Core.Bool.{Bool, _&&_}
 use mathlib.Core.List.{List, _∷_, _++_}
 use lib.Dec.{eqb}

@@ -3,8 +3,8 @@ use Prim.Native.Nat.{ℕ, _-_}
 use mathlib.Core.Bool.{cond}
 use mathlib.Core.List.{List}
 use lib.Dec.{eqb}
-use lib.ListN.{getD}
-use Rattle.layout.specs.Nodes.{stateAt, freeState, innerState, leafState}
+use lib.ListN.{getD, set}
+use Rattle.layout.specs.Nodes.{chainAt, stateAt, freeState, innerState, leafState}
 use Rattle.layout.specs.declared.nodes.Kind.{Kind}
 use Rattle.layout.specs.declared.nodes.Kind.the-variants.{Free, Inner, Leaf}
 
@@ -25,3 +25,11 @@ abbrev pub firstOf : Kind → ℕ
 firstOf Free = 0
 firstOf Inner = 0
 firstOf (Leaf first) = first
+
+-- a free node's chain word is the link to the next
+abbrev pub nextFree : List ℕ → ℕ → ℕ
+nextFree N x = getD N (chainAt x) 0
+
+-- node x free, and linked to the next
+abbrev pub withFree : List ℕ → ℕ → ℕ → ℕ → List ℕ
+withFree N cap x next = set (set N (stateAt cap x) freeState) (chainAt x) next

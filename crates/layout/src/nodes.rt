@@ -2,10 +2,10 @@
 ghost use mathlib.Core.Path.{_≡_};
 ghost use Prim.Native.Nat.{_≤_, _<_};
 ghost use lib.ListN.{set};
-ghost use Rattle.layout.specs.Nodes.{mostNodes, linkBase, linkOf, byteOf, chainWord, withLink, stateAt, headAt, freeState, innerState, leafState};
+ghost use Rattle.layout.specs.Nodes.{mostNodes, linkBase, linkOf, byteOf, chainWord, withLink, stateAt, headAt, innerState, leafState};
 ghost use Rattle.layout.specs.Pages.{mostPages};
 ghost use Rattle.layout.specs.Tables.{NodeTable};
-ghost use Rattle.layout.specs.States.{kindOf, firstOf};
+ghost use Rattle.layout.specs.States.{kindOf, firstOf, nextFree, withFree};
 
 // The words of a node; of these the heads, which stand behind as many others.
 pub const WORDS: usize = 10;
@@ -109,12 +109,23 @@ pub fn first_page(nodes: &[u32], cap: usize, x: usize) -> u32
     }
 }
 
-pub fn set_free(nodes: &mut [u32], cap: usize, x: usize)
+// The link of free node x to the next.
+pub fn next_free(nodes: &[u32], cap: usize, x: usize) -> u32
     requires { ⌜ NodeTable cap (now nodes) ⌝ }
     requires { ⌜ x < cap ⌝ }
-    ensures { λ r. ⌜ now (nodes .exit) ≡ set (now (nodes .entry)) (stateAt cap x) freeState ⌝ }
+    ensures { λ r. ⌜ r ≡ nextFree (now (nodes .entry)) x ⌝ }
+{
+    nodes[x]
+}
+
+// Node x is free, and links to the next.
+pub fn set_free(nodes: &mut [u32], cap: usize, x: usize, next: u32)
+    requires { ⌜ NodeTable cap (now nodes) ⌝ }
+    requires { ⌜ x < cap ⌝ }
+    ensures { λ r. ⌜ now (nodes .exit) ≡ withFree (now (nodes .entry)) cap x next ⌝ }
 {
     nodes[state_at(cap, x)] = FREE;
+    nodes[x] = next;
 }
 
 pub fn set_inner(nodes: &mut [u32], cap: usize, x: usize)

@@ -1,7 +1,7 @@
 -- The dynamic filter trie of one block (source document 000, section IV; document 01, "Trees").
 -- Level 0 is the root. Children stand in rising byte, so equal tries are equal values.
-use Prim.Native.Nat.{ℕ, zero, suc, _+_, _-_}
-use mathlib.Core.Bool.{Bool, true, false, cond, _&&_}
+use Prim.Native.Nat.{ℕ, suc, _+_, _-_}
+use mathlib.Core.Bool.{cond, _&&_}
 use mathlib.Core.List.{List, [], _∷_, _++_}
 use lib.Dec.{ltb, leb, eqb}
 use lib.ListN.{length, getD}

@@ -10,9 +10,9 @@ use mathlib.Core.Logic.{_≢_}
 use lib.Dec.{ltb, eqb}
 use lib.ListN.{length, getD}
 use borrow.Author.Tests.{eqb-true, eqb-false, ltb-false, lt-ltb}
-use Rattle.meaning.specs.Lists.{all, any, count, upto}
-use Rattle.meaning.proofs.Lists.{eqb-comm, and-intro, or-first, count-upto}
-use Rattle.trie_laws.proofs.Lists.{Truth, holds, fails, truth, any-none}
+use Rattle.meaning.specs.Lists.{all, any, count}
+use Rattle.meaning.proofs.Lists.{and-intro, count-upto}
+use Rattle.trie_laws.proofs.Lists.{holds, fails, truth, any-none}
 use Rattle.trie_laws.proofs.Distinct.{distinct-once, distinct-count}
 use Rattle.meeting.specs.declared.Chain.{Chain}
 use Rattle.meeting.specs.Meets.{Meets, met, broken, after, andThen, withLeft, chainOf, chainsOf}

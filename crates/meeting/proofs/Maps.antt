@@ -11,7 +11,7 @@ use borrow.Author.Tests.{eqb-true}
 use Rattle.meaning.specs.Lists.{any, keep, upto}
 use Rattle.meaning.proofs.Lists.{any-append}
 use Rattle.words.specs.Bits.{flag, zeroed}
-use Rattle.words.proofs.Rising.{rising-same, rising-length}
+use Rattle.words.proofs.Rising.{rising-same}
 use Rattle.marks.specs.Marks.{summaryOf, Room, marked, fresh, listOf}
 use Rattle.marks.proofs.Marked.{marked-length, marked-behind, marked-flag, marked-count, marked-summarised}
 use Rattle.marks.proofs.Pages.{rising-over, rising-keep}

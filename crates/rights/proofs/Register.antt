@@ -9,11 +9,10 @@ use lib.Arith.{digits-div, digits-mod}
 use lib.ListN.{length, getD, take}
 use borrow.Author.Tests.{le-ltb, eqb-true, eqb-false, eq-eqb, ne-eqb}
 use Rattle.meaning.specs.Rights.{pair, samePair}
-use Rattle.meaning.proofs.Lists.{any-upto}
 use Rattle.words.specs.Bits.{flag, withFlag}
-use Rattle.words.proofs.Flags.{length-with, word-with-other, flag-with, take-with, with-flag-again, flag-take, flag-with-apart, drop-with}
-use Rattle.layout.specs.Settings.{membersAt, grantsAt, freeAt, settingsLength}
-use Rattle.rights.specs.Register.{withMember, withGrant, opens, isMember, isGranted}
+use Rattle.words.proofs.Flags.{length-with, word-with-other, flag-with, take-with, with-flag-again}
+use Rattle.layout.specs.Settings.{membersAt, grantsAt, freeAt}
+use Rattle.rights.specs.Register.{withMember, withGrant, opens}
 
 -- ---- a flag by its row and its place in the row, w places a row
 

@@ -62,11 +62,6 @@ module _ (b : ℕ) where
     unfolding symbolsAt
     part-ends h = omega (arith, ap (λ (i : ℕ). k * i) ez)
 
-    -- the next byte goes on where this one ends, or there is none
-    pub part-next : k * z < n → (k * z + r ≤ (k + 1) * z) × (k * z + r < n → k * z + r ≡ (k + 1) * z)
-    unfolding symbolsAt
-    part-next h = (omega (arith, ap (λ (i : ℕ). k * i) ez), λ l. omega (arith, ap (λ (i : ℕ). k * i) ez))
-
     pub part : (xs : List ℕ) → take (k * z + r - k * z) (drop (k * z) xs) ≡ symbolsOf b (take n xs) k
     unfolding symbolsAt
     part xs =

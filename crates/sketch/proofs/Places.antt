@@ -1,7 +1,7 @@
 -- Distance and range, place by place.
 use mathlib.Core.Bool.{Bool, true, false, cond, not, _&&_, and-assoc, and-true}
 use mathlib.Core.List.{List}
-use mathlib.Core.Path.{_≡_, refl, sym, subst, _∙_}
+use mathlib.Core.Path.{_≡_, sym, _∙_}
 use Prim.Native.Nat.{ℕ, suc, _+_, _^_, _<_, _≤_}
 use native.Mathlib.Nat.{add-zero, zero-add}
 use native.Mathlib.Numerals.{add-one}
@@ -11,7 +11,6 @@ use lib.Dec.{ltb, eqb}
 use lib.ListN.{length, getD, take, drop, drop-of-length-le}
 use lib.Seq.{drop-cons}
 use mir.Val.{boolByte}
-use borrow.Author.Tests.{ltb-true, ltb-false}
 use Rattle.meaning.specs.Lists.{all}
 use Rattle.meaning.specs.Sketch.{distance, inRange}
 use Rattle.words.proofs.Bits.{or-below}
@@ -50,17 +49,6 @@ module _ (xs ys : List ℕ) where
   pub counted-all : (d i : ℕ) → length xs ≤ i → Counted xs ys d i → d ≡ distance xs ys
   unfolding distance
   counted-all d i h c = sym (add-zero d) ∙ (rw (drop-of-length-le xs h) at (c .1))
-
-  -- past the end there is nothing to count
-  pub counted-on : (d i j : ℕ) → i ≤ j → (i < length xs → i ≡ j) → Counted xs ys d i → Counted xs ys d j
-  unfolding distance
-  counted-on d i j l same c = go (ltb i (length xs)) refl
-    where
-      go : (t : Bool) → ltb i (length xs) ≡ t → Counted xs ys d j
-      go true e = subst (Counted xs ys d) (same (ltb-true i (length xs) e)) c
-      go false e =
-          let past : length xs ≤ i = ltb-false i (length xs) e in
-          (omega (arith, c .0), rw (drop-of-length-le xs {i = j} (omega arith)) (add-zero d ∙ counted-all d i past c))
 
 range-step : (b : ℕ) (xs : List ℕ) (i : ℕ) → i < length xs
     → inRange b (drop i xs) ≡ ltb (getD xs i 0) (2 ^ b) && inRange b (drop (i + 1) xs)

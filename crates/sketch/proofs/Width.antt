@@ -1,10 +1,9 @@
 -- z symbols of b bits fit a byte.
-use mathlib.Core.Path.{_≡_, _∙_}
+use mathlib.Core.Path.{_≡_}
 use mathlib.Core.Bool.{not}
 use Prim.Native.Nat.{ℕ, suc, _+_, _-_, _*_, _%_, _^_, _<_, _≤_}
 use native.Mathlib.Nat.{lt-div-mul-add, le-trans, mul-le-mul-left, div-le-self, le-div-iff-mul-le, mul-div-le}
 use native.Mathlib.Omega.{arith}
-use lib.Pow.{shl-exact}
 use Rattle.meaning.specs.Sketch.{perByte, packedLength, byteDistance, group}
 use lib.Dec.{eqb}
 use Rattle.meaning.proofs.Lists.{count-upto}

@@ -12,7 +12,7 @@ use Rattle.meaning.specs.Lists.{count}
 use Rattle.meaning.specs.Trie.{pagesIn, pagesAmong}
 use Rattle.layout.specs.Pages.{nextAt}
 use Rattle.layout.proofs.Rows.{rows-apart}
-use Rattle.children.specs.Heap.{hit, pageClaims}
+use Rattle.children.specs.Heap.{pageClaims}
 use Rattle.children.specs.Phys.{Phys, Kids, noKid, kid, leafP, innerP, tree, childrenOf, pageCells, cells, kidCells, freeCells, Below, Sound, SoundK}
 use Rattle.children.proofs.Frame.{hit-other}
 use Rattle.children.proofs.Claims.{page-claims, none-pages, end-pages, kid-pages}

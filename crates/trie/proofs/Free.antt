@@ -1,7 +1,7 @@
 -- An empty child leaf out of its parent and first among the free nodes: `freeChild` keeps the state.
 use Prim.Native.Nat.{ℕ, _+_, _<_, _≤_}
 use native.Mathlib.Omega.{arith}
-use mathlib.Core.Path.{_≡_, refl}
+use mathlib.Core.Path.{refl}
 use mathlib.Core.List.{List, [], _∷_}
 use lib.ListN.{length-set}
 use Rattle.layout.specs.Nodes.{stateAt, freeState, innerState, leafState, mostNodes}

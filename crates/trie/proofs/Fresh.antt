@@ -1,11 +1,12 @@
 -- The first free node as an empty leaf for a byte that is missing: `linkLeaf` keeps the state.
-use Prim.Native.Nat.{ℕ, _+_, _-_, _<_, _≤_}
+use Prim.Native.Nat.{ℕ, _-_, _<_, _≤_}
 use mathlib.Core.Path.{_≡_, refl, sym, subst}
 use mathlib.Core.List.{List, [], _∷_}
 use native.Mathlib.Omega.{arith}
-use lib.ListN.{getD, length-set}
+use lib.ListN.{length-set}
 use Rattle.meaning.specs.Trie.{nodes}
 use Rattle.layout.specs.Nodes.{stateAt, freeState, innerState, leafState, mostNodes}
+use Rattle.layout.specs.States.{nextFree}
 use Rattle.trie.specs.declared.leaf.Got.the-variants.{Node}
 use Rattle.children.specs.Heap.{Cells, Heap, node, _⊕_}
 use Rattle.trie.specs.Model.{linkLeaf, freshLeaf, made}
@@ -38,7 +39,7 @@ module _ (cap pcap base : ℕ) (small : cap ≤ mostNodes) where
     unfolding R
     together = record { holds = λ N P h. search; nodes = λ a. omega arith; pages = λ a. omega arith }
 
-    pub fresh-state : State cap pcap base (linkLeaf N cap (s .slot) f b) P (getD N f 0) withLeaf fs G
+    pub fresh-state : State cap pcap base (linkLeaf N cap (s .slot) f b) P (nextFree N f) withLeaf fs G
     unfolding linkLeaf
     fresh-state =
         let h = less apart (subst (λ (x : Kids). Heap N P (cells cap base (innerP n x) ⊕ freeCells cap (f ∷ fs) ⊕ G)) (sym (spot-same cap pcap base small s none)) (st .heap)) in
@@ -54,8 +55,8 @@ module _ (cap pcap base : ℕ) (small : cap ≤ mostNodes) where
           below = st .below .1;
         }
 
-    pub fresh-is : freshLeaf N cap (s .slot) b free ≡ made (linkLeaf N cap (s .slot) f b) (Node f (getD N f 0))
+    pub fresh-is : freshLeaf N cap (s .slot) b free ≡ made (linkLeaf N cap (s .slot) f b) (Node f (nextFree N f))
     fresh-is =
         let e : free - 1 ≡ f = omega (arith, st .chain) in
         let l : f < cap = st .below .0 in
-        sym (rw e at (fresh-made N cap (s .slot) b free (omega (arith, st .chain)) (linkLeaf N cap (s .slot) (free - 1) b) (omega arith) refl))
+        sym (rw e at (fresh-made N cap (s .slot) b free (omega (arith, st .chain)) (linkLeaf N cap (s .slot) (free - 1) b) _ (omega arith) refl refl))

@@ -7,6 +7,7 @@ use native.Mathlib.Omega.{arith}
 use borrow.Author.Tests.{le-ltb, lt-ltb, eq-eqb, ne-eqb}
 use lib.Dec.{ltb, eqb}
 use lib.ListN.{getD}
+use Rattle.layout.specs.States.{nextFree}
 use Rattle.trie.specs.declared.leaf.Got.{Got}
 use Rattle.trie.specs.declared.leaf.Got.the-variants.{Node, Full}
 use Rattle.trie.specs.declared.leaf.Got.the-variants as got
@@ -30,9 +31,10 @@ module _ (N : List ℕ) (cap s b free : ℕ) where
     unfolding freshLeaf
     fresh-broken l = rw (ne-eqb free 0 h, lt-ltb cap free (omega arith)) refl
 
-    pub fresh-made : (ns : List ℕ) → free - 1 < cap → ns ≡ linkLeaf N cap s (free - 1) b → made ns (Node (free - 1) (getD N (free - 1) 0)) ≡ freshLeaf N cap s b free
+    pub fresh-made : (ns : List ℕ) (next : ℕ) → free - 1 < cap → ns ≡ linkLeaf N cap s (free - 1) b → next ≡ nextFree N (free - 1)
+        → made ns (Node (free - 1) next) ≡ freshLeaf N cap s b free
     unfolding freshLeaf
-    fresh-made ns l e = rw (ne-eqb free 0 h, le-ltb cap free (omega arith), e) refl
+    fresh-made ns next l e n = rw (ne-eqb free 0 h, le-ltb cap free (omega arith), e, n) refl
 
 pub got-in : (cap : ℕ) (r : Got) (n f : ℕ) → r ≡ Node n f → nodeIn r ≤ cap → n < cap
 got-in cap r n f e h = rw e at h

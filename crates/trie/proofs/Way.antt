@@ -1,5 +1,5 @@
 -- The way from the root of a trie to what stands where some bytes of a page lead: what is put there instead is put there in the abstract trie.
-use Prim.Native.Nat.{ℕ, suc, _+_, _≤_}
+use Prim.Native.Nat.{ℕ, suc, _≤_}
 use native.Mathlib.Nat.{zero-add}
 use mathlib.Core.Path.{_≡_, refl, ap, _∙_, sym, subst}
 use mathlib.Core.Bool.{true}

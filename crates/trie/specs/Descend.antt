@@ -1,5 +1,5 @@
 -- What `descend_to` computes: N is the node table, of cap nodes, and Y the bytes.
-use Prim.Native.Nat.{ℕ, zero, suc, _+_, _*_, _<_, _≤_}
+use Prim.Native.Nat.{ℕ, zero, suc, _+_, _<_, _≤_}
 use mathlib.Core.List.{List}
 use lib.ListN.{length, getD}
 use Rattle.layout.specs.Nodes.{nodeWords}

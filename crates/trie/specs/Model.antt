@@ -4,7 +4,8 @@ use mathlib.Core.List.{List}
 use mathlib.Core.Bool.{cond}
 use lib.Dec.{ltb, eqb}
 use lib.ListN.{getD, set}
-use Rattle.layout.specs.Nodes.{chainAt, stateAt, freeState, leafState}
+use Rattle.layout.specs.Nodes.{stateAt, leafState}
+use Rattle.layout.specs.States.{nextFree, withFree}
 use Rattle.children.specs.Places.{findPlace}
 use Rattle.children.specs.Links.{putIn, takeOut}
 use Rattle.trie.specs.declared.leaf.Got.{Got}
@@ -34,7 +35,7 @@ unfoldable pub freshLeaf : List ℕ → ℕ → ℕ → ℕ → ℕ → Made
 freshLeaf N cap s b free =
     cond (eqb free 0) (made N Full)
     (cond (ltb cap free) (made N got.Broken)
-    (made (linkLeaf N cap s (free - 1) b) (Node (free - 1) (getD N (free - 1) 0))))
+    (made (linkLeaf N cap s (free - 1) b) (Node (free - 1) (nextFree N (free - 1)))))
 
 abbrev pub madeAt : List ℕ → ℕ → ℕ → ℕ → Place → Made
 madeAt N cap b free (Found s c) = made N (Node c free)
@@ -47,7 +48,7 @@ childLeaf N cap n b free = madeAt N cap b free (findPlace N cap n b)
 
 -- child c out of the chain at slot s, and first among the free nodes
 unfoldable pub freeChild : List ℕ → ℕ → ℕ → ℕ → ℕ → List ℕ
-freeChild N cap s c free = set (set (takeOut N s c) (stateAt cap c) freeState) (chainAt c) free
+freeChild N cap s c free = withFree (takeOut N s c) cap c free
 
 -- whether a chain from link l on has f members, whose links stand from base on
 unfoldable pub spanFrom : List ℕ → ℕ → ℕ → ℕ → ℕ → Span

@@ -8,6 +8,7 @@ use children::links::put_in;
 use children::links::take_out;
 use children::place::Place;
 use children::place::find_place;
+use layout::nodes::next_free;
 use layout::nodes::set_free;
 use layout::nodes::set_leaf;
 
@@ -45,7 +46,7 @@ pub fn fresh_leaf(nodes: &mut [u32], cap: usize, slot: usize, byte: u32, free: u
     if f >= cap {
         return Got::Broken;
     }
-    let next = nodes[f];
+    let next = next_free(nodes, cap, f);
     link_leaf(nodes, cap, slot, f, byte);
     Got::Node(f, next)
 }
@@ -75,7 +76,6 @@ pub fn free_child(nodes: &mut [u32], cap: usize, slot: usize, child: usize, free
     ensures { λ r. ⌜ now (nodes .exit) ≡ freeChild (now (nodes .entry)) cap slot child free ⌝ }
 {
     take_out(nodes, cap, slot, child);
-    set_free(nodes, cap, child);
-    nodes[child] = free;
+    set_free(nodes, cap, child, free);
     (child + 1) as u32
 }

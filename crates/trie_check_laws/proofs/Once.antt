@@ -11,7 +11,7 @@ use Rattle.meaning.specs.Lists.{all, any, count, from, upto}
 use Rattle.meaning.specs.Trie.{Children, child, byteAt, pagesIn, pagesAmong}
 use Rattle.layout.specs.Pages.{isLive}
 use Rattle.children.specs.Heap.{Holds}
-use Rattle.children.specs.Phys.{Phys, Kids, leafP, innerP, noKid, kid, tree, childrenOf, pageCells, cells, Below, Sound, SoundK}
+use Rattle.children.specs.Phys.{Phys, Kids, leafP, innerP, noKid, kid, tree, childrenOf, pageCells, cells, Sound, SoundK}
 use Rattle.children.proofs.Claims.{below-all, Trees, kid-trees}
 use Rattle.trie_laws.specs.Sound.{soundTrie, soundFrom, Stands}
 use Rattle.meaning.proofs.Lists.{and-intro, not-so, count-append, all-append, all-each}

@@ -56,16 +56,6 @@ module _ (w : Given) where
   abbrev behind : (f : ℕ) (s : State) (ys : List ℕ) (u : ℕ → ℕ) (n m : ℕ) (frame : Frame) (cost : ℕ) → Went w f s ys u n m frame cost → State
   behind f s ys u n m frame cost r = state (r .map) (r .path) (s .left - n) (s .pages - m) frame (s .stack)
 
-  went-none : (f : ℕ) (s : State) (ys : List ℕ) → Leads (s .path) ys → Went w f s ys (λ x. 0) 0 0 (s .frame) 0
-  went-none f s ys l = record {
-    map = s .map;
-    path = s .path;
-    counted = counted-none (w .window) (s .map);
-    leads = l;
-    ran = ran-to w f s s (state (s .map) (s .path) (s .left - 0) (s .pages - 0) (s .frame) (s .stack)) 0
-        (ap₂ (λ a b. state (s .map) (s .path) a b (s .frame) (s .stack)) (omega arith) (omega arith)) (ran-none w f s);
-  }
-
   -- what is left to be marked
   ready-then : (f : ℕ) (s : State) (ys : List ℕ) (u v : ℕ → ℕ) (n k m l : ℕ) (frame : Frame) (cost : ℕ)
       → Ready w s ys (λ x. u x + v x) (n + k) (m + l) → (r : Went w f s ys u n m frame cost) → Ready w (behind f s ys u n m frame cost r) ys v k l

@@ -8,7 +8,7 @@ use lib.ListN.{getD}
 use borrow.Author.Tests.{eqb-true, eq-eqb}
 use Rattle.meaning.specs.Lists.{all, any}
 use Rattle.meaning.specs.Trie.{Tree, leaf, inner, Children, none, child, putLeaf, byteAt, split, remove, removeIn, addLeaf, insert, insertIn, pagesIn, pagesAmong}
-use Rattle.trie_laws.specs.Sound.{Agree, packs, soundTrie, soundFrom}
+use Rattle.trie_laws.specs.Sound.{Agree, soundTrie, soundFrom}
 use Rattle.trie_laws.specs.Needed.{distinct, splitNodes, needed, neededIn, frees, freesIn}
 use Rattle.meaning.proofs.Lists.{or-first, or-second, any-append}
 use Rattle.trie_laws.proofs.Lists.{holds, fails, truth, all-agree}
@@ -17,10 +17,6 @@ module _ (f g : ℕ → List ℕ) where
   byte-agree : (k p : ℕ) → f p ≡ g p → byteAt f k p ≡ byteAt g k p
   unfolding byteAt
   byte-agree k p e = ap (λ (ys : List ℕ). getD ys k 0) e
-
-  pub packs-agree : (b n len p : ℕ) → f p ≡ g p → packs f b n len p ≡ packs g b n len p
-  unfolding packs byteAt
-  packs-agree b n len p e = rw e refl
 
   -- parts of a list of pages
   agree-head : (p : ℕ) (ps : List ℕ) → Agree f g (p ∷ ps) → f p ≡ g p

@@ -190,12 +190,6 @@ unfolding putLeaf
 leaf-alter b p none = refl
 leaf-alter b p (child c t cs) = rw (leaf-alter b p cs) refl
 
-pub leaf-there : (b p : ℕ) (cs : Children) → has b cs ≡ true → putLeaf b p cs ≡ setChild b (push p (childBy b cs)) cs
-leaf-there b p cs h = leaf-alter b p cs ∙ alter-there b (leaf (p ∷ [])) (push p) cs h
-
-pub leaf-gap : (b p : ℕ) (cs : Children) → has b cs ≡ false → putLeaf b p cs ≡ putChild b (leaf (p ∷ [])) cs
-leaf-gap b p cs h = leaf-alter b p cs ∙ alter-gap b (leaf (p ∷ [])) (push p) cs h
-
 module _ (bytesOf : ℕ → List ℕ) (len : ℕ) (thresholds : List ℕ) (k p : ℕ) where
   insert-alter : (cs : Children) → insertIn bytesOf len thresholds k p cs ≡ alter (byteAt bytesOf k p) (addLeaf bytesOf len thresholds (suc k) p []) (insert bytesOf len thresholds (suc k) p) cs
   unfolding insert
@@ -205,10 +199,6 @@ module _ (bytesOf : ℕ → List ℕ) (len : ℕ) (thresholds : List ℕ) (k p :
   pub insert-there : (cs : Children) → has (byteAt bytesOf k p) cs ≡ true →
       insertIn bytesOf len thresholds k p cs ≡ setChild (byteAt bytesOf k p) (insert bytesOf len thresholds (suc k) p (childBy (byteAt bytesOf k p) cs)) cs
   insert-there cs h = insert-alter cs ∙ alter-there (byteAt bytesOf k p) (addLeaf bytesOf len thresholds (suc k) p []) (insert bytesOf len thresholds (suc k) p) cs h
-
-  pub insert-gap : (cs : Children) → has (byteAt bytesOf k p) cs ≡ false →
-      insertIn bytesOf len thresholds k p cs ≡ putChild (byteAt bytesOf k p) (addLeaf bytesOf len thresholds (suc k) p []) cs
-  insert-gap cs h = insert-alter cs ∙ alter-gap (byteAt bytesOf k p) (addLeaf bytesOf len thresholds (suc k) p []) (insert bytesOf len thresholds (suc k) p) cs h
 
   pub needed-there : (cs : Children) → has (byteAt bytesOf k p) cs ≡ true →
       neededIn bytesOf len thresholds k p cs ≡ needed bytesOf len thresholds (suc k) p (childBy (byteAt bytesOf k p) cs)

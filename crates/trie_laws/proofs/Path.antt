@@ -6,12 +6,12 @@ use mathlib.Core.Path.{_≡_, refl, sym, ap, _∙_}
 use mathlib.Core.Bool.{Bool, true, false, false≢true}
 use mathlib.Core.List.{List, [], _∷_}
 use Rattle.meaning.specs.Lists.{count}
-use Rattle.meaning.specs.Trie.{Tree, leaf, inner, Children, without, byteAt, remove, addLeaf, insert, nodes, pagesIn}
+use Rattle.meaning.specs.Trie.{Tree, leaf, inner, Children, without, byteAt, remove, insert, nodes, pagesIn}
 use Rattle.trie_laws.specs.Sound.{filled}
 use Rattle.trie_laws.specs.Needed.{splitNodes, needed, frees}
-use Rattle.trie_laws.specs.Path.{has, childBy, dropChild, putChild, pruneChild, hasBelow, below, setBelow, hasPath, subtree, replace, pathOf}
+use Rattle.trie_laws.specs.Path.{has, childBy, dropChild, pruneChild, hasBelow, below, setBelow, hasPath, subtree, replace, pathOf}
 use Rattle.meaning.proofs.Lists.{and-first, and-second}
-use Rattle.trie_laws.proofs.Children.{has-set, child-set, set-set, set-same, set-nodes, set-count, insert-there, insert-gap, needed-there, needed-gap, remove-there, frees-there}
+use Rattle.trie_laws.proofs.Children.{has-set, child-set, set-set, set-same, set-nodes, set-count, insert-there, needed-there, needed-gap, remove-there, frees-there}
 
 -- ---- one step
 module _ (y : ℕ) (u : Tree) where
@@ -128,19 +128,6 @@ module _ (bytesOf : ℕ → List ℕ) (len : ℕ) (thresholds : List ℕ) (p : �
       let y : ℕ = byteAt bytesOf k p in
       let i = path-parts y (pathOf bytesOf (suc k) p d) t h in
       rw (shift k d) (insert-step k t (i .0) ∙ ap (λ (x : Tree). setBelow y x t) (insert-path d (suc k) (below y t) (i .1)))
-
-  -- a leaf there: the page is put into it; an inner node without the child: the child is made
-  module _ (d k : ℕ) (t : Tree) (h : hasPath (pathOf bytesOf k p d) t ≡ true) where
-    pub insert-at-leaf : (ps : List ℕ) → subtree (pathOf bytesOf k p d) t ≡ leaf ps →
-        insert bytesOf len thresholds k p t ≡ replace (pathOf bytesOf k p d) t (addLeaf bytesOf len thresholds (k + d) p ps)
-    unfolding insert
-    insert-at-leaf ps e = insert-path d k t h ∙ rw e refl
-
-    pub insert-at-gap : (cs : Children) → subtree (pathOf bytesOf k p d) t ≡ inner cs → has (byteAt bytesOf (k + d) p) cs ≡ false →
-        insert bytesOf len thresholds k p t ≡
-        replace (pathOf bytesOf k p d) t (inner (putChild (byteAt bytesOf (k + d) p) (addLeaf bytesOf len thresholds (suc (k + d)) p []) cs))
-    unfolding insert
-    insert-at-gap cs e g = insert-path d k t h ∙ rw (e, insert-gap bytesOf len thresholds (k + d) p cs g) refl
 
   needed-step : (k : ℕ) (t : Tree) → hasBelow (byteAt bytesOf k p) t ≡ true →
       needed bytesOf len thresholds k p t ≡ needed bytesOf len thresholds (suc k) p (below (byteAt bytesOf k p) t)

@@ -20,7 +20,7 @@ use Rattle.trie_remove.specs.declared.Taken.the-variants.{First, Inside,
 use Rattle.trie_remove.specs.declared.Removed.the-variants.{Done}
 use Rattle.trie_remove.specs.Take.{takePage, took}
 use Rattle.trie.specs.Model.{freeChild}
-use Rattle.trie_remove.specs.Remove.{removeAt, Gone, freed, gone}
+use Rattle.trie_remove.specs.Remove.{removeAt, Gone, gone}
 use Rattle.trie_remove.proofs.Steps.{first-some, first-root, first-freed, remove-first, remove-inside}
 use Rattle.trie_remove.proofs.Take.{Tells, TakeDone, take-right}
 

@@ -9,11 +9,11 @@ use lib.Dec.{eqb}
 use lib.ListN.{length, getD, set, length-set}
 use Rattle.meaning.specs.Lists.{any, count}
 use Rattle.meaning.specs.Trie.{without}
-use Rattle.children.specs.Heap.{Cells, hit, pageClaims, Heap, page, _⊕_}
+use Rattle.children.specs.Heap.{Cells, Heap, page, _⊕_}
 use Rattle.layout.specs.Tables.{PageTable}
 use Rattle.children.specs.Phys.{first, pageCells, Below}
 use Rattle.children.proofs.Frame.{Less, less, page-write, hit-same}
-use Rattle.meaning.proofs.Lists.{and-intro, eqb-comm}
+use Rattle.meaning.proofs.Lists.{eqb-comm}
 use Rattle.trie_laws.proofs.Lists.{holds, fails, truth}
 use Rattle.children.proofs.Claims.{page-claims, below-all}
 use Rattle.trie_laws.proofs.Distinct.{distinct-once, distinct-below}

@@ -1,5 +1,5 @@
 -- Computed: b 2, m 4, one block, threshold 1, four nodes and two pages (document 01, "Small sums"). Page 0, 0 1 2 3, stands in the root.
-use Prim.Native.Nat.{ℕ, _+_, _-_}
+use Prim.Native.Nat.{ℕ, _+_}
 use mathlib.Core.Path.{_≡_, refl}
 use mathlib.Core.List.{List, [], _∷_, _++_}
 use lib.ListN.{replicate}

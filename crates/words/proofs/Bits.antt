@@ -7,8 +7,8 @@ use Prim.Native.Nat.{ℕ, zero, suc, _+_, _-_, _*_, _/_, _%_, _^_, _≤_, _<_, m
 use native.Mathlib.Nat.{pow-suc, div-one, le-div-iff-mul-le, zero-div}
 use native.Mathlib.Omega.{arith}
 use lib.Dec.{ltb, eqb, eqb·zero-suc, eqb·suc-zero, eqb·suc-suc}
-use lib.Pow.{pow-pos, pow-mono, pow-lt, pow-add, shr-shr}
-use lib.Bits.{bitAnd, bitOr, and-high, or-step, or-shr, or-add-and, or-lt, and-step, and-shr, or-comm, and-le-r}
+use lib.Pow.{pow-pos, pow-mono, pow-add, shr-shr}
+use lib.Bits.{bitAnd, bitOr, and-high, or-step, or-shr, or-add-and, or-lt, or-comm, and-le-r}
 use lib.ListN.{length, getD}
 use borrow.Author.Tests.{ltb-true, ltb-false, eqb-true, eqb-false, lt-ltb, le-ltb, eq-eqb, ne-eqb}
 use Rattle.words.specs.Bits.{bit, withBit, rising, bitsOf, lowest, ones}
@@ -176,10 +176,6 @@ pub with-and : (w k : ℕ) → w - bitAnd w (2 ^ k) ≡ withBit w k false
 with-and w k = omega (arith, and-bit w k, with-sum w k false)
 
 -- ---- the width stays
-
-pub with-lt : (n w k : ℕ) (v : Bool) → w < 2 ^ n → k < n → withBit w k v < 2 ^ n
-with-lt n w k true hw hk = rw (← with-or w k) (or-lt n w (2 ^ k) hw (pow-lt hk))
-with-lt n w k false hw hk = rw (← with-and w k) (omega arith)
 
 -- ---- the set bits, rising
 

@@ -69,10 +69,6 @@ pub lowest-found : (w : ℕ) → Count.trailingZeros 32 w ≡ lowest w
 unfolding lowest bitsOf
 lowest-found w = trailing 32 w
 
-pub ones-found : (w : ℕ) → w < 2 ^ 32 → Count.ones w ≡ ones w
-unfolding ones bitsOf
-ones-found w h = counted 32 w h
-
 pub lowest-cut : (w : ℕ) → w ≢ 0 → w < 2 ^ 32 → bitAnd w (w - 1) ≡ withBit w (lowest w) false
 lowest-cut w some h =
     omega (arith, rw (lowest-found w) at (and-pred 32 w some h), rw (lowest-set w some h) at (with-sum w (lowest w) false))

@@ -42,11 +42,8 @@ is-free-requires c κs = search needs
 returns-4 : tie.Need-returns-4 Inv-loop μ-loop
 returns-4 c = search chain-used
 
-mul-link : tie.Need-mul-link Inv-loop μ-loop
-mul-link c = search needs
-
-shared-slice-read-link : tie.Need-shared-slice-read-link Inv-loop μ-loop
-shared-slice-read-link c = omega arith
+next-free-requires : tie.Need-next-free-requires Inv-loop μ-loop
+next-free-requires c κs = search needs
 
 sub-left : tie.Need-sub-left Inv-loop μ-loop
 sub-left c = omega arith
@@ -55,8 +52,7 @@ loop-less : tie.Need-loop-less Inv-loop μ-loop
 loop-less c = omega arith
 
 loop-again : tie.Need-loop-again Inv-loop μ-loop
-loop-again c =
-    (search chain-next, omega arith, omega (arith, c .shared-slice-known2 .given (c .before .before .before .before .before .before .loop .link - 1)))
+loop-again c = (search chain-next, omega arith, search needs)
 
 pub test-free-spec : {M : Type 1} → statement M
 test-free-spec =
@@ -73,8 +69,7 @@ test-free-spec =
     returns-3
     is-free-requires
     returns-4
-    mul-link
-    shared-slice-read-link
+    next-free-requires
     sub-left
     loop-less
     loop-again)

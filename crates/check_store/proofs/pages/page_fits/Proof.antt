@@ -1,7 +1,7 @@
 -- `page_fits` is `pageFits`.
 use Prim.Native.Nat.{_≤_, _+_, _*_}
 use native.Mathlib.Omega.{arith}
-use mathlib.Core.Path.{_≡_, ap, _∙_}
+use mathlib.Core.Path.{ap, _∙_}
 use lib.ListN.{length}
 use Rattle.layout.specs.Header.{bare}
 use Rattle.layout.specs.Lengths.{sketchesLength}

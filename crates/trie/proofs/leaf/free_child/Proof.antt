@@ -1,6 +1,5 @@
 -- `free_child` meets its contract.
-use mathlib.Core.Path.{refl, _∙_}
-use lib.ListN.{length-set}
+use mathlib.Core.Path.{refl}
 use Rattle.trie.specs.Model.{freeChild}
 use borrow.Author.Needs.{needs}
 use Rattle.trie.proofs.leaf.free_child.Statement.{statement}
@@ -12,12 +11,6 @@ take-out-requires c κs = search needs
 set-free-requires : tie.Need-set-free-requires
 set-free-requires c κs = search needs
 
-mul-nodes : tie.Need-mul-nodes
-mul-nodes c = search needs
-
-slice-write-nodes : tie.Need-slice-write-nodes
-slice-write-nodes c = search needs
-
 add-result : tie.Need-add-result
 add-result c = search needs
 
@@ -25,7 +18,7 @@ cast-result : tie.Need-cast-result
 cast-result c = search needs
 
 same-length : tie.Need-same-length
-same-length c = simp length-set (c .before .before .set-free .kept .0 ∙ c .before .before .before .before .before .before .take-out .kept .0)
+same-length c = search needs
 
 returns : tie.Need-returns
 unfolding freeChild
@@ -34,12 +27,4 @@ returns c = (refl, cc)
 pub free-child-spec : {M : Type 1} → statement M
 free-child-spec =
     tie.close
-    (tie.spec
-    take-out-requires
-    set-free-requires
-    mul-nodes
-    slice-write-nodes
-    add-result
-    cast-result
-    same-length
-    returns)
+    (tie.spec take-out-requires set-free-requires add-result cast-result same-length returns)

@@ -14,11 +14,8 @@ sub-f c = search needs
 returns-2 : tie.Need-returns-2
 returns-2 c = search (fresh-broken, arith)
 
-mul-next : tie.Need-mul-next
-mul-next c = search needs
-
-slice-read-next : tie.Need-slice-read-next
-slice-read-next c = search needs
+next-free-requires : tie.Need-next-free-requires
+next-free-requires c κs = search needs
 
 link-leaf-requires : tie.Need-link-leaf-requires
 link-leaf-requires c κs = search needs
@@ -32,12 +29,4 @@ returns-3 c = search (fresh-made, arith)
 pub fresh-leaf-spec : {M : Type 1} → statement M
 fresh-leaf-spec =
     tie.close
-    (tie.spec
-    returns
-    sub-f
-    returns-2
-    mul-next
-    slice-read-next
-    link-leaf-requires
-    same-length
-    returns-3)
+    (tie.spec returns sub-f returns-2 next-free-requires link-leaf-requires same-length returns-3)
