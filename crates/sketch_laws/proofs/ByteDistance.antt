@@ -13,8 +13,8 @@ use borrow.Author.Tests.{eqb-true, eqb-false, eq-eqb, ne-eqb}
 use Rattle.meaning.specs.Lists.{count, from, upto}
 use Rattle.meaning.specs.Sketch.{distance, inRange, perByte, packedLength, packByte, packBytes, pack, group, byteDistance}
 use Rattle.meaning.proofs.Lists.{count-upto}
-use Rattle.sketch_laws.specs.Packed.{sumPairs, packedDistance}
-use Rattle.sketch_laws.proofs.Lists.{count-same, count-none}
+use Rattle.sketch_laws.specs.Packed.{groupDistance, sumPairs, packedDistance}
+use Rattle.sketch_laws.proofs.Lists.{count-suc, count-upto-le, count-same, count-none}
 use Rattle.sketch_laws.proofs.Packing.{range-take, range-drop, group-byte, per-byte-pos, packed-covers}
 use Rattle.sketch_laws.proofs.Distance.{distance-le, distance-split}
 
@@ -45,6 +45,25 @@ unfolding byteDistance
 byte-distance b v w =
     count-same (λ i. not (eqb (group b (bitXor v w) i) 0)) (λ i. not (eqb (group b v i) (group b w i))) (perByte b)
     (λ i l. rw (xor-group b v w i, xor-eqb (group b v i) (group b w i)))
+
+pub group-distance-all : (b v : ℕ) → groupDistance b v (perByte b) ≡ byteDistance b v
+unfolding groupDistance byteDistance
+group-distance-all b v = refl
+
+pub group-distance-none : (b v : ℕ) → groupDistance b v 0 ≡ 0
+unfolding groupDistance count upto from
+group-distance-none b v = refl
+
+-- one group more
+pub group-distance-suc : (b v i : ℕ) → groupDistance b v (suc i) ≡ groupDistance b v i + cond (eqb (group b v i) 0) 0 1
+unfolding groupDistance
+group-distance-suc b v i =
+    count-suc (λ j. not (eqb (group b v j) 0)) i
+    ∙ ap (λ (n : ℕ). count (λ j. not (eqb (group b v j) 0)) (upto i) + n) (cond-not (eqb (group b v i) 0))
+
+pub group-distance-le : (b v i : ℕ) → i ≤ perByte b → groupDistance b v i ≤ byteDistance b v
+unfolding groupDistance byteDistance
+group-distance-le b v i h = count-upto-le (λ j. not (eqb (group b v j) 0)) i (perByte b) h
 
 pub byte-distance-le : (b v : ℕ) → byteDistance b v ≤ perByte b
 unfolding byteDistance

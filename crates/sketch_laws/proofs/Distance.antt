@@ -1,16 +1,16 @@
 -- Laws of the distance of two sketches.
-use Prim.Native.Nat.{ℕ, _+_, _≤_}
+use Prim.Native.Nat.{ℕ, suc, _+_, _≤_, _<_}
 use native.Mathlib.Omega.{arith}
 use mathlib.Core.Path.{_≡_, refl, ap, fun-ext}
 use mathlib.Core.Bool.{Bool, true, false, cond}
 use mathlib.Core.List.{List, [], _∷_, _++_}
 use lib.Dec.{eqb}
-use lib.ListN.{length, take, drop}
+use lib.ListN.{length, getD, take, drop}
 use borrow.Author.Tests.{eq-eqb}
 use Rattle.meaning.specs.Sketch.{distance}
 use Rattle.meaning.proofs.Lists.{eqb-comm}
 use Rattle.sketch_laws.specs.Packed.{sumPairs}
-use Rattle.sketch_laws.proofs.Pairs.{pairs-append, pairs-split, pairs-comm, pairs-self, pairs-le}
+use Rattle.sketch_laws.proofs.Pairs.{pairs-append, pairs-split, pairs-take, pairs-suc, pairs-comm, pairs-self, pairs-le}
 
 -- 1 where two symbols differ
 abbrev other : ℕ → ℕ → ℕ
@@ -49,3 +49,11 @@ distance-append xs ys us vs e = rw as-pairs (pairs-append other xs ys us vs e)
 pub distance-split : (n : ℕ) (xs ys : List ℕ)
     → distance xs ys ≡ distance (take n xs) (take n ys) + distance (drop n xs) (drop n ys)
 distance-split n xs ys = rw as-pairs (pairs-split other n xs ys)
+
+pub distance-take : (n : ℕ) (xs ys : List ℕ) → distance (take n xs) (take n ys) ≤ distance xs ys
+distance-take n xs ys = rw as-pairs (pairs-take other n xs ys)
+
+-- one place more
+pub distance-suc : (n : ℕ) (xs ys : List ℕ) → n < length xs → n < length ys
+    → distance (take (suc n) xs) (take (suc n) ys) ≡ distance (take n xs) (take n ys) + cond (eqb (getD xs n 0) (getD ys n 0)) 0 1
+distance-suc n xs ys h k = rw as-pairs (pairs-suc other n xs ys h k)

@@ -2,22 +2,22 @@
 -- Each law is over the bits a symbol, b.
 use Prim.Native.Nat.{ℕ, zero, suc, _+_, _*_, _-_, _/_, _%_, _^_, _≤_, _<_}
 use native.Mathlib.Omega.{arith}
-use native.Mathlib.Nat.{div-zero, le-mul-of-pos-right, not-suc-le-zero, lt-of-lt-of-le, eq-zero-or-pos, le-div-iff-mul-le, div-mul-le-self, div-add-mod', mod-lt, mod-eq-of-lt, mul-le-mul-left, mul-le-mul-right, min-le-left, mul-zero, mul-suc, mul-comm, zero-mul, div-div-eq-div-mul, zero-add, zero-div, zero-mod, div-one, mod-one, add-mul-mod-self-left, add-mul-div-left, div-eq-of-lt, add-comm}
+use native.Mathlib.Nat.{div-zero, le-mul-of-pos-right, not-suc-le-zero, not-le-of-lt, lt-of-lt-of-le, eq-zero-or-pos, le-div-iff-mul-le, div-mul-le-self, div-add-mod', mod-lt, mod-eq-of-lt, mul-le-mul-left, mul-le-mul-right, min-le-left, mul-zero, mul-suc, mul-comm, zero-mul, div-div-eq-div-mul, zero-add, zero-div, zero-mod, div-one, mod-one, add-mul-mod-self-left, add-mul-div-left, div-eq-of-lt, add-comm}
 use native.Mathlib.Decide.{decLe, decLt}
 use mathlib.Core.Path.{_≡_, refl, sym, ap, _∙_}
 use mathlib.Core.Logic.{_↔_, ⊎-elim, by-cases}
-use mathlib.Core.Bool.{true}
+use mathlib.Core.Bool.{true, false}
 use mathlib.Core.List.{List, [], _∷_, _++_, map, map-append}
 use lib.Dec.{ltb}
 use lib.ListN.{length, getD, take, drop, length-map, length-take, length-drop, drop-of-length-le, List·getD-eq-default}
-use lib.Seq.{take-nil, getD-take, getD-drop, drop-drop, ext-getD}
+use lib.Seq.{take-nil, take-suc, drop-cons, length-take-le, getD-take, getD-drop, drop-drop, ext-getD}
 use lib.Arith.{digits-div, digits-mod}
 use lib.Pow.{pow-pos, pow-mono, pow-add, mod-pow-add}
 use borrow.Author.Tests.{ltb-true, lt-ltb}
 use Rattle.meaning.specs.Lists.{all, from, upto}
 use Rattle.meaning.specs.Sketch.{inRange, perByte, packedLength, packByte, packBytes, pack, group, symbolsAt, packable, allPackable, unpack}
 use Rattle.sketch_laws.specs.Packed.{symbolsOf}
-use Rattle.meaning.proofs.Lists.{and-intro, and-first, and-second, length-upto, upto-suc, upto-at, upto-all}
+use Rattle.meaning.proofs.Lists.{not-so, and-intro, and-first, and-second, length-upto, upto-suc, upto-at, upto-all}
 use Rattle.sketch_laws.proofs.Lists.{all-upto}
 
 -- ---- symbols in range
@@ -45,6 +45,9 @@ module _ (b : ℕ) where
   pub range-symbols : (k : ℕ) (xs : List ℕ) → inRange b xs ≡ true → inRange b (symbolsOf b k xs) ≡ true
   range-symbols k xs r = range-take (perByte b) (drop (k * perByte b) xs) (range-drop (k * perByte b) xs r)
 
+  pub range-not : (i : ℕ) (xs : List ℕ) → 2 ^ b ≤ getD xs i 0 → inRange b xs ≡ false
+  range-not i xs h = not-so (inRange b xs) (λ r. not-le-of-lt (range-at i xs r) h)
+
 -- ---- one byte
 module _ (b : ℕ) where
   -- one symbol more
@@ -55,6 +58,16 @@ module _ (b : ℕ) where
   unfolding packByte
   byte-append [] ds = rw (mul-zero b) (omega arith)
   byte-append (c ∷ cs) ds = rw (byte-append cs ds, width-suc (length cs)) (omega arith)
+
+  -- one symbol more, from either end
+  pub byte-suc : (i : ℕ) (cs : List ℕ) → i < length cs → packByte b (take (suc i) cs) ≡ packByte b (take i cs) + getD cs i 0 * 2 ^ (b * i)
+  unfolding packByte
+  byte-suc i cs h =
+      ap (packByte b) (take-suc cs i 0 h) ∙ byte-append (take i cs) (getD cs i 0 ∷ []) ∙ rw (length-take-le i cs (omega arith)) (omega arith)
+
+  pub byte-drop : (i : ℕ) (cs : List ℕ) → i < length cs → packByte b (drop i cs) ≡ getD cs i 0 + 2 ^ b * packByte b (drop (suc i) cs)
+  unfolding packByte
+  byte-drop i cs h = rw (drop-cons cs i 0 h)
 
   pub byte-lt : (cs : List ℕ) → inRange b cs ≡ true → packByte b cs < 2 ^ (b * length cs)
   unfolding packByte inRange all

@@ -28,6 +28,9 @@ module _ (f : ℕ → ℕ → ℕ) where
   pairs-split (suc n) (x ∷ xs) [] = omega (arith, pairs-nil (drop n xs))
   pairs-split (suc n) (x ∷ xs) (y ∷ ys) = omega (arith, pairs-split n xs ys)
 
+  pub pairs-take : (n : ℕ) (xs ys : List ℕ) → sumPairs f (take n xs) (take n ys) ≤ sumPairs f xs ys
+  pairs-take n xs ys = omega (arith, pairs-split n xs ys)
+
   pub pairs-suc : (n : ℕ) (xs ys : List ℕ) → n < length xs → n < length ys
       → sumPairs f (take (suc n) xs) (take (suc n) ys) ≡ sumPairs f (take n xs) (take n ys) + f (getD xs n 0) (getD ys n 0)
   unfolding sumPairs
