@@ -38,14 +38,15 @@ ARCHIVES = sketch_calls journal_form capi
 LIBRARY = target/staticlib/libvetchdawn.a
 archives: $(LIBRARY)
 $(LIBRARY): $(SOURCES)
-	@for name in $(ARCHIVES); do $(PROGRESS) target/staticlib.log rt staticlib $$name || exit 1; done
+	@$(PROGRESS) target/archives.log rt check $(ARCHIVES)
+	@printf '%s\n' $(ARCHIVES) | $(PROGRESS) target/staticlib.log xargs -n 1 -P 2 .ci/archive
 	@rm -f $@
 	@{ echo create $@; for name in $(ARCHIVES); do echo addlib target/staticlib/lib$$name.a; done; echo save; } | ar -M
 
 check-rust: program archives
 	@$(CARGO) test $(TESTS) --lib --test '*'
 
-# five minutes of calls on any tables; the gate has half a minute of it
+# five minutes of calls on any tables; the gate has ten seconds of it
 fuzz: archives
 	@FUZZ_SECONDS=300 $(CARGO) test $(TESTS) --test fuzz -- --nocapture
 

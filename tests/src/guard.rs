@@ -45,6 +45,17 @@ impl<T: Copy> Guarded<T> {
         }
     }
 
+    /// Other data in the same place, right before the guard page behind it. There must be room for it.
+    pub fn set(&mut self, data: &[T]) {
+        let bytes = std::mem::size_of_val(data);
+        assert!(bytes <= self.size - 2 * PAGE);
+        unsafe {
+            self.data = self.map.add(self.size - PAGE - bytes).cast::<T>();
+            std::ptr::copy_nonoverlapping(data.as_ptr(), self.data, data.len());
+        }
+        self.len = data.len();
+    }
+
     pub fn get(&self) -> &[T] {
         unsafe { std::slice::from_raw_parts(self.data, self.len) }
     }

@@ -46,11 +46,17 @@ fn tables(random: &mut Random, s: &Settings, sketches: &Sketches) -> Tables {
     t
 }
 
-fn search(random: &mut Random, t: &mut Lent, s: &Settings, query: &[u8]) -> u32 {
+/// What is lent beside the tables: a sketch, and the output of a search.
+struct Beside {
+    sketch: Guarded<u8>,
+    output: Guarded<u16>,
+}
+
+fn search(random: &mut Random, t: &mut Lent, s: &Settings, beside: &mut Beside) -> u32 {
     let (reader, radius) = (around(random, 4), around(random, 65));
-    let query = Guarded::new(query);
+    let Beside { sketch: query, output } = beside;
     let room = random.below(u64::from(s.pages) + 2) as usize;
-    let mut output = Guarded::new(&vec![0xbeef_u16; room]);
+    output.set(&vec![0xbeef_u16; room]);
     let given = calls::search(t, reader, radius, query.get(), output.get_mut());
     let count = if given.number == 0 { given.value as usize } else { 0 };
     assert!(given.number == 0 || given.number == 13 || given.value == 0);
@@ -63,7 +69,7 @@ fn search(random: &mut Random, t: &mut Lent, s: &Settings, query: &[u8]) -> u32 
 }
 
 /// One call; its number, and whether it may write the working table.
-fn call(random: &mut Random, t: &mut Lent, s: &Settings, sketches: &Sketches) -> (u32, bool) {
+fn call(random: &mut Random, t: &mut Lent, s: &Settings, sketches: &Sketches, beside: &mut Beside) -> (u32, bool) {
     let page = around(random, u64::from(s.pages));
     let mut x = sketches.near(random, 4);
     match random.below(60) {
@@ -72,10 +78,11 @@ fn call(random: &mut Random, t: &mut Lent, s: &Settings, sketches: &Sketches) ->
         2 => x[0] = random.next() as u8,
         _ => {}
     }
+    beside.sketch.set(&x);
     match random.below(16) {
-        0..=3 => (calls::add(t, page, around(random, 64), Guarded::new(&x).get()), false),
+        0..=3 => (calls::add(t, page, around(random, 64), beside.sketch.get()), false),
         4..=6 => (calls::drop(t, page), false),
-        7..=10 => (search(random, t, s, &x), true),
+        7..=10 => (search(random, t, s, beside), true),
         11 => (calls::check(t).0, true),
         12 => (calls::lent_right(t, random.below(4), around(random, 4), around(random, 4)), false),
         13 => (calls::lent_right(t, random.below(4), around(random, 256), around(random, 64)), false),
@@ -99,10 +106,11 @@ fn call(random: &mut Random, t: &mut Lent, s: &Settings, sketches: &Sketches) ->
 
 #[test]
 fn any_call_on_any_tables() {
-    let seconds = std::env::var("FUZZ_SECONDS").ok().and_then(|s| s.parse().ok()).unwrap_or(30);
+    let seconds = std::env::var("FUZZ_SECONDS").ok().and_then(|s| s.parse().ok()).unwrap_or(10);
     let end = Instant::now() + Duration::from_secs(seconds);
     let mut random = Random::new(61);
     let mut numbers = [0u64; 16];
+    let mut beside = Beside { sketch: Guarded::new(&[0; 65]), output: Guarded::new(&[0; 65_536]) };
     while Instant::now() < end {
         let s = small_settings(&mut random);
         let sketches = Sketches::new(&mut random, s.b, s.m, 3);
@@ -110,7 +118,7 @@ fn any_call_on_any_tables() {
         let mut lent = if random.below(2) == 0 { GuardedTables::new(&t) } else { GuardedTables::at_start(&t) };
         let mut before = t;
         for _ in 0..200 {
-            let (number, working) = call(&mut random, &mut lent.lend(), &s, &sketches);
+            let (number, working) = call(&mut random, &mut lent.lend(), &s, &sketches, &mut beside);
             numbers[number as usize] += 1;
             let now = lent.lend();
             if number != 0 && number != 14 {
