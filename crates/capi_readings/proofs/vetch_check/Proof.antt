@@ -8,8 +8,8 @@ use Rattle.meaning.specs.Ledger.{check, reading}
 use Rattle.promises.specs.Tables.{Tables}
 use Rattle.promises.specs.Relation.{withVerdict, Promised}
 use Rattle.trie_room.proofs.Count.{flag-most}
-use Rattle.capi.proofs.vetch_check.Statement.{statement}
-use Rattle.capi.proofs.vetch_check.Tie as tie
+use Rattle.capi_readings.proofs.vetch_check.Statement.{statement}
+use Rattle.capi_readings.proofs.vetch_check.Tie as tie
 
 check-requires : tie.Need-check-requires
 check-requires c κs = search needs

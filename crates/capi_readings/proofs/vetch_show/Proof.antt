@@ -3,8 +3,8 @@ use mathlib.Core.Path.{refl, sym}
 use borrow.Author.Needs.{needs}
 use Rattle.register.specs.Show.{placeOf}
 use Rattle.register.proofs.Shows.{part-shown}
-use Rattle.capi.proofs.vetch_show.Statement.{statement}
-use Rattle.capi.proofs.vetch_show.Tie as tie
+use Rattle.capi_readings.proofs.vetch_show.Statement.{statement}
+use Rattle.capi_readings.proofs.vetch_show.Tie as tie
 
 find-row-requires : tie.Need-find-row-requires
 find-row-requires c κs = search needs

@@ -1,8 +1,8 @@
 -- `vetch_search` gives the number and the count of `search`.
 use mathlib.Core.Path.{refl}
 use borrow.Author.Needs.{needs}
-use Rattle.capi.proofs.vetch_search.Statement.{statement}
-use Rattle.capi.proofs.vetch_search.Tie as tie
+use Rattle.capi_readings.proofs.vetch_search.Statement.{statement}
+use Rattle.capi_readings.proofs.vetch_search.Tie as tie
 
 search-requires : tie.Need-search-requires
 search-requires c κs = search needs

@@ -2,8 +2,8 @@
 use mathlib.Core.Path.{ap}
 use borrow.Author.Needs.{needs}
 use Rattle.open.specs.declared.lengths.Lengths.{Lengths}
-use Rattle.capi.proofs.vetch_lengths.Statement.{statement}
-use Rattle.capi.proofs.vetch_lengths.Tie as tie
+use Rattle.capi_readings.proofs.vetch_lengths.Statement.{statement}
+use Rattle.capi_readings.proofs.vetch_lengths.Tie as tie
 
 needed-requires : tie.Need-needed-requires
 needed-requires c κs = search needs
