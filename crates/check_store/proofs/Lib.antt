@@ -1,13 +1,5 @@
 pub mod Admitted
-pub mod Fits
-pub mod PageSteps
-pub mod FreeSteps
-pub mod WindowSteps
 pub mod StoreSteps
-pub mod LivePages
-pub mod FreeChain
-pub mod Tries
-pub mod Passes
 pub mod Words
 pub mod Right
 pub mod Whole

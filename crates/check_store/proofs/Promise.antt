@@ -25,9 +25,9 @@ use Rattle.entry.specs.Entry.{entry}
 use Rattle.promises.specs.Sound.{Sound}
 use Rattle.promises.specs.Readings.{workingLeft, CheckPromise}
 use Rattle.blocks.specs.RowBytes.{rowsOf}
-use Rattle.check_store.specs.Pages.{pageFits, testPages}
-use Rattle.check_store.specs.Free.{testFree}
-use Rattle.check_store.specs.Windows.{Passed, passed, onLeft, blockGiven, testWindow, windowsFrom, testWindows}
+use Rattle.check_tables.specs.Pages.{pageFits, testPages}
+use Rattle.check_tables.specs.Free.{testFree}
+use Rattle.check_tries.specs.Windows.{Passed, passed, onLeft, blockGiven, testWindow, windowsFrom, testWindows}
 use Rattle.check_store.specs.Store.{testStore}
 use Rattle.check_store.proofs.Admitted.{Admitted, admitted, rejected, first-number, words-fit, working-long}
 use Rattle.check_store.proofs.Right.{store-right}

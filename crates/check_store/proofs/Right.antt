@@ -32,14 +32,14 @@ use Rattle.trie_check_laws.proofs.Once.{pages-stand}
 use Rattle.trie_check_laws.proofs.Once.{pages-once as page-once}
 use Rattle.promises.specs.Tables.{Tables, given, pageClass, pageRow}
 use Rattle.promises.specs.Sound.{triesCells, Rooted, livePage, pageBytes, SoundPage, Sound}
-use Rattle.check_store.specs.Pages.{pageFits, testPages}
-use Rattle.check_store.specs.Free.{testFree}
-use Rattle.check_store.specs.Windows.{passed, onLeft, windowAt, blockGiven, testWindows}
+use Rattle.check_tables.specs.Pages.{pageFits, testPages}
+use Rattle.check_tables.specs.Free.{testFree}
+use Rattle.check_tries.specs.Windows.{passed, onLeft, windowAt, blockGiven, testWindows}
 use Rattle.check_store.specs.Store.{testStore}
-use Rattle.check_store.proofs.LivePages.{Counted, fits-live, pages-right}
-use Rattle.check_store.proofs.FreeChain.{free-right}
-use Rattle.check_store.proofs.Tries.{Each, InPlace, to-found, passed-no}
-use Rattle.check_store.proofs.Passes.{all-right}
+use Rattle.check_tables.proofs.LivePages.{Counted, fits-live, pages-right}
+use Rattle.check_tables.proofs.FreeChain.{free-right}
+use Rattle.check_tries.proofs.Tries.{Each, InPlace, to-found, passed-no}
+use Rattle.check_tries.proofs.Passes.{all-right}
 use Rattle.check_store.proofs.Words.{Once, nodes-once, pages-once}
 
 -- the tries of blocks j, j + 1, ..

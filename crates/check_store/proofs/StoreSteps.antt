@@ -6,9 +6,9 @@ use mathlib.Core.List.{List}
 use Rattle.meaning.specs.Ledger.{Settings}
 use Rattle.node_check.specs.declared.leaf.Left.{Left}
 use Rattle.node_check.specs.declared.leaf.Left.the-variants.{Some, Failed}
-use Rattle.check_store.specs.Pages.{testPages}
-use Rattle.check_store.specs.Free.{testFree}
-use Rattle.check_store.specs.Windows.{Passed, passed, testWindows}
+use Rattle.check_tables.specs.Pages.{testPages}
+use Rattle.check_tables.specs.Free.{testFree}
+use Rattle.check_tries.specs.Windows.{Passed, passed, testWindows}
 use Rattle.check_store.specs.Store.{testStore}
 
 module _ (s : Settings) (N P S : List ℕ) (free words : ℕ) (map : List ℕ) (a : Left) (pages : a ≡ testPages s P S) where

@@ -32,13 +32,13 @@ use Rattle.blocks.proofs.RowBytes.{row-same}
 use Rattle.node_check.specs.declared.leaf.Left.the-variants.{Some}
 use Rattle.promises.specs.Tables.{Tables, given, pageClass, pageRow}
 use Rattle.promises.specs.Sound.{triesCells, Rooted, livePage, pageBytes, Sound}
-use Rattle.check_store.specs.Free.{testFree}
-use Rattle.check_store.specs.Windows.{passed, testWindows}
+use Rattle.check_tables.specs.Free.{testFree}
+use Rattle.check_tries.specs.Windows.{passed, testWindows}
 use Rattle.check_store.specs.Store.{testStore}
-use Rattle.check_store.proofs.LivePages.{Fits, pages-whole}
-use Rattle.check_store.proofs.FreeChain.{free-whole}
-use Rattle.check_store.proofs.Tries.{Each, usesAll, InPlace}
-use Rattle.check_store.proofs.Passes.{windows-whole}
+use Rattle.check_tables.proofs.LivePages.{Fits, pages-whole}
+use Rattle.check_tables.proofs.FreeChain.{free-whole}
+use Rattle.check_tries.proofs.Tries.{Each, usesAll, InPlace}
+use Rattle.check_tries.proofs.Passes.{windows-whole}
 use Rattle.check_store.proofs.Words.{tries-state, tries-beyond}
 
 module _ (T : Tables) (F : List Tree) (sound : Sound T F) where

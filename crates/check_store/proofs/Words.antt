@@ -20,8 +20,8 @@ use Rattle.children.proofs.Owner.{owner}
 use Rattle.trie_check_laws.proofs.Claims.{trie-words, state-claims, free-words, uses-beyond, used-state, free-zero}
 use Rattle.store.proofs.Claims.{free-none, trie-claims, trie-none, tries-behind}
 use Rattle.promises.specs.Sound.{triesCells, Rooted}
-use Rattle.check_store.proofs.Tries.{Each, usesAll}
-use Rattle.check_store.proofs.FreeChain.{free-once}
+use Rattle.check_tries.proofs.Tries.{Each, usesAll}
+use Rattle.check_tables.proofs.FreeChain.{free-once}
 
 module _ (cap pcap : ℕ) where
   -- ---- the node table

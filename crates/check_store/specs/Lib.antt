@@ -1,4 +1,1 @@
-pub mod Pages
-pub mod Free
-pub mod Windows
 pub mod Store

@@ -2,9 +2,9 @@
 use Prim.Native.Nat.{ℕ}
 use mathlib.Core.List.{List}
 use Rattle.meaning.specs.Ledger.{Settings}
-use Rattle.check_store.specs.Pages.{testPages}
-use Rattle.check_store.specs.Free.{testFree}
-use Rattle.check_store.specs.Windows.{Passed, onLeft, testWindows}
+use Rattle.check_tables.specs.Pages.{testPages}
+use Rattle.check_tables.specs.Free.{testFree}
+use Rattle.check_tries.specs.Windows.{Passed, onLeft, testWindows}
 
 -- with the link to the first free node, and a map of so many words
 unfoldable pub testStore : Settings → List ℕ → List ℕ → List ℕ → ℕ → ℕ → List ℕ → Passed

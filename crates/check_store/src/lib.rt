@@ -6,16 +6,15 @@ ghost use Rattle.meaning.specs.Ledger.{check, reading};
 ghost use Rattle.layout.specs.Header.{bare};
 ghost use Rattle.layout.specs.Tables.{Lent};
 ghost use Rattle.promises.specs.Tables.{tables};
-ghost use Rattle.check_store.specs.Windows.{passed};
+ghost use Rattle.check_tries.specs.Windows.{passed};
 ghost use Rattle.check_store.specs.Store.{testStore};
 ghost use Rattle.promises.specs.Relation.{withVerdict, Promised};
+use check_tables::free;
+use check_tables::pages;
+use check_tries::windows;
 use layout::Header;
 use layout::Opening;
 use node_check::leaf::Left;
-
-mod free;
-mod pages;
-mod windows;
 
 // The number of the question that says no, or 0; and whether the store is sound.
 pub struct Verdict {

@@ -1,0 +1,4 @@
+pub mod PageSteps
+pub mod FreeSteps
+pub mod LivePages
+pub mod FreeChain

@@ -1,0 +1,4 @@
+pub mod Fits
+pub mod WindowSteps
+pub mod Tries
+pub mod Passes
