@@ -1,3 +1,2 @@
-pub mod Admits
 pub mod Blocks
 pub mod Puts

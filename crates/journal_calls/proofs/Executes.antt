@@ -17,7 +17,8 @@ use Rattle.promises.specs.Store.{AddPromise, DropPromise}
 use Rattle.promises.specs.Readings.{SearchPromise, Lists, earlyNumber, listedOf}
 use Rattle.promises.specs.Relation.{toStore, withOpening, withWorking}
 use Rattle.history.proofs.Lists.{passed}
-use Rattle.journal_calls.specs.Commands.{pageCapacity, nodeCapacity, foundAfter, Executed}
+use Rattle.journal_answers.specs.Answers.{pageCapacity, nodeCapacity}
+use Rattle.journal_calls.specs.Commands.{foundAfter, Executed}
 
 -- a call that gives a number alone
 module _ (T : Tables) (found : List ℕ) (r : ℕ) {n k : ℕ} (e : n ≡ r) (z : k ≡ 0) where

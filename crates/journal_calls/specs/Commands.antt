@@ -1,28 +1,12 @@
 -- A command of a journal, carried out on the program's tables.
 use Prim.Native.Nat.{ℕ, _≤_}
 use mathlib.Core.Path.{_≡_}
-use mathlib.Core.Bool.{true}
 use mathlib.Core.List.{List}
 use lib.ListN.{length}
-use Rattle.meaning.specs.Journal.{Command, callOf, ifSearch}
-use Rattle.meaning.specs.Ledger.{Call}
+use Rattle.meaning.specs.Journal.{Command, ifSearch}
 use Rattle.promises.specs.Tables.{Tables}
-use Rattle.promises.specs.Relation.{Answer, Promised}
-
--- the program's capacities
-abbrev pub pageCapacity : ℕ
-pageCapacity = 512
-
-abbrev pub nodeCapacity : ℕ
-nodeCapacity = 1024
-
--- the call that a command makes: `found` is the output of searches
-abbrev pub made : List ℕ → Command → Call
-made found c = callOf pageCapacity nodeCapacity found c
-
--- a number, a count and the output afterwards
-abbrev pub answer : ℕ → ℕ → List ℕ → Answer
-answer number count list = record { number = number; count = count; list = list; yes = true }
+use Rattle.promises.specs.Relation.{Promised}
+use Rattle.journal_answers.specs.Answers.{made, answer}
 
 -- the output of searches after a command
 unfoldable pub foundAfter : Command → List ℕ → List ℕ → List ℕ

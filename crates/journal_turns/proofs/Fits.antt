@@ -19,7 +19,7 @@ use Rattle.layout.proofs.Limits.{bounds}
 use Rattle.promises.specs.Tables.{Tables}
 use Rattle.promises.specs.Answers.{longNodes, longPages, longWorking, longFor, longSettings, entered, number}
 use Rattle.promises.specs.Relation.{Answer, Promised}
-use Rattle.journal_calls.specs.Commands.{pageCapacity, nodeCapacity, made}
+use Rattle.journal_answers.specs.Answers.{pageCapacity, nodeCapacity, made}
 use Rattle.journal_turns.specs.Runs.{nodesLent, workingLent, Roomy}
 
 module _ (T : Tables) (r : Roomy T) (b m q t : ℕ) where

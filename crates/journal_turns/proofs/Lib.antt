@@ -1,4 +1,3 @@
-pub mod Same
 pub mod Reading
 pub mod Fits
 pub mod Turns

@@ -15,7 +15,7 @@ use Rattle.promises.specs.Tables.{Tables}
 use Rattle.promises.specs.Relation.{Answer, Promised}
 use Rattle.history.specs.History.{History, event, Claim}
 use Rattle.history.proofs.Main.{theorem}
-use Rattle.journal_calls.specs.Commands.{made}
+use Rattle.journal_answers.specs.Answers.{made}
 use Rattle.journal_turns.specs.Turns.{State, state, goesOn, Carried, ends, refuses, carries}
 use Rattle.journal_turns.specs.Runs.{Run, begins, turns, opened, Roomy, Ended, Completed}
 use Rattle.journal_turns.proofs.Reading.{first-opens}

@@ -12,9 +12,11 @@ use Rattle.journal.specs.Steps.{meant, told, Stepped}
 use Rattle.journal.specs.declared.commands.Command.{Command}
 use Rattle.journal.specs.declared.commands.Step.{Step}
 use Rattle.journal.specs.declared.commands.Step.the-variants.{Taken, Refused, End}
-use Rattle.journal_calls.specs.Commands.{answer, Executed}
-use Rattle.journal_turns.specs.Turns.{symbolsAfter, lineOf, goesOn, state, Turned, ends, refuses, carries}
-use Rattle.journal_turns.proofs.Same.{same-line, same-symbols}
+use Rattle.journal_answers.specs.Answers.{answer}
+use Rattle.journal_answers.specs.Lines.{symbolsAfter, lineOf}
+use Rattle.journal_answers.proofs.Same.{same-line, same-symbols}
+use Rattle.journal_calls.specs.Commands.{Executed}
+use Rattle.journal_turns.specs.Turns.{goesOn, state, Turned, ends, refuses, carries}
 
 pub moved-to : (m : ℕ) (bytes : List ℕ) (at : ℕ) {s t : Step} → s ≡ t → Stepped m bytes at s → Stepped m bytes at t
 moved-to m bytes at e h = rw (← e) h

@@ -9,7 +9,7 @@ use Rattle.meaning.specs.Journal.{Command, opens, callOf}
 use Rattle.promises.specs.Tables.{Tables}
 use Rattle.promises.specs.Relation.{Answer, Promised}
 use Rattle.history.specs.History.{History, begun, called, event}
-use Rattle.journal_calls.specs.Commands.{made}
+use Rattle.journal_answers.specs.Answers.{made}
 use Rattle.journal_turns.specs.Turns.{State, goesOn, Stopped, Carried, Turned, ends, refuses, carries}
 use Rattle.journal_turns.proofs.Reading.{moves-on}
 

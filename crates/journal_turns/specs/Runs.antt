@@ -10,7 +10,7 @@ use Rattle.layout.specs.Nodes.{nodeWords}
 use Rattle.layout.specs.Settings.{settingsLength}
 use Rattle.promises.specs.Tables.{Tables}
 use Rattle.history.specs.History.{event, History, Claim}
-use Rattle.journal_calls.specs.Commands.{pageCapacity, nodeCapacity, made}
+use Rattle.journal_answers.specs.Answers.{pageCapacity, nodeCapacity, made}
 use Rattle.journal_turns.specs.Turns.{State, state, Turned, ends, refuses, carries}
 
 -- the call that a turn made, for the ledger: none at the end, and none where 1 to 3 refuse

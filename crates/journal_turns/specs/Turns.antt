@@ -4,24 +4,12 @@ use mathlib.Core.Path.{_≡_}
 use mathlib.Core.Bool.{Bool, false, cond, not}
 use mathlib.Core.List.{List, []}
 use lib.Dec.{eqb}
-use lib.ListN.{take}
-use Rattle.meaning.specs.Journal.{Command, ifSearch, next, ended, refused, command-to, searchLine, refusalLine}
-use Rattle.meaning.specs.Ledger.{ifOpening}
+use Rattle.meaning.specs.Journal.{Command, next, ended, refused, command-to, refusalLine}
 use Rattle.promises.specs.Tables.{Tables}
 use Rattle.promises.specs.Relation.{Answer, Promised}
-use Rattle.journal_calls.specs.Commands.{made, foundAfter}
-
--- m after a command: an opening gives it
-unfoldable pub symbolsAfter : Command → ℕ → ℕ
-symbolsAfter c m = ifOpening (made [] c) (λ s. s .symbols) m
-
--- what an accepted command writes
-unfoldable pub listing : Command → Answer → List ℕ
-listing c a = ifSearch c (λ r. searchLine r (take (a .count) (a .list))) []
-
--- what a command at an offset writes: a refused one its E line
-unfoldable pub lineOf : ℕ → Command → Answer → List ℕ
-lineOf at c a = cond (eqb (a .number) 0) (listing c a) (refusalLine at (a .number))
+use Rattle.journal_answers.specs.Answers.{made}
+use Rattle.journal_answers.specs.Lines.{symbolsAfter, lineOf}
+use Rattle.journal_calls.specs.Commands.{foundAfter}
 
 -- after 4 the program stops; 1 to 3 are no call's
 unfoldable pub goesOn : ℕ → Bool

@@ -6,10 +6,10 @@ ghost use lib.ListN.{length, take};
 ghost use lib.Seq.{sets};
 ghost use Rattle.promises.specs.Tables.{tables};
 ghost use Rattle.journal_turns.specs.Turns.{goesOn, state, Turned};
-use crate::lines::command_line;
-use crate::lines::symbols_after;
 use journal::commands::Step;
 use journal::reading::read;
+use journal_answers::lines::command_line;
+use journal_answers::lines::symbols_after;
 use journal_calls::commands::execute;
 use journal_lines::refusal_line;
 

@@ -2,10 +2,10 @@
 use borrow.Author.Needs.{needs}
 use Rattle.meaning.specs.Journal.{callOf}
 use Rattle.journal.specs.Steps.{meant}
-use Rattle.journal_turns.specs.Turns.{symbolsAfter}
-use Rattle.journal_turns.proofs.Same.{symbols-kept}
-use Rattle.journal_turns.proofs.lines.symbols_after.Statement.{statement}
-use Rattle.journal_turns.proofs.lines.symbols_after.Tie as tie
+use Rattle.journal_answers.specs.Lines.{symbolsAfter}
+use Rattle.journal_answers.proofs.Same.{symbols-kept}
+use Rattle.journal_answers.proofs.lines.symbols_after.Statement.{statement}
+use Rattle.journal_answers.proofs.lines.symbols_after.Tie as tie
 
 enum-known-command : tie.Need-enum-known-command
 enum-known-command c = search needs

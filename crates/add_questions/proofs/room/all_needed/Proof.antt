@@ -6,8 +6,8 @@ use borrow.Author.Needs.{needs}
 use Rattle.layout.specs.Header.{withThresholds}
 use Rattle.add_laws.specs.Room.{neededFrom, blockNeeds, allNeeded}
 use Rattle.add_laws.proofs.Rooms.{needs-start, needs-done, needs-more, needs-broken, needs-few}
-use Rattle.add_page.proofs.room.all_needed.Statement.{statement}
-use Rattle.add_page.proofs.room.all_needed.Tie as tie
+use Rattle.add_questions.proofs.room.all_needed.Statement.{statement}
+use Rattle.add_questions.proofs.room.all_needed.Tie as tie
 
 abbrev Inv-loop : tie.InvT-loop
 Inv-loop thresholds nodes pages sketches h sketch q sum₀ j₀ sum j =

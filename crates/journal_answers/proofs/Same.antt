@@ -12,7 +12,7 @@ use Rattle.journal.specs.Steps.{meant}
 use Rattle.journal.specs.declared.commands.Command.{Command}
 use Rattle.journal.proofs.commands.Command.{the-type}
 use Rattle.journal.specs.declared.commands.Command.the-variants.{Open, Add, Drop, Register, Search}
-use Rattle.journal_turns.specs.Turns.{symbolsAfter, listing, lineOf}
+use Rattle.journal_answers.specs.Lines.{symbolsAfter, listing, lineOf}
 
 pub same-listing : (m : ℕ) (bytes : List ℕ) (c : Command) (a : Answer) → listing (meant 0 [] c) a ≡ listing (meant m bytes c) a
 unfolding meant listing

@@ -1,9 +1,9 @@
 -- `command_line`: a refused command has its E line, an accepted one its listing.
 use borrow.Author.Needs.{needs}
 use borrow.Author.Tests.{ne-eqb}
-use Rattle.journal_turns.specs.Turns.{lineOf}
-use Rattle.journal_turns.proofs.lines.command_line.Statement.{statement}
-use Rattle.journal_turns.proofs.lines.command_line.Tie as tie
+use Rattle.journal_answers.specs.Lines.{lineOf}
+use Rattle.journal_answers.proofs.lines.command_line.Statement.{statement}
+use Rattle.journal_answers.proofs.lines.command_line.Tie as tie
 
 refusal-line-requires : tie.Need-refusal-line-requires
 refusal-line-requires c κs = search needs

@@ -5,9 +5,9 @@ use borrow.Author.Needs.{needs}
 use lib.Seq.{length-take-le}
 use Rattle.blocks.specs.Tables.{InTables}
 use Rattle.blocks.proofs.Tables.{in-tables}
-use Rattle.add_page.proofs.Blocks.{needs-block}
-use Rattle.add_page.proofs.room.block_needs.Statement.{statement}
-use Rattle.add_page.proofs.room.block_needs.Tie as tie
+use Rattle.add_questions.proofs.Blocks.{needs-block}
+use Rattle.add_questions.proofs.room.block_needs.Statement.{statement}
+use Rattle.add_questions.proofs.room.block_needs.Tie as tie
 
 block-bytes-requires : tie.Need-block-bytes-requires
 block-bytes-requires c κs = search needs

@@ -9,9 +9,9 @@ use Rattle.promises.specs.Tables.{tables}
 use Rattle.entry.specs.Entry.{storeEntry}
 use Rattle.entry.proofs.Questions.{fails, holds}
 use Rattle.entry.proofs.Admits.{pages-fit, shown-limits}
-use Rattle.add_page.proofs.Admits.{admit-refused, admit-7, admit-page, admit-10, admit-11, admit-all}
-use Rattle.add_page.proofs.questions.admit.Statement.{statement}
-use Rattle.add_page.proofs.questions.admit.Tie as tie
+use Rattle.add_questions.proofs.Admits.{admit-refused, admit-7, admit-page, admit-10, admit-11, admit-all}
+use Rattle.add_questions.proofs.questions.admit.Statement.{statement}
+use Rattle.add_questions.proofs.questions.admit.Tie as tie
 
 admit-requires : tie.Need-admit-requires
 admit-requires c κs = search needs

@@ -4,10 +4,10 @@ use native.Mathlib.Omega.{arith}
 use lib.Seq.{length-take-le}
 use borrow.Author.Needs.{needs}
 use Rattle.journal.specs.Steps.{meant}
-use Rattle.journal_turns.specs.Turns.{listing}
-use Rattle.journal_turns.proofs.Same.{no-listing}
-use Rattle.journal_turns.proofs.lines.listing_line.Statement.{statement}
-use Rattle.journal_turns.proofs.lines.listing_line.Tie as tie
+use Rattle.journal_answers.specs.Lines.{listing}
+use Rattle.journal_answers.proofs.Same.{no-listing}
+use Rattle.journal_answers.proofs.lines.listing_line.Statement.{statement}
+use Rattle.journal_answers.proofs.lines.listing_line.Tie as tie
 
 enum-known-command : tie.Need-enum-known-command
 enum-known-command c = search needs

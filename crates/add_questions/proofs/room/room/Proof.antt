@@ -2,8 +2,8 @@
 use borrow.Author.Needs.{needs}
 use Rattle.layout.specs.Lengths.{nodesLength}
 use Rattle.add_laws.proofs.Rooms.{room-counted, room-broken}
-use Rattle.add_page.proofs.room.room.Statement.{statement}
-use Rattle.add_page.proofs.room.room.Tie as tie
+use Rattle.add_questions.proofs.room.room.Statement.{statement}
+use Rattle.add_questions.proofs.room.room.Tie as tie
 
 all-needed-requires : tie.Need-all-needed-requires
 all-needed-requires c κs = search needs
