@@ -10,11 +10,11 @@ use Rattle.layout.specs.declared.Header.{Header}
 use Rattle.layout.specs.Header.{bare}
 use Rattle.layout.specs.Pages.{nextAt}
 use Rattle.marks.specs.Marks.{listOf}
-use Rattle.walk.specs.declared.place.Place.{Place}
+use Rattle.walk_steps.specs.declared.place.Place.{Place}
+use Rattle.walk_steps.specs.Given.{Given, given}
 use Rattle.walk.specs.declared.batch.Batch.{Batch}
 use Rattle.walk.specs.declared.batch.Rest.{Rest}
 use Rattle.walk.specs.declared.batch.Rest.the-variants as rest
-use Rattle.walk.specs.Given.{Given, given}
 use Rattle.walk.specs.Leaves.{Leaves, before}
 use Rattle.walk.specs.Walk.{walkFrom}
 use Rattle.walk.specs.Batch.{linksOf, from, still, Ready, Gives}

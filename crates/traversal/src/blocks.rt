@@ -48,7 +48,7 @@ fn meet_block(
     let packed = pack(h, query, j);
     let bytes = packed.bytes;
     let n = packed.n;
-    let trie = walk::Scope {
+    let trie = walk_steps::Scope {
         cap: h.nodes,
         b: h.b as u32,
     };

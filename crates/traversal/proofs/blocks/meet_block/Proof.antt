@@ -8,7 +8,7 @@ use lib.Seq.{length-take-le}
 use Rattle.layout.specs.Pages.{nextAt}
 use Rattle.hits.specs.Hit.{passes}
 use Rattle.hits.specs.Probes.{testBy}
-use Rattle.walk.specs.Given.{within}
+use Rattle.walk_steps.specs.Given.{within}
 use Rattle.walk.proofs.Batches.{gives-ready}
 use Rattle.traversal.specs.Chains.{baseOf, Linked}
 use Rattle.traversal.proofs.Tables.{ready-kept, links-inside, links-small, fitting}

@@ -16,13 +16,13 @@ use Rattle.children.proofs.Cursors.{next-below}
 use Rattle.descent.specs.declared.Cursor.{Cursor}
 use Rattle.descent.specs.Cursor.{Inside}
 use Rattle.descent.proofs.Steps.{inside-ended, inside-arrive}
-use Rattle.walk.specs.declared.frame.Frame.{Frame}
-use Rattle.walk.specs.declared.place.Place.{Place}
-use Rattle.walk.specs.declared.turn.Move.{Move}
-use Rattle.walk.specs.declared.turn.Move.the-variants.{Chain, Past, Leaf, Down, Up, Broken}
-use Rattle.walk.specs.Given.{Given, exactFrom}
-use Rattle.walk.specs.Turn.{reachedAs, reached, distanceAt, foundBy, found, reads}
-use Rattle.walk.specs.Place.{turned}
+use Rattle.walk_steps.specs.declared.frame.Frame.{Frame}
+use Rattle.walk_steps.specs.declared.place.Place.{Place}
+use Rattle.walk_steps.specs.declared.turn.Move.{Move}
+use Rattle.walk_steps.specs.declared.turn.Move.the-variants.{Chain, Past, Leaf, Down, Up, Broken}
+use Rattle.walk_steps.specs.Given.{Given, exactFrom}
+use Rattle.walk_steps.specs.Turn.{reachedAs, reached, distanceAt, foundBy, found, reads}
+use Rattle.walk_steps.specs.Place.{turned}
 
 module _ (w : Given) where
   -- ---- to a child within the radius, by what it is

@@ -7,8 +7,10 @@ use mathlib.Core.List.{List, [], _∷_}
 use lib.ListN.{length, getD, set, length-set}
 use lib.Seq.{getD-set-same, getD-set-other}
 use Rattle.meaning.proofs.Stacks.{suc-pred}
-use Rattle.walk.specs.declared.frame.Frame.{Frame}
-use Rattle.walk.specs.Stack.{frameAt, frames, pushed}
+use Rattle.children.specs.Cursors.{allOf}
+use Rattle.walk_steps.specs.declared.frame.Frame.{Frame}
+use Rattle.walk_steps.specs.Turn.{entered}
+use Rattle.walk_steps.specs.Stack.{frameAt, frames, pushed, Within}
 
 -- ---- four words in a row
 module _ (xs : List ℕ) (i a b c d : ℕ) where
@@ -116,3 +118,8 @@ module _ (stack : List ℕ) where
   pub frames-take : (n : ℕ) → 0 < n → frames stack n ≡ frameAt stack (n - 1) ∷ frames stack (n - 1)
   unfolding frames
   frames-take n l = ap (frames stack) (suc-pred n l)
+
+-- ---- the frame of a node that is entered
+pub entered-within : (nodes : List ℕ) (cap x radius : ℕ) → x < cap → Within cap (entered nodes cap x radius)
+unfolding allOf
+entered-within nodes cap x radius l = omega arith

@@ -1,10 +1,10 @@
 -- `reach` is `reached`, by what the child is.
 use mathlib.Core.Path.{ap, _∙_}
-use Rattle.walk.specs.declared.turn.Move.the-variants as move
-use Rattle.walk.proofs.Turns.{reached-by, reached-exact, reached-short, reached-down}
+use Rattle.walk_steps.specs.declared.turn.Move.the-variants as move
+use Rattle.walk_steps.proofs.Turns.{reached-by, reached-exact, reached-short, reached-down}
 use borrow.Author.Needs.{needs}
-use Rattle.walk.proofs.turn.reach.Statement.{statement}
-use Rattle.walk.proofs.turn.reach.Tie as tie
+use Rattle.walk_steps.proofs.turn.reach.Statement.{statement}
+use Rattle.walk_steps.proofs.turn.reach.Tie as tie
 
 kind-of-requires : tie.Need-kind-of-requires
 kind-of-requires c κs = search needs

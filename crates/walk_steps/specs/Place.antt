@@ -3,13 +3,13 @@ use Prim.Native.Nat.{ℕ, _+_, _-_}
 use mathlib.Core.Bool.{cond}
 use mathlib.Core.List.{List}
 use lib.Dec.{ltb, eqb}
-use Rattle.walk.specs.declared.frame.Frame.{Frame}
-use Rattle.walk.specs.declared.place.Place.{Place}
-use Rattle.walk.specs.declared.turn.Move.{Move}
-use Rattle.walk.specs.declared.turn.Move.the-variants.{Broken}
-use Rattle.walk.specs.Given.{Given}
-use Rattle.walk.specs.Turn.{entered, atChain, atLink, found, reads}
-use Rattle.walk.specs.Stack.{frameAt}
+use Rattle.walk_steps.specs.declared.frame.Frame.{Frame}
+use Rattle.walk_steps.specs.declared.place.Place.{Place}
+use Rattle.walk_steps.specs.declared.turn.Move.{Move}
+use Rattle.walk_steps.specs.declared.turn.Move.the-variants.{Broken}
+use Rattle.walk_steps.specs.Given.{Given}
+use Rattle.walk_steps.specs.Turn.{entered, atChain, atLink, found, reads}
+use Rattle.walk_steps.specs.Stack.{frameAt}
 
 abbrev pub placed : ℕ → Frame → ℕ → ℕ → Place
 placed depth frame nodes steps = record { depth = depth; frame = frame; nodes = nodes; steps = steps }

@@ -1,9 +1,9 @@
 -- `push` is `pushed`.
 use mathlib.Core.Path.{refl}
-use Rattle.walk.specs.Stack.{pushed}
+use Rattle.walk_steps.specs.Stack.{pushed}
 use borrow.Author.Needs.{needs}
-use Rattle.walk.proofs.frame.push.Statement.{statement}
-use Rattle.walk.proofs.frame.push.Tie as tie
+use Rattle.walk_steps.proofs.frame.push.Statement.{statement}
+use Rattle.walk_steps.proofs.frame.push.Tie as tie
 
 mul-i : tie.Need-mul-i
 mul-i c = search needs

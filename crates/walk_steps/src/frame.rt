@@ -2,8 +2,8 @@
 ghost use mathlib.Core.Path.{_≡_};
 ghost use Prim.Native.Nat.{_<_};
 ghost use Rattle.layout.specs.Tables.{NodeTable};
-ghost use Rattle.walk.specs.Turn.{entered};
-ghost use Rattle.walk.specs.Stack.{frameAt, pushed};
+ghost use Rattle.walk_steps.specs.Turn.{entered};
+ghost use Rattle.walk_steps.specs.Stack.{frameAt, pushed};
 use children::cursor::Cursor;
 
 // The children at a cursor, each to be within the radius.

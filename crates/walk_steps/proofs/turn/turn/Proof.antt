@@ -1,10 +1,10 @@
 -- `turn` is `turned`, by the next step in the node.
 use native.Mathlib.Omega.{arith}
 use Rattle.children.proofs.Cursors.{next-below}
-use Rattle.walk.proofs.Turns.{turned-spent, turned-out, turned-chain, turned-up, turned-broken, turned-past, turned-reached}
+use Rattle.walk_steps.proofs.Turns.{turned-spent, turned-out, turned-chain, turned-up, turned-broken, turned-past, turned-reached}
 use borrow.Author.Needs.{needs}
-use Rattle.walk.proofs.turn.turn.Statement.{statement}
-use Rattle.walk.proofs.turn.turn.Tie as tie
+use Rattle.walk_steps.proofs.turn.turn.Statement.{statement}
+use Rattle.walk_steps.proofs.turn.turn.Tie as tie
 
 returns : tie.Need-returns
 returns c = turned-spent _ _ (c .if1 .taken)

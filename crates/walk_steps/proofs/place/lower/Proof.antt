@@ -1,7 +1,7 @@
 -- `lower` is `lowered`.
 use borrow.Author.Needs.{needs}
-use Rattle.walk.proofs.place.lower.Statement.{statement}
-use Rattle.walk.proofs.place.lower.Tie as tie
+use Rattle.walk_steps.proofs.place.lower.Statement.{statement}
+use Rattle.walk_steps.proofs.place.lower.Tie as tie
 
 add-t6 : tie.Need-add-t6
 add-t6 c = search needs

@@ -2,7 +2,7 @@
 ghost use mathlib.Core.Path.{_≡_};
 ghost use Prim.Native.Nat.{_<_};
 ghost use Rattle.layout.specs.Tables.{NodeTable};
-ghost use Rattle.walk.specs.Place.{onChain, onLink, lowered, raised};
+ghost use Rattle.walk_steps.specs.Place.{onChain, onLink, lowered, raised};
 use crate::frame;
 use crate::frame::Frame;
 use children::cursor::Cursor;

@@ -6,7 +6,7 @@ use Rattle.sketch.specs.Settings.{Bits}
 use Rattle.layout.specs.Tables.{NodeTable}
 use Rattle.descent.specs.declared.Cursor.{Cursor}
 use Rattle.descent.specs.Cursor.{arrive, descended, drawn, leafOf}
-use Rattle.walk.specs.declared.Scope.{Scope}
+use Rattle.walk_steps.specs.declared.Scope.{Scope}
 
 -- the node table, its capacity, b, the query's bytes
 pub record Given : Type 0 where

@@ -1,7 +1,7 @@
 -- `enter` takes all children.
 use borrow.Author.Needs.{needs}
-use Rattle.walk.proofs.frame.enter.Statement.{statement}
-use Rattle.walk.proofs.frame.enter.Tie as tie
+use Rattle.walk_steps.proofs.frame.enter.Statement.{statement}
+use Rattle.walk_steps.proofs.frame.enter.Tie as tie
 
 all-requires : tie.Need-all-requires
 all-requires c κs = search needs

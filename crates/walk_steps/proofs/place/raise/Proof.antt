@@ -1,7 +1,7 @@
 -- `raise` is `raised`.
 use borrow.Author.Needs.{needs}
-use Rattle.walk.proofs.place.raise.Statement.{statement}
-use Rattle.walk.proofs.place.raise.Tie as tie
+use Rattle.walk_steps.proofs.place.raise.Statement.{statement}
+use Rattle.walk_steps.proofs.place.raise.Tie as tie
 
 sub-depth : tie.Need-sub-depth
 sub-depth c = search needs

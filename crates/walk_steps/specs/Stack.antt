@@ -3,7 +3,7 @@ use Prim.Native.Nat.{ℕ, zero, suc, _+_, _*_, _<_}
 use mathlib.Core.List.{List, [], _∷_}
 use lib.ListN.{getD, set}
 use Rattle.layout.specs.Nodes.{nodeWords}
-use Rattle.walk.specs.declared.frame.Frame.{Frame}
+use Rattle.walk_steps.specs.declared.frame.Frame.{Frame}
 
 abbrev pub frameAt : List ℕ → ℕ → Frame
 frameAt stack k = record {

@@ -13,10 +13,10 @@ use Rattle.children.specs.Cursors.{allOf, nextOf}
 use Rattle.children.specs.declared.cursor.Next.{Next}
 use Rattle.children.specs.declared.cursor.Next.the-variants as next
 use Rattle.descent.specs.Cursor.{ended}
-use Rattle.walk.specs.declared.frame.Frame.{Frame}
-use Rattle.walk.specs.declared.turn.Move.{Move}
-use Rattle.walk.specs.declared.turn.Move.the-variants.{Chain, Past, Leaf, Down, Up, Broken}
-use Rattle.walk.specs.Given.{Given, exactFrom}
+use Rattle.walk_steps.specs.declared.frame.Frame.{Frame}
+use Rattle.walk_steps.specs.declared.turn.Move.{Move}
+use Rattle.walk_steps.specs.declared.turn.Move.the-variants.{Chain, Past, Leaf, Down, Up, Broken}
+use Rattle.walk_steps.specs.Given.{Given, exactFrom}
 
 -- all children of node x
 abbrev pub entered : List ℕ → ℕ → ℕ → ℕ → Frame
