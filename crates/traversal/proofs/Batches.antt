@@ -25,11 +25,11 @@ use Rattle.meeting.specs.declared.Tallies.{Tallies}
 use Rattle.meeting.specs.declared.Tallies.the-variants.{Some, Broken}
 use Rattle.meeting.specs.Meets.{Meets, met, broken as unmet, withLeft, chainsOf}
 use Rattle.meeting.specs.Mets.{Meeting}
-use Rattle.traversal.specs.Chains.{baseOf, Linked}
+use Rattle.meeting.specs.Chains.{baseOf, Linked}
+use Rattle.meeting.proofs.Linked.{linked-in}
 use Rattle.traversal.specs.Meets.{walkOf, meetBlock}
 use Rattle.traversal.proofs.Going.{meeting-same, Going, going-start, going-broken, going-over, going-met, going-stop}
 use Rattle.traversal.proofs.Pages.{chainsIn, pagesFrom, pages-all, pages-met, pages-unmet}
-use Rattle.traversal.proofs.Linked.{linked-in}
 
 -- more than the steps that are left
 abbrev pub stepsOf : Rest → ℕ

@@ -11,11 +11,11 @@ ghost use Rattle.meeting.specs.Mets.{Meeting};
 ghost use Rattle.traversal.specs.Meets.{meetBlock, meetFrom, meetBlocks};
 ghost use Rattle.traversal.specs.Ready.{Prepared};
 use crate::bytes::pack;
-use crate::chains::chains_of;
 use descent::Left;
 use meeting::Scope;
 use meeting::Tallies;
 use meeting::Tally;
+use meeting::chains_of;
 use meeting::meet;
 use walk::batch::Rest;
 

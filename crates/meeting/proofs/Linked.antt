@@ -7,11 +7,11 @@ use mathlib.Core.List.{List, [], _∷_, map}
 use lib.ListN.{length, getD, take}
 use Rattle.meaning.specs.Lists.{from}
 use Rattle.layout.specs.Pages.{nextAt}
 use Rattle.meeting.specs.declared.Chain.{Chain}
 use Rattle.meeting.specs.declared.Chains.{Chains}
 use Rattle.meeting.specs.Meets.{chain}
 use Rattle.meeting.specs.Mets.{Inside}
-use Rattle.traversal.specs.Chains.{baseOf, Linked}
+use Rattle.meeting.specs.Chains.{baseOf, Linked}
 
 pub linked-from : (first base step : ℕ) {links : List ℕ} {n : ℕ} {r : Chains} → first ≡ base → Linked (baseOf first step) links n r → Linked (baseOf base step) links n r
 linked-from first base step {links} {n} {r} e l = subst (λ b. Linked (baseOf b step) links n r) e l
