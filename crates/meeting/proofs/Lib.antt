@@ -5,3 +5,5 @@ pub mod Maps
 pub mod Rounds
 pub mod Held
 pub mod Example
+pub mod Bases
+pub mod Linked

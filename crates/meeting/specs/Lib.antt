@@ -2,3 +2,4 @@ pub mod Meets
 pub mod Mets
 pub mod Turns
 pub mod Held
+pub mod Chains

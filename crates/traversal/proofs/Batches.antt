@@ -10,11 +10,11 @@ use Rattle.layout.specs.declared.Header.{Header}
 use Rattle.layout.specs.Header.{bare}
 use Rattle.layout.specs.Pages.{nextAt}
 use Rattle.marks.specs.Marks.{listOf}
-use Rattle.walk.specs.declared.place.Place.{Place}
+use Rattle.walk_steps.specs.declared.place.Place.{Place}
+use Rattle.walk_steps.specs.Given.{Given, given}
 use Rattle.walk.specs.declared.batch.Batch.{Batch}
 use Rattle.walk.specs.declared.batch.Rest.{Rest}
 use Rattle.walk.specs.declared.batch.Rest.the-variants as rest
-use Rattle.walk.specs.Given.{Given, given}
 use Rattle.walk.specs.Leaves.{Leaves, before}
 use Rattle.walk.specs.Walk.{walkFrom}
 use Rattle.walk.specs.Batch.{linksOf, from, still, Ready, Gives}
@@ -25,11 +25,11 @@ use Rattle.meeting.specs.declared.Tallies.{Tallies}
 use Rattle.meeting.specs.declared.Tallies.the-variants.{Some, Broken}
 use Rattle.meeting.specs.Meets.{Meets, met, broken as unmet, withLeft, chainsOf}
 use Rattle.meeting.specs.Mets.{Meeting}
-use Rattle.traversal.specs.Chains.{baseOf, Linked}
+use Rattle.meeting.specs.Chains.{baseOf, Linked}
+use Rattle.meeting.proofs.Linked.{linked-in}
 use Rattle.traversal.specs.Meets.{walkOf, meetBlock}
 use Rattle.traversal.proofs.Going.{meeting-same, Going, going-start, going-broken, going-over, going-met, going-stop}
 use Rattle.traversal.proofs.Pages.{chainsIn, pagesFrom, pages-all, pages-met, pages-unmet}
-use Rattle.traversal.proofs.Linked.{linked-in}
 
 -- more than the steps that are left
 abbrev pub stepsOf : Rest → ℕ

@@ -26,12 +26,12 @@ use Rattle.meeting.specs.declared.Tallies.{Tallies}
 use Rattle.meeting.specs.declared.Tallies.the-variants.{Some, Broken}
 use Rattle.meeting.specs.Meets.{Meets, met, broken, after, andThen, withLeft, chainOf, chainsOf, chain}
 use Rattle.meeting.specs.Mets.{Meeting}
+use Rattle.meeting.specs.Chains.{baseOf, Linked}
 use Rattle.meeting.proofs.Links.{then-broken}
 use Rattle.meeting.proofs.Bounded.{left-after, eachOf, chains-each}
-use Rattle.traversal.specs.Chains.{baseOf, Linked}
+use Rattle.meeting.proofs.Linked.{linked-each}
 use Rattle.traversal.specs.Meets.{walkOf, pagesOf, meetBlock, meetFrom}
 use Rattle.traversal.proofs.Going.{Going, going-start, going-same, going-over, going-met, going-stop}
-use Rattle.traversal.proofs.Linked.{linked-each}
 
 -- ---- what is left of a budget, by the code's answer
 left-some : (n d k : ℕ) → leftOf n d ≡ left.Some k → (d ≤ n) × (n - d ≡ k)

@@ -11,12 +11,12 @@ use Rattle.layout.specs.States.{kindOf}
 use Rattle.layout.specs.declared.nodes.Kind.{Kind}
 use Rattle.layout.specs.declared.nodes.Kind.the-variants as kind
 use Rattle.descent.specs.declared.Cursor.{Cursor}
-use Rattle.walk.specs.declared.frame.Frame.{Frame}
-use Rattle.walk.specs.declared.turn.Move.{Move}
-use Rattle.walk.specs.declared.turn.Move.the-variants as move
-use Rattle.walk.specs.Given.{Given, exactFrom, leafFrom, drawnFrom}
+use Rattle.walk_steps.specs.declared.frame.Frame.{Frame}
+use Rattle.walk_steps.specs.declared.turn.Move.{Move}
+use Rattle.walk_steps.specs.declared.turn.Move.the-variants as move
+use Rattle.walk_steps.specs.Given.{Given, exactFrom, leafFrom, drawnFrom}
+use Rattle.walk_steps.specs.Turn.{entered, atLink, found, reads}
 use Rattle.walk.specs.Leaves.{Leaves, leaves, broken, before, spend}
-use Rattle.walk.specs.Turn.{entered, atLink, found, reads}
 use Rattle.walk.specs.Walk.{State, state, leafThen, follow, run, walkBelow, walkAs, walkFrom}
 
 abbrev AtMost : ℕ → Leaves → Type 0

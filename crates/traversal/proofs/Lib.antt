@@ -1,8 +1,6 @@
-pub mod Bases
 pub mod Left
 pub mod Going
 pub mod Pages
-pub mod Linked
 pub mod Tables
 pub mod Exact
 pub mod Batches

@@ -16,7 +16,7 @@ use Rattle.layout.specs.Pages.{nextAt}
 use Rattle.layout.specs.Lengths.{nodesLength, pagesLength}
 use Rattle.descent.specs.Leaves.{blockSize}
 use Rattle.descent.proofs.Sizes.{bytes-length, size-most, size-some}
-use Rattle.walk.specs.Given.{given, Fitting}
+use Rattle.walk_steps.specs.Given.{given, Fitting}
 use Rattle.meeting.specs.declared.Scope.{Scope}
 use Rattle.meeting.specs.Mets.{Kept, Ready}
 use Rattle.meeting.proofs.Maps.{kept-room}

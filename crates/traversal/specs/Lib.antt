@@ -1,4 +1,3 @@
 pub mod Meets
-pub mod Chains
 pub mod Ready
 pub mod Bytes

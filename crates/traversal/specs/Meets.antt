@@ -6,7 +6,7 @@ use Rattle.meaning.specs.Forest.{bytesOfSketch}
 use Rattle.layout.specs.declared.Header.{Header}
 use Rattle.layout.specs.Header.{bare}
 use Rattle.layout.specs.Pages.{nextAt}
-use Rattle.walk.specs.Given.{Given, given}
+use Rattle.walk_steps.specs.Given.{Given, given}
 use Rattle.walk.specs.Leaves.{Leaves, leaves, broken}
 use Rattle.walk.specs.Walk.{walkFrom}
 use Rattle.meeting.specs.Meets.{Meets, met, broken as unmet, andThen, withLeft, chainsOf, chain}

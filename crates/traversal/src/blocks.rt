@@ -11,11 +11,11 @@ ghost use Rattle.meeting.specs.Mets.{Meeting};
 ghost use Rattle.traversal.specs.Meets.{meetBlock, meetFrom, meetBlocks};
 ghost use Rattle.traversal.specs.Ready.{Prepared};
 use crate::bytes::pack;
-use crate::chains::chains_of;
 use descent::Left;
 use meeting::Scope;
 use meeting::Tallies;
 use meeting::Tally;
+use meeting::chains_of;
 use meeting::meet;
 use walk::batch::Rest;
 
@@ -48,7 +48,7 @@ fn meet_block(
     let packed = pack(h, query, j);
     let bytes = packed.bytes;
     let n = packed.n;
-    let trie = walk::Scope {
+    let trie = walk_steps::Scope {
         cap: h.nodes,
         b: h.b as u32,
     };

@@ -8,21 +8,19 @@ use Rattle.layout.specs.Nodes.{stepsFor}
 use Rattle.layout.specs.States.{kindOf}
 use Rattle.layout.specs.declared.nodes.Kind.{Kind}
 use Rattle.layout.specs.declared.nodes.Kind.the-variants as kind
-use Rattle.children.specs.Cursors.{allOf}
-use Rattle.walk.specs.declared.frame.Frame.{Frame}
-use Rattle.walk.specs.declared.place.Place.{Place}
+use Rattle.walk_steps.specs.declared.frame.Frame.{Frame}
+use Rattle.walk_steps.specs.declared.place.Place.{Place}
+use Rattle.walk_steps.specs.Given.{Given, Fitting}
+use Rattle.walk_steps.specs.Turn.{entered}
+use Rattle.walk_steps.specs.Place.{placed}
+use Rattle.walk_steps.proofs.Stack.{frames-none, entered-within}
 use Rattle.walk.specs.declared.batch.Rest.{Rest}
 use Rattle.walk.specs.declared.batch.Rest.the-variants.{More, Done, Broken}
 use Rattle.walk.specs.declared.batch.Batch.{Batch}
-use Rattle.walk.specs.Given.{Given, Fitting}
 use Rattle.walk.specs.Leaves.{Leaves, leaves, broken, before}
-use Rattle.walk.specs.Turn.{entered}
-use Rattle.walk.specs.Stack.{Within}
-use Rattle.walk.specs.Place.{placed}
 use Rattle.walk.specs.Walk.{state, run, walkBelow, walkFrom}
 use Rattle.walk.specs.Batch.{bare, linksOf, from, still, Standing, Ready, Gives, Begins}
 use Rattle.walk.proofs.Spend.{before-none}
-use Rattle.walk.proofs.Stack.{frames-none}
 use Rattle.walk.proofs.Run.{from-by}
 
 -- ---- the ends of a batch
@@ -43,10 +41,6 @@ module _ {w : Given} {stack : List ℕ} {all : Leaves} {steps : ℕ} {r : Batch}
   gives-broken e = gives-as Broken e
 
 -- ---- the first
-pub entered-within : (nodes : List ℕ) (cap x radius : ℕ) → x < cap → Within cap (entered nodes cap x radius)
-unfolding allOf
-entered-within nodes cap x radius l = omega arith
-
 gives-bare : (w : Given) (stack : List ℕ) (all : Leaves) (steps : ℕ) (a : Rest) → still w stack a ≡ all → Ready w stack steps a → Gives w stack all steps (bare a)
 gives-bare w stack all steps a e h = record { few = omega arith; same = before-none (still w stack a) ∙ e; ready = h }
 

@@ -10,25 +10,24 @@ use lib.ListN.{length, set, take}
 use borrow.Author.Tests.{eqb-true, eqb-false, lt-ltb, le-ltb}
 use Rattle.descent.specs.declared.Cursor.{Cursor}
 use Rattle.descent.specs.Cursor.{AllInside}
-use Rattle.walk.specs.declared.frame.Frame.{Frame}
-use Rattle.walk.specs.declared.place.Place.{Place}
-use Rattle.walk.specs.declared.turn.Move.{Move}
-use Rattle.walk.specs.declared.turn.Move.the-variants.{Chain, Past, Leaf, Down, Up, Broken}
+use Rattle.walk_steps.specs.declared.frame.Frame.{Frame}
+use Rattle.walk_steps.specs.declared.place.Place.{Place}
+use Rattle.walk_steps.specs.declared.turn.Move.{Move}
+use Rattle.walk_steps.specs.declared.turn.Move.the-variants.{Chain, Past, Leaf, Down, Up, Broken}
+use Rattle.walk_steps.specs.Given.{Given, Fitting}
+use Rattle.walk_steps.specs.Turn.{entered, atChain, atLink, found, reads}
+use Rattle.walk_steps.specs.Place.{withNodes, onChain, onLink, lowered, raised, turned}
+use Rattle.walk_steps.specs.Stack.{frameAt, frames, pushed, AllWithin}
+use Rattle.walk_steps.proofs.Stack.{pushed-length, frames-push, frames-length, frames-none, frames-take, entered-within}
+use Rattle.walk_steps.proofs.Turns.{Kept, kept-by}
 use Rattle.walk.specs.declared.batch.Rest.the-variants as rest
 use Rattle.walk.specs.declared.batch.Batch.{Batch}
-use Rattle.walk.specs.Given.{Given, Fitting}
 use Rattle.walk.specs.Leaves.{Leaves, leaves, broken, spend}
-use Rattle.walk.specs.Turn.{entered, atChain, atLink, found, reads}
-use Rattle.walk.specs.Place.{withNodes, onChain, onLink, lowered, raised, turned}
-use Rattle.walk.specs.Stack.{frameAt, frames, pushed, AllWithin}
 use Rattle.walk.specs.Walk.{state, above, follow, run}
 use Rattle.walk.specs.Batch.{bare, from, Standing, Gives}
 use Rattle.walk.specs.Waiting.{Settled}
-use Rattle.walk.proofs.Stack.{pushed-length, frames-push, frames-length, frames-none, frames-take}
 use Rattle.walk.proofs.Run.{run-spent, run-by}
-use Rattle.walk.proofs.Turns.{Kept, kept-by}
 use Rattle.walk.proofs.Waiting.{past, past-none, past-same, past-draw, past-more, past-broken, settled-gives, settled-ready, take-put, inside-put, inside-none}
-use Rattle.walk.proofs.Batches.{entered-within}
 
 module _ (w : Given) where
   -- ---- a turn, by where it leads

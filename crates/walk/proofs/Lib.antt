@@ -1,6 +1,4 @@
 pub mod Spend
-pub mod Stack
-pub mod Turns
 pub mod Waiting
 pub mod Run
 pub mod Batches

@@ -8,11 +8,11 @@ use borrow.Author.Tests.{eq-eqb, ne-eqb}
 use Rattle.meaning.proofs.Stacks.{suc-pred}
 use Rattle.layout.specs.States.{kindOf}
 use Rattle.layout.specs.declared.nodes.Kind.{Kind}
-use Rattle.walk.specs.declared.frame.Frame.{Frame}
-use Rattle.walk.specs.declared.turn.Move.{Move}
-use Rattle.walk.specs.Given.{Given, exactFrom}
+use Rattle.walk_steps.specs.declared.frame.Frame.{Frame}
+use Rattle.walk_steps.specs.declared.turn.Move.{Move}
+use Rattle.walk_steps.specs.Given.{Given, exactFrom}
+use Rattle.walk_steps.specs.Turn.{found, reads}
 use Rattle.walk.specs.Leaves.{Leaves, leaves, broken, spend}
-use Rattle.walk.specs.Turn.{found, reads}
 use Rattle.walk.specs.Walk.{state, leafThen, follow, run, walkAs, walkFrom}
 
 module _ (w : Given) (f nodes : ℕ) (frame : Frame) (stack : List Frame) where

@@ -14,12 +14,12 @@ use Rattle.descent.specs.declared.Left.the-variants as left
 use Rattle.descent.specs.Cursor.{Inside, AllInside, ended, drawnAll, leftOf}
 use Rattle.descent.proofs.Each.{each-put}
 use Rattle.descent.proofs.Steps.{drawn-one-more}
-use Rattle.walk.specs.declared.place.Place.{Place}
+use Rattle.walk_steps.specs.declared.place.Place.{Place}
+use Rattle.walk_steps.specs.Given.{Given, leafFrom, drawnFrom}
+use Rattle.walk_steps.specs.Place.{withNodes}
 use Rattle.walk.specs.declared.batch.Rest.the-variants.{More, Done, Broken}
 use Rattle.walk.specs.declared.batch.Batch.{Batch}
-use Rattle.walk.specs.Given.{Given, leafFrom, drawnFrom}
 use Rattle.walk.specs.Leaves.{Leaves, leaves, broken, before, spend}
-use Rattle.walk.specs.Place.{withNodes}
 use Rattle.walk.specs.Walk.{leafThen}
 use Rattle.walk.specs.Batch.{linksOf, from, still, Standing, Ready}
 use Rattle.walk.specs.Waiting.{restOf, drawnBy, Settled}

@@ -4,13 +4,13 @@ use mathlib.Core.Path.{_≡_}
 use mathlib.Core.List.{List, []}
 use lib.ListN.{length, take, replicate}
 use Rattle.layout.specs.Nodes.{stepsFor}
-use Rattle.walk.specs.declared.place.Place.{Place}
+use Rattle.walk_steps.specs.declared.place.Place.{Place}
+use Rattle.walk_steps.specs.Given.{Given}
+use Rattle.walk_steps.specs.Stack.{frames, Within, AllWithin}
 use Rattle.walk.specs.declared.batch.Rest.{Rest}
 use Rattle.walk.specs.declared.batch.Rest.the-variants.{More, Done, Broken}
 use Rattle.walk.specs.declared.batch.Batch.{Batch}
-use Rattle.walk.specs.Given.{Given}
 use Rattle.walk.specs.Leaves.{Leaves, leaves, broken, before}
-use Rattle.walk.specs.Stack.{frames, Within, AllWithin}
 use Rattle.walk.specs.Walk.{state, run}
 
 -- a batch without leaves

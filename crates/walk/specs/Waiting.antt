@@ -9,12 +9,12 @@ use Rattle.descent.specs.declared.Cursor.{Cursor}
 use Rattle.descent.specs.declared.Left.{Left}
 use Rattle.descent.specs.declared.Left.the-variants as left
 use Rattle.descent.specs.Cursor.{ended, drawnAll, leafOf, leftOf}
-use Rattle.walk.specs.declared.place.Place.{Place}
+use Rattle.walk_steps.specs.declared.place.Place.{Place}
+use Rattle.walk_steps.specs.Given.{Given, leafFrom}
+use Rattle.walk_steps.specs.Place.{withNodes}
 use Rattle.walk.specs.declared.batch.Rest.{Rest}
 use Rattle.walk.specs.declared.batch.Rest.the-variants.{More, Done, Broken}
 use Rattle.walk.specs.declared.batch.Batch.{Batch}
-use Rattle.walk.specs.Given.{Given, leafFrom}
-use Rattle.walk.specs.Place.{withNodes}
 
 -- the leaves of the first n descents of an array
 pub record AllLeaves (cs : List Cursor) (n : ℕ) (links : List ℕ) : Type 0 where

@@ -9,12 +9,12 @@ use Rattle.layout.specs.States.{kindOf}
 use Rattle.layout.specs.declared.nodes.Kind.{Kind}
 use Rattle.layout.specs.declared.nodes.Kind.the-variants as kind
 use Rattle.descent.specs.declared.Cursor.{Cursor}
-use Rattle.walk.specs.declared.frame.Frame.{Frame}
-use Rattle.walk.specs.declared.turn.Move.{Move}
-use Rattle.walk.specs.declared.turn.Move.the-variants.{Chain, Past, Leaf, Down, Up, Broken}
-use Rattle.walk.specs.Given.{Given, exactFrom, leafFrom, drawnFrom}
+use Rattle.walk_steps.specs.declared.frame.Frame.{Frame}
+use Rattle.walk_steps.specs.declared.turn.Move.{Move}
+use Rattle.walk_steps.specs.declared.turn.Move.the-variants.{Chain, Past, Leaf, Down, Up, Broken}
+use Rattle.walk_steps.specs.Given.{Given, exactFrom, leafFrom, drawnFrom}
+use Rattle.walk_steps.specs.Turn.{entered, atChain, atLink, found, reads}
 use Rattle.walk.specs.Leaves.{Leaves, leaves, broken, before, spend}
-use Rattle.walk.specs.Turn.{entered, atChain, atLink, found, reads}
 
 -- the frame of a node, and those of the nodes above, the nearest first
 pub record State : Type 0 where

@@ -3,22 +3,22 @@ ghost use mathlib.Core.Path.{_≡_};
 ghost use Prim.Native.Nat.{_<_, _≤_};
 ghost use Rattle.distances.specs.Table.{distanceTable};
 ghost use Rattle.descent.specs.Cursor.{AllInside};
-ghost use Rattle.walk.specs.Given.{within, Fitting};
+ghost use Rattle.walk_steps.specs.Given.{within, Fitting};
 ghost use Rattle.walk.specs.Walk.{walkFrom};
 ghost use Rattle.walk.specs.Waiting.{AllLeaves, restOf, Settled};
 ghost use Rattle.walk.specs.Batch.{bare, from, Standing, Gives, Begins};
-use crate::Scope;
-use crate::frame;
-use crate::place::Place;
-use crate::place::lower;
-use crate::place::on_chain;
-use crate::place::on_link;
-use crate::place::raise;
-use crate::turn::Move;
-use crate::turn::turn;
 use descent::Cursor;
 use descent::Left;
 use layout::nodes::Kind;
+use walk_steps::Scope;
+use walk_steps::frame;
+use walk_steps::place::Place;
+use walk_steps::place::lower;
+use walk_steps::place::on_chain;
+use walk_steps::place::on_link;
+use walk_steps::place::raise;
+use walk_steps::turn::Move;
+use walk_steps::turn::turn;
 
 // What is left of a walk.
 pub enum Rest {

@@ -11,10 +11,10 @@ use Rattle.layout.specs.States.{kindOf}
 use Rattle.children.specs.Cursors.{allOf, lookAt, nextOf, firstFor}
 use Rattle.children.specs.Heap.{Holds}
 use Rattle.children.specs.Phys.{Phys, leafP, innerP, noKid, kid, headsFrom, noKids, cells, Sound}
-use Rattle.walk.specs.declared.turn.Move.the-variants.{Leaf, Down}
-use Rattle.walk.specs.Given.{Given, given, exactFrom}
+use Rattle.walk_steps.specs.declared.turn.Move.the-variants.{Leaf, Down}
+use Rattle.walk_steps.specs.Given.{Given, given, exactFrom}
+use Rattle.walk_steps.specs.Turn.{reached, found}
 use Rattle.walk.specs.Leaves.{leaves, broken}
-use Rattle.walk.specs.Turn.{reached, found}
 use Rattle.walk.specs.Walk.{run, walkBelow, walkFrom}
 use Rattle.descent.specs.Cursor.{arrive, advance, descended, drawn, leafOf}
 use Rattle.walk_laws.specs.Near.{near, nearK}

@@ -12,7 +12,7 @@ use Rattle.layout.specs.Nodes.{mostNodes}
 use Rattle.children.specs.Heap.{Holds}
 use Rattle.children.specs.Phys.{Phys, root, first, tree, pageCells, cells, Below, Sound}
 use Rattle.trie_laws.specs.Sound.{soundTrie}
-use Rattle.walk.specs.Given.{Given, exactFrom, leafFrom, drawnFrom}
+use Rattle.walk_steps.specs.Given.{Given, exactFrom, leafFrom, drawnFrom}
 use Rattle.walk_laws.specs.Near.{near}
 use Rattle.walk_laws.specs.Trail.{exactAfter}
 use Rattle.walk_laws.proofs.Descent.{led-leaf}

@@ -11,9 +11,9 @@ use Rattle.layout.specs.States.{kindOf}
 use Rattle.children.specs.Cursors.{allOf, lookAt, nextOf, firstFor}
 use Rattle.children.specs.Heap.{Holds}
 use Rattle.children.specs.Phys.{Phys, leafP, innerP, noKid, kid, first, tree, headsFrom, noKids, cells, Sound}
-use Rattle.walk.specs.Given.{Given, given}
+use Rattle.walk_steps.specs.Given.{Given, given}
+use Rattle.walk_steps.specs.Turn.{reached, found}
 use Rattle.walk.specs.Leaves.{leaves, broken}
-use Rattle.walk.specs.Turn.{reached, found}
 use Rattle.walk.specs.Walk.{run, walkBelow, walkFrom}
 use Rattle.descent.specs.Cursor.{arrive, advance, descended, drawn, leafOf}
 use Rattle.walk_laws.specs.Near.{near, nearK, nearNodes, nearNodesIn, pathsIn, pathsAmong}

@@ -13,11 +13,11 @@ use Rattle.children.specs.Cursors.{nextOf}
 use Rattle.children.specs.declared.cursor.Next.{Next}
 use Rattle.children.specs.declared.cursor.Next.the-variants as next
 use Rattle.descent.specs.Cursor.{ended}
-use Rattle.walk.specs.declared.frame.Frame.{Frame}
-use Rattle.walk.specs.declared.turn.Move.the-variants.{Chain, Past, Leaf, Down, Up}
-use Rattle.walk.specs.Given.{Given, exactFrom}
-use Rattle.walk.specs.Turn.{reached, distanceAt, foundBy, found}
-use Rattle.walk.proofs.Turns.{reached-by, reached-exact, reached-down}
+use Rattle.walk_steps.specs.declared.frame.Frame.{Frame}
+use Rattle.walk_steps.specs.declared.turn.Move.the-variants.{Chain, Past, Leaf, Down, Up}
+use Rattle.walk_steps.specs.Given.{Given, exactFrom}
+use Rattle.walk_steps.specs.Turn.{reached, distanceAt, foundBy, found}
+use Rattle.walk_steps.proofs.Turns.{reached-by, reached-exact, reached-down}
 
 -- ---- the step of a walk at a level, by the next child
 module _ (w : Given) (level : ℕ) (frame : Frame) where

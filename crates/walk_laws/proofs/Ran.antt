@@ -12,12 +12,12 @@ use Rattle.layout.specs.declared.nodes.Kind.the-variants as kind
 use Rattle.children.specs.declared.cursor.Cursor.{Cursor as Place}
 use Rattle.children.proofs.Reach.{Over}
 use Rattle.descent.specs.declared.Cursor.{Cursor}
-use Rattle.walk.specs.declared.frame.Frame.{Frame}
-use Rattle.walk.specs.declared.turn.Move.{Move}
-use Rattle.walk.specs.declared.turn.Move.the-variants as move
-use Rattle.walk.specs.Given.{Given, exactFrom, leafFrom, drawnFrom}
+use Rattle.walk_steps.specs.declared.frame.Frame.{Frame}
+use Rattle.walk_steps.specs.declared.turn.Move.{Move}
+use Rattle.walk_steps.specs.declared.turn.Move.the-variants as move
+use Rattle.walk_steps.specs.Given.{Given, exactFrom, leafFrom, drawnFrom}
+use Rattle.walk_steps.specs.Turn.{entered, atChain, atLink, found, reads}
 use Rattle.walk.specs.Leaves.{leaves, before}
-use Rattle.walk.specs.Turn.{entered, atChain, atLink, found, reads}
 use Rattle.walk.specs.Walk.{State, state, follow, run}
 use Rattle.walk.proofs.Spend.{before-none, before-both, spend-paid}
 use Rattle.walk.proofs.Run.{run-by}

@@ -14,7 +14,7 @@ use Rattle.layout.specs.declared.nodes.Kind.the-variants as kind
 use Rattle.layout.proofs.States.{kind-state}
 use Rattle.children.specs.Heap.{Holds}
 use Rattle.children.specs.Phys.{Phys, Kids, leafP, innerP, root, first, tree, childrenOf, cells, Sound}
-use Rattle.walk.specs.Given.{Given, exactFrom, leafFrom, drawnFrom}
+use Rattle.walk_steps.specs.Given.{Given, exactFrom, leafFrom, drawnFrom}
 use Rattle.walk.specs.Leaves.{leaves, before}
 use Rattle.walk.specs.Walk.{state, walkBelow, walkFrom}
 use Rattle.walk.proofs.Run.{from-exact, from-by}

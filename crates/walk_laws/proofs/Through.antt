@@ -24,10 +24,10 @@ use Rattle.children.proofs.AheadCursor.{AheadC, chainsLeft, all-ahead, all-chai
 use Rattle.children.proofs.Reach.{reach-kid, reach-end}
 use Rattle.descent.specs.Cursor.{ended, leafOf}
 use Rattle.descent.proofs.Steps.{descended-ended, drawn-ended}
-use Rattle.walk.specs.declared.frame.Frame.{Frame}
-use Rattle.walk.specs.declared.turn.Move.the-variants as move
-use Rattle.walk.specs.Given.{Given, exactFrom, leafFrom, drawnFrom}
-use Rattle.walk.specs.Turn.{entered, atLink, reached, found}
+use Rattle.walk_steps.specs.declared.frame.Frame.{Frame}
+use Rattle.walk_steps.specs.declared.turn.Move.the-variants as move
+use Rattle.walk_steps.specs.Given.{Given, exactFrom, leafFrom, drawnFrom}
+use Rattle.walk_steps.specs.Turn.{entered, atLink, reached, found}
 use Rattle.walk.specs.Walk.{state}
 use Rattle.walk_laws.specs.Near.{near, nearK}
 use Rattle.walk_laws.specs.Trail.{exactAfter}

@@ -12,7 +12,7 @@ use Rattle.layout.specs.Nodes.{mostNodes}
 use Rattle.children.specs.Heap.{Holds}
 use Rattle.children.specs.Phys.{Phys, root, tree, cells, Sound}
 use Rattle.trie_laws.specs.Sound.{soundTrie}
-use Rattle.walk.specs.Given.{Given}
+use Rattle.walk_steps.specs.Given.{Given}
 use Rattle.walk_laws.specs.Near.{near, nearNodes, pathsIn, pathNear}
 use Rattle.walk_laws.specs.Trail.{trailFrom}
 use Rattle.walk_laws.proofs.Fit.{fit}

@@ -13,11 +13,11 @@ use Rattle.children.specs.declared.cursor.Seen.{Seen}
 use Rattle.children.specs.declared.cursor.Seen.the-variants as seen
 use Rattle.descent.specs.declared.Cursor.{Cursor}
 use Rattle.descent.specs.Cursor.{advance}
-use Rattle.walk.specs.declared.frame.Frame.{Frame}
-use Rattle.walk.specs.declared.turn.Move.{Move}
-use Rattle.walk.specs.declared.turn.Move.the-variants as move
-use Rattle.walk.specs.Given.{Given, exactFrom}
-use Rattle.walk.specs.Turn.{entered, atChain, atLink, found}
+use Rattle.walk_steps.specs.declared.frame.Frame.{Frame}
+use Rattle.walk_steps.specs.declared.turn.Move.{Move}
+use Rattle.walk_steps.specs.declared.turn.Move.the-variants as move
+use Rattle.walk_steps.specs.Given.{Given, exactFrom}
+use Rattle.walk_steps.specs.Turn.{entered, atChain, atLink, found}
 use Rattle.walk.specs.Walk.{State, state}
 
 -- ---- of an exact descent

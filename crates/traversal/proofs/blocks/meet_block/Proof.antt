@@ -8,11 +8,11 @@ use lib.Seq.{length-take-le}
 use Rattle.layout.specs.Pages.{nextAt}
 use Rattle.hits.specs.Hit.{passes}
 use Rattle.hits.specs.Probes.{testBy}
-use Rattle.walk.specs.Given.{within}
+use Rattle.walk_steps.specs.Given.{within}
 use Rattle.walk.proofs.Batches.{gives-ready}
-use Rattle.traversal.specs.Chains.{baseOf, Linked}
+use Rattle.meeting.specs.Chains.{baseOf, Linked}
+use Rattle.meeting.proofs.Linked.{linked-from, inside-in}
 use Rattle.traversal.proofs.Tables.{ready-kept, links-inside, links-small, fitting}
-use Rattle.traversal.proofs.Linked.{linked-from, inside-in}
 use Rattle.traversal.proofs.Pages.{pagesFrom}
 use Rattle.traversal.proofs.Batches.{stepsOf, comingFrom, next-less, Walking, walking-start, walking-unmet, walking-next, walking-done, walking-broken, walked}
 use Rattle.traversal.proofs.blocks.meet_block.Statement.{statement}

@@ -5,10 +5,10 @@ use mathlib.Core.Path.{_≡_}
 use borrow.Author.Needs.{needs}
 use lib.ListN.{length}
 use Rattle.layout.specs.Pages.{nextAt}
-use Rattle.traversal.specs.Chains.{baseOf, Linked}
+use Rattle.meeting.specs.Chains.{baseOf, Linked}
+use Rattle.meeting.proofs.Linked.{linked-from, inside-each}
 use Rattle.traversal.proofs.Going.{going-start, going-broken}
 use Rattle.traversal.proofs.Tables.{nodes-there, links-inside}
-use Rattle.traversal.proofs.Linked.{linked-from, inside-each}
 use Rattle.traversal.proofs.Exact.{exact-spent, exact-met, exact-unmet}
 use Rattle.traversal.proofs.blocks.meet_exact.Statement.{statement}
 use Rattle.traversal.proofs.blocks.meet_exact.Tie as tie

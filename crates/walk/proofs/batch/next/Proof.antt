@@ -2,7 +2,7 @@
 use native.Mathlib.Omega.{arith}
 use mathlib.Core.Path.{refl, ap}
 use borrow.Author.Needs.{needs}
-use Rattle.walk.specs.Given.{within}
+use Rattle.walk_steps.specs.Given.{within}
 use Rattle.walk.specs.Batch.{from}
 use Rattle.walk.proofs.Going.{Going, kept, going-start, going-full, going-chain, going-past, going-leaf, going-down, going-up, going-over, going-broken}
 use Rattle.walk.proofs.batch.next.Statement.{statement}

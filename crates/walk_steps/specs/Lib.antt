@@ -1,0 +1,4 @@
+pub mod Given
+pub mod Turn
+pub mod Stack
+pub mod Place
