@@ -16,7 +16,7 @@ use Rattle.layout.specs.Limits.{HeaderLimits}
 use Rattle.descent.specs.declared.Cursor.{Cursor}
 use Rattle.descent.specs.declared.Descents.{Descents}
 use Rattle.descent.specs.Cursor.{Inside, AllInside, ended, arrive, descended, drawn, drawnAll, leftOf, Descended, leafOf}
-use Rattle.descent.proofs.Each.{each-put}
+use Rattle.meaning.proofs.Each.{each-put}
 use Rattle.descent.proofs.Steps.{inside-arrive}
 use Rattle.descent.specs.Leaves.{blockSize, Packed, Started, leafIn, drawnIn, drawnFrom, Leaves}
 use Rattle.descent.proofs.Sizes.{bytes-length, size-most, size-some}

@@ -1,4 +1,3 @@
-pub mod Each
 pub mod Steps
 pub mod Rounds
 pub mod Sizes

@@ -14,7 +14,7 @@ use lib.Seq.{getD-set-same, getD-set-other, take-suc}
 use Rattle.descent.specs.declared.Cursor.{Cursor}
 use Rattle.descent.specs.declared.Left.the-variants.{Some, Broken}
 use Rattle.descent.specs.Cursor.{Inside, AllInside, ended, going, advance, descended, drawn, drawnAll, leftOf, Descended}
-use Rattle.descent.proofs.Each.{each-put}
+use Rattle.meaning.proofs.Each.{each-put}
 use Rattle.descent.proofs.Steps.{inside-advance, descended-next, descended-done, drawn-ended, drawn-more, drawn-one-more}
 
 abbrev pub at : List Cursor → ℕ → Cursor

@@ -1,4 +1,5 @@
 pub mod Lists
+pub mod Each
 pub mod Sums
 pub mod Stacks
 pub mod Journal

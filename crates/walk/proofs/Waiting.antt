@@ -12,7 +12,7 @@ use lib.Seq.{take-suc, take-suc-set}
 use Rattle.descent.specs.declared.Cursor.{Cursor}
 use Rattle.descent.specs.declared.Left.the-variants as left
 use Rattle.descent.specs.Cursor.{Inside, AllInside, ended, drawnAll, leftOf}
-use Rattle.descent.proofs.Each.{each-put}
+use Rattle.meaning.proofs.Each.{each-put}
 use Rattle.descent.proofs.Steps.{drawn-one-more}
 use Rattle.walk_steps.specs.declared.place.Place.{Place}
 use Rattle.walk_steps.specs.Given.{Given, leafFrom, drawnFrom}

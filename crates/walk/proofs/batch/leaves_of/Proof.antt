@@ -5,7 +5,7 @@ use native.Mathlib.Omega.{arith}
 use mathlib.Core.Path.{_≡_, refl}
 use lib.ListN.{getD, length-set}
 use Rattle.descent.specs.Cursor.{ended, leafOf}
-use Rattle.descent.proofs.Each.{each-put}
+use Rattle.meaning.proofs.Each.{each-put}
 use Rattle.walk.specs.Waiting.{AllLeaves}
 use Rattle.walk.proofs.batch.leaves_of.Statement.{statement}
 use Rattle.walk.proofs.batch.leaves_of.Tie as tie
