@@ -18,7 +18,7 @@ use Rattle.trie_laws.specs.Block.{SoundBlock, EachFrom}
 use Rattle.trie_laws.specs.Needed.{needed, sumFrom}
 use Rattle.trie_laws.proofs.Pages.{stands-any}
 use Rattle.trie.proofs.Arrival.{Leads, sound-leads}
-use Rattle.trie_room.specs.declared.needed.Needed.the-variants.{Nodes}
+use Rattle.leaf_bytes.specs.declared.Needed.the-variants.{Nodes}
 use Rattle.blocks.specs.Tables.{Roomy}
 use Rattle.blocks.specs.RowBytes.{rowBytes}
 use Rattle.trie_room.proofs.Block.{needed-block}

@@ -20,7 +20,7 @@ use Rattle.trie_laws.specs.Block.{SoundBlock, EachFrom}
 use Rattle.trie_laws.specs.Needed.{sumFrom}
 use Rattle.trie_laws.proofs.Forest.{total-add}
 use Rattle.trie_laws.proofs.Block.{agree-forest}
-use Rattle.trie_room.specs.declared.needed.Needed.the-variants.{Nodes}
+use Rattle.leaf_bytes.specs.declared.Needed.the-variants.{Nodes}
 use Rattle.blocks.specs.Tables.{Roomy}
 use Rattle.promises.specs.Tables.{Tables, given, rowsOf}
 use Rattle.promises.specs.Sound.{Sound, livePage, pageBytes}

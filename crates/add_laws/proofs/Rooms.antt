@@ -10,10 +10,10 @@ use Rattle.layout.specs.Pages.{nextAt}
 use Rattle.trie.specs.declared.span.Span.{Span}
 use Rattle.trie.specs.declared.span.Span.the-variants as spans
 use Rattle.trie.specs.Model.{spanFrom}
-use Rattle.trie_room.specs.declared.needed.Needed.{Needed}
-use Rattle.trie_room.specs.declared.needed.Needed.the-variants.{Nodes, Broken}
+use Rattle.leaf_bytes.specs.declared.Needed.{Needed}
+use Rattle.leaf_bytes.specs.declared.Needed.the-variants.{Nodes, Broken}
 use Rattle.blocks.specs.RowBytes.{rowsOf}
-use Rattle.trie_room.specs.Needs.{countIn}
+use Rattle.leaf_bytes.specs.Bytes.{countIn}
 use Rattle.trie_room.proofs.Few.{needed-few}
 use Rattle.add_laws.specs.Room.{onNodes, neededFrom, blockNeeds, allNeeded, roomOf}
 

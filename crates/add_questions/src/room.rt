@@ -9,8 +9,8 @@ use blocks::block_of;
 use blocks::packed::block_bytes;
 use blocks::rows_of;
 use layout::Header;
+use leaf_bytes::Needed;
 use trie::span::Span;
-use trie_room::needed::Needed;
 use trie_room::needed::enough_free;
 use trie_room::needed::nodes_needed;
 

@@ -1,5 +1,2 @@
 pub mod Steps
 pub mod Rounds
-pub mod Sizes
-pub mod Shift
-pub mod Blocks

@@ -10,8 +10,6 @@ use children::cursor::look;
 use layout::nodes::Kind;
 use layout::nodes::kind_of;
 
-pub mod leaves;
-
 // Where a descent stands: ahead of the child at `link`, which must have the byte at `at`; the block's last byte is at `last`.
 // At link 0 it has ended: `first` is the link of the leaf's first page, or 0 where no leaf is reached.
 pub struct Cursor {

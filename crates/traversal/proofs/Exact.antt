@@ -14,8 +14,8 @@ use Rattle.layout.specs.Pages.{nextAt}
 use Rattle.marks.specs.Marks.{listOf}
 use Rattle.descent.specs.declared.Left.the-variants as left
 use Rattle.descent.specs.Cursor.{leftOf}
-use Rattle.descent.specs.declared.leaves.Ends.{Ends}
-use Rattle.descent.specs.Leaves.{leafIn, drawnIn, drawnFrom, Leaves}
+use Rattle.block_leaves.specs.declared.Ends.{Ends}
+use Rattle.block_leaves.specs.Leaves.{leafIn, drawnIn, drawnFrom, Leaves}
 use Rattle.walk.specs.Leaves.{leaves, spend}
 use Rattle.walk.proofs.Spend.{spend-paid, spend-short}
 use Rattle.walk.proofs.Run.{from-exact}

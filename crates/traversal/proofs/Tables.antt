@@ -14,8 +14,8 @@ use Rattle.layout.specs.Header.{bare}
 use Rattle.layout.specs.Nodes.{nodeWords}
 use Rattle.layout.specs.Pages.{nextAt}
 use Rattle.layout.specs.Lengths.{nodesLength, pagesLength}
-use Rattle.descent.specs.Leaves.{blockSize}
-use Rattle.descent.proofs.Sizes.{bytes-length, size-most, size-some}
+use Rattle.block_leaves.specs.Leaves.{blockSize}
+use Rattle.block_leaves.proofs.Sizes.{bytes-length, size-most, size-some}
 use Rattle.walk_steps.specs.Given.{given, Fitting}
 use Rattle.meeting.specs.declared.Scope.{Scope}
 use Rattle.meeting.specs.Mets.{Kept, Ready}

@@ -102,7 +102,7 @@ fn meet_exact(
     ensures { λ r. ⌜ Meeting (passes (testBy (now (pages .entry)) (now (sketches .entry)) (now (query .entry)) (scope .probe))) (scope .words) (meetFrom (scope .probe .header) (now (nodes .entry)) (now (pages .entry)) (now (query .entry)) 0 (scope .probe .header .q) 0 (start .left)) (now (map .entry)) (now (map .exit)) r ⌝ }
 {
     let h = scope.probe.header;
-    let ends = descent::leaves::leaves(nodes, h, query, start.left);
+    let ends = block_leaves::leaves(nodes, h, query, start.left);
     let unread = ends.left;
     let Left::Some(left) = unread else {
         return Tallies::Broken;

@@ -35,9 +35,10 @@ use Rattle.trie.specs.Descend.{descendTo}
 use Rattle.children.proofs.Spots.{spot-none}
 use Rattle.trie.proofs.Way.{Way}
 use Rattle.trie.proofs.Arrival.{Leads, Arrives, arrives}
-use Rattle.trie_room.specs.declared.needed.Needed.the-variants.{Nodes}
+use Rattle.leaf_bytes.specs.declared.Needed.the-variants.{Nodes}
 use Rattle.blocks.specs.RowBytes.{rowBytes, rowsOf}
-use Rattle.trie_room.specs.Needs.{distinctBytes, whereLong, leafNeeds, gapNeeds, neededAt, nodesNeeded}
+use Rattle.leaf_bytes.specs.Bytes.{distinctBytes}
+use Rattle.trie_room.specs.Needs.{whereLong, leafNeeds, gapNeeds, neededAt, nodesNeeded}
 use Rattle.blocks.proofs.RowBytes.{level-byte}
 use Rattle.trie_room.proofs.Distinct.{distinct-right}
 

@@ -15,10 +15,10 @@ use Rattle.children.specs.Phys.{first, Below}
 use Rattle.trie.proofs.Spans.{Linked}
 use Rattle.trie_laws.specs.Needed.{distinct}
 use Rattle.meaning.proofs.Lists.{or-first, or-second}
-use Rattle.trie_room.specs.declared.needed.Needed.the-variants.{Nodes}
-use Rattle.trie_room.specs.Chains.{whole, ahead, chainFrom}
-use Rattle.trie_room.specs.Needs.{distinctBytes}
-use Rattle.trie_room.proofs.Count.{chain-none, chain-next}
+use Rattle.leaf_bytes.specs.declared.Needed.the-variants.{Nodes}
+use Rattle.leaf_bytes.specs.Chains.{whole, ahead, chainFrom}
+use Rattle.leaf_bytes.specs.Bytes.{distinctBytes}
+use Rattle.leaf_bytes.proofs.Count.{chain-none, chain-next}
 
 -- a chain that lies in a table
 chain-whole : (T : List ℕ) (base cap : ℕ) (xs : List ℕ) (f : ℕ) → Linked T base xs → Below cap xs → length xs ≤ f → chainFrom T base cap (first xs) f ≡ whole xs

@@ -12,11 +12,12 @@ use Rattle.trie.specs.Model.{spanFrom}
 use Rattle.trie.specs.declared.span.Span.the-variants.{Enough, Short}
 use Rattle.trie_laws.specs.Needed.{distinctFrom}
 use Rattle.trie.specs.Descend.{descend, descendTo}
-use Rattle.trie_room.specs.declared.needed.Needed.{Needed}
-use Rattle.trie_room.specs.declared.needed.Needed.the-variants.{Nodes, Broken}
-use Rattle.trie_room.specs.Chains.{chainFrom}
+use Rattle.leaf_bytes.specs.declared.Needed.{Needed}
+use Rattle.leaf_bytes.specs.declared.Needed.the-variants.{Nodes, Broken}
+use Rattle.leaf_bytes.specs.Chains.{chainFrom}
+use Rattle.leaf_bytes.specs.Bytes.{distinctBytes}
 use Rattle.blocks.specs.RowBytes.{rowsOf}
-use Rattle.trie_room.specs.Needs.{distinctBytes, gapNeeds, leafNeeds, nodesNeeded}
+use Rattle.trie_room.specs.Needs.{gapNeeds, leafNeeds, nodesNeeded}
 
 settings : Settings
 settings = settingsGiven 2 4 1 2 4 []

@@ -1,55 +1,26 @@
 -- On any tables, an answer is small.
-use Prim.Native.Nat.{ℕ, zero, suc, _+_, _-_, _≤_}
+use Prim.Native.Nat.{ℕ, suc, _+_, _≤_}
 use mathlib.Core.Bool.{Bool, true, false, cond, _&&_}
-use mathlib.Core.List.{List, [], _∷_, map}
+use mathlib.Core.List.{List}
 use native.Mathlib.Omega.{arith}
 use lib.Dec.{ltb, eqb}
-use lib.ListN.{length, getD, length-map}
+use lib.ListN.{length, getD}
 use Rattle.layout.specs.States.{kindOf, firstOf}
 use Rattle.blocks.specs.declared.Rows.{Rows}
-use Rattle.blocks.specs.declared.Level.{Level}
 use Rattle.trie.specs.declared.span.Span.{Span}
 use Rattle.trie.specs.declared.span.Span.the-variants.{Enough, Short}
 use Rattle.trie.specs.declared.span.Span.the-variants as spans
-use Rattle.blocks.specs.Packed.{pageByte, levelAt}
+use Rattle.blocks.specs.Packed.{levelAt}
 use Rattle.trie.specs.Model.{spanFrom}
-use Rattle.trie_laws.proofs.Distinct.{distinct-length}
 use Rattle.trie.specs.declared.path.Reach.{Reach}
 use Rattle.trie.specs.declared.path.Reach.the-variants.{Leaf, Gap}
 use Rattle.trie.specs.declared.path.Reach.the-variants as reach
 use Rattle.trie.specs.Descend.{descendTo}
-use Rattle.trie_room.specs.declared.needed.Needed.{Needed}
-use Rattle.trie_room.specs.declared.needed.Needed.the-variants.{Nodes}
-use Rattle.trie_room.specs.Chains.{Chained, whole, broken, ahead, nextLink, chainFrom}
-use Rattle.trie_room.specs.Needs.{countIn, bytesWith, distinctBytes, whereLong, gapNeeds, leafNeeds, neededAt, nodesNeeded}
-
--- a chain is not longer than its budget
-abbrev size : Chained → ℕ
-size (whole xs) = length xs
-size broken = 0
-
-chain-size : (T : List ℕ) (base cap link f : ℕ) → size (chainFrom T base cap link f) ≤ f
-unfolding chainFrom
-chain-size T base cap link zero = go (eqb link 0)
-  where
-    go : (q : Bool) → size (cond q (whole []) broken) ≤ 0
-    go true = omega arith
-    go false = omega arith
-chain-size T base cap link (suc f) = go (eqb link 0) (ltb cap link) (chainFrom T base cap (nextLink T base link) f) (chain-size T base cap (nextLink T base link) f)
-  where
-    go : (q o : Bool) (c : Chained) → size c ≤ f → size (cond q (whole []) (cond o broken (ahead (link - 1) c))) ≤ suc f
-    go true o c h = omega arith
-    go false true c h = omega arith
-    go false false (whole xs) h = omega arith
-    go false false broken h = omega arith
-
-bytes-few : (byteOf : ℕ → ℕ) (byte n : ℕ) (c : Chained) → size c ≤ n → countIn (bytesWith byteOf byte c) ≤ n + 1
-bytes-few byteOf byte n (whole ps) h = omega (arith, distinct-length (λ y. false) (byte ∷ map byteOf ps), length-map ps byteOf)
-bytes-few byteOf byte n broken h = omega arith
-
-distinct-few : (P S : List ℕ) (pcap base : ℕ) (v : Level) (link byte : ℕ) → countIn (distinctBytes P S pcap base v link byte) ≤ pcap + 1
-unfolding distinctBytes
-distinct-few P S pcap base v link byte = bytes-few (pageByte S v) byte pcap (chainFrom P base pcap link pcap) (chain-size P base pcap link pcap)
+use Rattle.leaf_bytes.specs.declared.Needed.{Needed}
+use Rattle.leaf_bytes.specs.declared.Needed.the-variants.{Nodes}
+use Rattle.leaf_bytes.specs.Bytes.{countIn, distinctBytes}
+use Rattle.leaf_bytes.proofs.Few.{distinct-few}
+use Rattle.trie_room.specs.Needs.{whereLong, gapNeeds, leafNeeds, neededAt, nodesNeeded}
 
 long-few : (x : Needed) (q : Span) (n : ℕ) → countIn x ≤ n → countIn (whereLong x q) ≤ n
 long-few x Enough n h = h

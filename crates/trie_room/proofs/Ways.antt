@@ -16,9 +16,10 @@ use Rattle.trie.specs.Model.{spanFrom}
 use Rattle.trie.specs.declared.path.Reach.{Reach}
 use Rattle.trie.specs.declared.path.Reach.the-variants.{Leaf, Gap}
 use Rattle.trie.specs.declared.path.Reach.the-variants as reach
-use Rattle.trie_room.specs.declared.needed.Needed.{Needed}
-use Rattle.trie_room.specs.declared.needed.Needed.the-variants.{Nodes, Broken}
-use Rattle.trie_room.specs.Needs.{distinctBytes, gapNeeds, leafNeeds, neededAt}
+use Rattle.leaf_bytes.specs.declared.Needed.{Needed}
+use Rattle.leaf_bytes.specs.declared.Needed.the-variants.{Nodes, Broken}
+use Rattle.leaf_bytes.specs.Bytes.{distinctBytes}
+use Rattle.trie_room.specs.Needs.{gapNeeds, leafNeeds, neededAt}
 
 -- `gapNeeds`
 module _ (τ : List ℕ) (len k : ℕ) where

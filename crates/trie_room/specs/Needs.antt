@@ -1,38 +1,23 @@
 -- How many nodes an add needs in one block. N is the node table, P the page table, S the sketch table.
 use Prim.Native.Nat.{ℕ, suc}
-use mathlib.Core.Bool.{false, cond, _&&_}
-use mathlib.Core.List.{List, _∷_, map}
+use mathlib.Core.Bool.{cond, _&&_}
+use mathlib.Core.List.{List}
 use lib.Dec.{ltb, eqb}
 use lib.ListN.{length, getD}
 use Rattle.layout.specs.States.{kindOf, firstOf}
-use Rattle.blocks.specs.declared.Level.{Level}
 use Rattle.blocks.specs.declared.Rows.{Rows}
 use Rattle.trie.specs.declared.span.Span.{Span}
 use Rattle.trie.specs.declared.span.Span.the-variants.{Enough, Short}
 use Rattle.trie.specs.declared.span.Span.the-variants as spans
-use Rattle.blocks.specs.Packed.{pageByte, levelAt}
+use Rattle.blocks.specs.Packed.{levelAt}
 use Rattle.trie.specs.Model.{spanFrom}
-use Rattle.trie_laws.specs.Needed.{distinctFrom}
 use Rattle.trie.specs.declared.path.Reach.{Reach}
 use Rattle.trie.specs.declared.path.Reach.the-variants.{Leaf, Gap}
 use Rattle.trie.specs.declared.path.Reach.the-variants as reach
 use Rattle.trie.specs.Descend.{descendTo}
-use Rattle.trie_room.specs.declared.needed.Needed.{Needed}
-use Rattle.trie_room.specs.declared.needed.Needed.the-variants.{Nodes, Broken}
-use Rattle.trie_room.specs.Chains.{Chained, whole, broken, chainFrom}
-
--- the number in an answer
-abbrev pub countIn : Needed → ℕ
-countIn (Nodes n) = n
-countIn Broken = 0
-
--- how many different bytes a byte and those of the pages of a chain are
-abbrev pub bytesWith : (ℕ → ℕ) → ℕ → Chained → Needed
-bytesWith byteOf byte (whole ps) = Nodes (distinctFrom (λ y. false) (byte ∷ map byteOf ps))
-bytesWith byteOf byte broken = Broken
-
-unfoldable pub distinctBytes : List ℕ → List ℕ → ℕ → ℕ → Level → ℕ → ℕ → Needed
-distinctBytes P S pcap base v first byte = bytesWith (pageByte S v) byte (chainFrom P base pcap first pcap)
+use Rattle.leaf_bytes.specs.declared.Needed.{Needed}
+use Rattle.leaf_bytes.specs.declared.Needed.the-variants.{Nodes, Broken}
+use Rattle.leaf_bytes.specs.Bytes.{distinctBytes}
 
 -- what is needed where a chain is long enough
 abbrev pub whereLong : Needed → Span → Needed

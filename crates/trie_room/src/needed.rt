@@ -3,62 +3,20 @@ ghost use mathlib.Core.Path.{_≡_};
 ghost use Prim.Native.Nat.{_<_, _≤_};
 ghost use lib.ListN.{length};
 ghost use Rattle.layout.specs.Tables.{NodeTable, PageTable};
-ghost use Rattle.blocks.specs.Tables.{SketchTable, RowTable};
+ghost use Rattle.blocks.specs.Tables.{RowTable};
 ghost use Rattle.trie.specs.Model.{spanFrom};
 ghost use Rattle.trie.specs.Descend.{Inside};
-ghost use Rattle.trie_room.specs.Needs.{distinctBytes, leafNeeds, gapNeeds, neededAt, nodesNeeded};
-use blocks::Level;
+ghost use Rattle.trie_room.specs.Needs.{leafNeeds, gapNeeds, neededAt, nodesNeeded};
 use blocks::Rows;
 use blocks::packed::level_at;
-use blocks::packed::page_byte;
 use layout::Block;
 use layout::nodes::first_page;
+use leaf_bytes::Needed;
+use leaf_bytes::distinct_bytes;
 use trie::path::Reach;
 use trie::path::descend_to;
 use trie::span::Span;
 use trie::span::at_least;
-
-pub enum Needed {
-    Nodes(usize),
-    Broken,
-}
-
-// How many different bytes a new page's byte and those of the pages of a chain are at one level: so many children a leaf with
-// these pages gets. A chain that is longer than the capacity is broken.
-pub fn distinct_bytes(
-    pages: &[u32],
-    sketches: &[u8],
-    block: Block,
-    level: Level,
-    first: u32,
-    byte: u32,
-) -> Needed
-    requires { ⌜ PageTable (block .pages) (block .base) (now pages) ⌝ }
-    requires { ⌜ SketchTable (block .pages) level (now sketches) ⌝ }
-    requires { ⌜ byte < 256 ⌝ }
-    ensures { λ r. ⌜ r ≡ distinctBytes (now (pages .entry)) (now (sketches .entry)) (block .pages) (block .base) level first byte ⌝ }
-{
-    let mut seen = [false; 256];
-    seen[byte as usize] = true;
-    let mut n: usize = 1;
-    let mut link = first as usize;
-    let mut left = block.pages;
-    while link != 0 {
-        if left == 0 {
-            return Needed::Broken;
-        }
-        if block.pages < link {
-            return Needed::Broken;
-        }
-        let p = link - 1;
-        let v = page_byte(sketches, level, block, p) as usize;
-        n += (!seen[v]) as usize;
-        seen[v] = true;
-        link = pages[block.base + p] as usize;
-        left -= 1;
-    }
-    Needed::Nodes(n)
-}
 
 // A leaf at level k, its first page at a link, that takes a page with this byte there: it splits where it has as many pages as the
 // threshold already.

@@ -7,7 +7,7 @@ use borrow.Author.Needs.{needs}
 use Rattle.meaning.specs.Ledger.{check, reading}
 use Rattle.promises.specs.Tables.{Tables}
 use Rattle.promises.specs.Relation.{withVerdict, Promised}
-use Rattle.trie_room.proofs.Count.{flag-most}
+use Rattle.leaf_bytes.proofs.Count.{flag-most}
 use Rattle.capi_readings.proofs.vetch_check.Statement.{statement}
 use Rattle.capi_readings.proofs.vetch_check.Tie as tie
 

@@ -6,7 +6,7 @@ use borrow.Author.Needs.{needs}
 use Rattle.layout.specs.Header.{bare}
 use Rattle.layout.specs.Pages.{isLive}
 use Rattle.layout.proofs.Words.{page-inside}
-use Rattle.trie_room.proofs.Count.{flag-most}
+use Rattle.leaf_bytes.proofs.Count.{flag-most}
 use Rattle.check_tables.specs.Pages.{pageFits, countFrom, testPages}
 use Rattle.check_tables.proofs.PageSteps.{count-start, count-done, count-fails, count-more}
 use Rattle.check_tables.proofs.pages.test_pages.Statement.{statement}

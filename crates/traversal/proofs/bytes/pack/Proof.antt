@@ -4,8 +4,8 @@ use mathlib.Core.Path.{_≡_, ap, _∙_}
 use borrow.Author.Needs.{needs}
 use lib.ListN.{take}
 use Rattle.meaning.specs.Sketch.{packedLength}
-use Rattle.descent.specs.Leaves.{blockSize}
-use Rattle.descent.proofs.Sizes.{block-most, size-most}
+use Rattle.block_leaves.specs.Leaves.{blockSize}
+use Rattle.block_leaves.proofs.Sizes.{block-most, size-most}
 use Rattle.traversal.proofs.Tables.{bytes-first}
 use Rattle.traversal.proofs.bytes.pack.Statement.{statement}
 use Rattle.traversal.proofs.bytes.pack.Tie as tie

@@ -6,11 +6,11 @@ use native.Mathlib.Omega.{arith}
 use borrow.Author.Needs.{needs}
 use lib.ListN.{length, replicate, length-set}
 use Rattle.blocks.specs.Packed.{pageByte}
-use Rattle.trie_room.specs.Chains.{chainFrom}
-use Rattle.trie_room.specs.Needs.{distinctBytes}
-use Rattle.trie_room.proofs.Count.{counted, flagged, flag-most, no-flags, count-start, bytes-done, bytes-long, bytes-broken, bytes-next}
-use Rattle.trie_room.proofs.needed.distinct_bytes.Statement.{statement}
-use Rattle.trie_room.proofs.needed.distinct_bytes.Tie as tie
+use Rattle.leaf_bytes.specs.Chains.{chainFrom}
+use Rattle.leaf_bytes.specs.Bytes.{distinctBytes}
+use Rattle.leaf_bytes.proofs.Count.{counted, flagged, flag-most, no-flags, count-start, bytes-done, bytes-long, bytes-broken, bytes-next}
+use Rattle.leaf_bytes.proofs.distinct_bytes.Statement.{statement}
+use Rattle.leaf_bytes.proofs.distinct_bytes.Tie as tie
 
 abbrev Inv-loop : tie.InvT-loop
 Inv-loop pages sketches block level first byte seen₀ n₀ link₀ left₀ seen n link left =

@@ -6,9 +6,9 @@ ghost use lib.ListN.{length};
 ghost use Rattle.meaning.specs.Sketch.{inRange};
 ghost use Rattle.layout.specs.Nodes.{nodeWords};
 ghost use Rattle.layout.specs.Limits.{HeaderLimits};
-ghost use Rattle.descent.specs.Leaves.{Packed, Started, Leaves};
-use crate::Cursor;
-use crate::Left;
+ghost use Rattle.block_leaves.specs.Leaves.{Packed, Started, Leaves};
+use descent::Cursor;
+use descent::Left;
 use layout::Header;
 
 // For each block the link of the first page of its leaf, and what is left of the nodes that may be read.
@@ -42,13 +42,13 @@ fn start_all(nodes: &[u32], h: Header, bytes: &[u8]) -> [Cursor; 16]
     ensures { λ r. ⌜ Started h (now (nodes .entry)) (now (bytes .entry)) r ⌝ }
 {
     let b = h.b as u32;
-    let mut cursors = [crate::ended(0); 16];
+    let mut cursors = [descent::ended(0); 16];
     let mut j = 0;
     while j < h.q {
         let n = sketch::limits::packed_length(b, sketch::blocks::block_length(h.m, h.q, j));
         let first = 64 * j;
         let last = first + n - 1;
-        cursors[j] = crate::arrive(nodes, h.nodes, bytes, j, first as u32, last as u32);
+        cursors[j] = descent::arrive(nodes, h.nodes, bytes, j, first as u32, last as u32);
         j += 1;
     }
     cursors
@@ -66,13 +66,13 @@ pub fn leaves(nodes: &[u32], h: Header, sketch: &[u8], budget: u32) -> Ends
     let mut bytes = [0u8; 512];
     pack_blocks(h, sketch, &mut bytes);
     let started = start_all(nodes, h, &bytes);
-    let found = crate::descend(nodes, h.nodes, &bytes, started, h.q, budget);
+    let found = descent::descend(nodes, h.nodes, &bytes, started, h.q, budget);
     let cursors = found.cursors;
     let left = found.left;
     let mut firsts = [0u32; 8];
     let mut j = 0;
     while j < h.q {
-        firsts[j] = crate::leaf_of(cursors[j]);
+        firsts[j] = descent::leaf_of(cursors[j]);
         j += 1;
     }
     Ends {

@@ -13,14 +13,14 @@ use Rattle.meaning.specs.Forest.{bytesOfSketch}
 use Rattle.layout.specs.declared.Header.{Header}
 use Rattle.layout.specs.Header.{bare}
 use Rattle.layout.specs.Limits.{HeaderLimits}
 use Rattle.descent.specs.declared.Cursor.{Cursor}
 use Rattle.descent.specs.declared.Descents.{Descents}
 use Rattle.descent.specs.Cursor.{Inside, AllInside, ended, arrive, descended, drawn, drawnAll, leftOf, Descended, leafOf}
 use Rattle.meaning.proofs.Each.{each-put}
 use Rattle.descent.proofs.Steps.{inside-arrive}
-use Rattle.descent.specs.Leaves.{blockSize, Packed, Started, leafIn, drawnIn, drawnFrom, Leaves}
-use Rattle.descent.proofs.Sizes.{bytes-length, size-most, size-some}
-use Rattle.descent.proofs.Shift.{Alike, alike-arrive, alike-descended, alike-leaf, alike-drawn}
+use Rattle.block_leaves.specs.Leaves.{blockSize, Packed, Started, leafIn, drawnIn, drawnFrom, Leaves}
+use Rattle.block_leaves.proofs.Sizes.{bytes-length, size-most, size-some}
+use Rattle.block_leaves.proofs.Shift.{Alike, alike-arrive, alike-descended, alike-leaf, alike-drawn}
 
 module _ (h : Header) (x : List ℕ) where
   abbrev bytesOf : ℕ → List ℕ

@@ -11,7 +11,7 @@ use Rattle.layout.specs.Header.{bare}
 use Rattle.layout.specs.Limits.{HeaderLimits}
 use Rattle.sketch_laws.proofs.Packing.{per-byte-pos, byte-there, packed-most}
 use Rattle.sketch_laws.proofs.Blocks.{block-end, block-pos, block-packed}
-use Rattle.descent.specs.Leaves.{blockSize}
+use Rattle.block_leaves.specs.Leaves.{blockSize}
 
 pub bytes-length : (h : Header) (x : List ℕ) → length x ≡ h .m → (j : ℕ) → j < h .q → length (bytesOfSketch (bare h) j x) ≡ blockSize h j
 unfolding bytesOfSketch

@@ -3,9 +3,9 @@ use Prim.Native.Nat.{_-_}
 use native.Mathlib.Omega.{arith}
 use mathlib.Core.Path.{_∙_, sym}
 use borrow.Author.Needs.{needs}
-use Rattle.descent.proofs.Blocks.{PackedTo, packed-all, packed-fits, packed-next}
-use Rattle.descent.proofs.leaves.pack_blocks.Statement.{statement}
-use Rattle.descent.proofs.leaves.pack_blocks.Tie as tie
+use Rattle.block_leaves.proofs.Blocks.{PackedTo, packed-all, packed-fits, packed-next}
+use Rattle.block_leaves.proofs.pack_blocks.Statement.{statement}
+use Rattle.block_leaves.proofs.pack_blocks.Tie as tie
 
 abbrev Inv-loop : tie.InvT-loop
 Inv-loop h sketch out₀ b j₀ out j = PackedTo h sketch out j

@@ -7,10 +7,10 @@ use Rattle.meaning.specs.Sketch.{packedLength, blockLength}
 use Rattle.meaning.specs.Forest.{bytesOfSketch}
 use Rattle.layout.specs.declared.Header.{Header}
 use Rattle.layout.specs.Header.{bare}
 use Rattle.descent.specs.declared.Cursor.{Cursor}
 use Rattle.descent.specs.declared.Left.the-variants.{Some}
 use Rattle.descent.specs.Cursor.{ended, arrive, descended, drawn, leftOf, leafOf}
-use Rattle.descent.specs.declared.leaves.Ends.{Ends}
+use Rattle.block_leaves.specs.declared.Ends.{Ends}
 
 -- how many packed bytes block j has
 abbrev pub blockSize : Header → ℕ → ℕ

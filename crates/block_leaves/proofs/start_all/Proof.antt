@@ -4,12 +4,12 @@ use native.Mathlib.Omega.{arith}
 use mathlib.Core.Path.{_≡_, _∙_, ap, refl}
 use borrow.Author.Needs.{needs}
 use Rattle.meaning.specs.Sketch.{packedLength}
 use Rattle.descent.specs.Cursor.{arrive}
-use Rattle.descent.specs.Leaves.{blockSize}
-use Rattle.descent.proofs.Sizes.{block-most, size-most, size-some}
-use Rattle.descent.proofs.Blocks.{StartedTo, started-none, started-next, started-all}
-use Rattle.descent.proofs.leaves.start_all.Statement.{statement}
-use Rattle.descent.proofs.leaves.start_all.Tie as tie
+use Rattle.block_leaves.specs.Leaves.{blockSize}
+use Rattle.block_leaves.proofs.Sizes.{block-most, size-most, size-some}
+use Rattle.block_leaves.proofs.Blocks.{StartedTo, started-none, started-next, started-all}
+use Rattle.block_leaves.proofs.start_all.Statement.{statement}
+use Rattle.block_leaves.proofs.start_all.Tie as tie
 
 abbrev Inv-loop : tie.InvT-loop
 Inv-loop nodes h bytes b cursors₀ j₀ cursors j = StartedTo h nodes bytes cursors j

@@ -11,10 +11,10 @@ use lib.ListN.{length, getD, set, replicate}
 use lib.Seq.{getD-set-same, getD-set-other}
 use Rattle.children.proofs.Steps.{suc-pred}
 use Rattle.trie_laws.specs.Needed.{distinctFrom}
-use Rattle.trie_room.specs.declared.needed.Needed.{Needed}
-use Rattle.trie_room.specs.declared.needed.Needed.the-variants.{Nodes, Broken}
-use Rattle.trie_room.specs.Chains.{nextLink, Chained, whole, broken, ahead, chainFrom}
-use Rattle.trie_room.specs.Needs.{bytesWith}
+use Rattle.leaf_bytes.specs.declared.Needed.{Needed}
+use Rattle.leaf_bytes.specs.declared.Needed.the-variants.{Nodes, Broken}
+use Rattle.leaf_bytes.specs.Chains.{nextLink, Chained, whole, broken, ahead, chainFrom}
+use Rattle.leaf_bytes.specs.Bytes.{bytesWith}
 
 -- `chainFrom`
 module _ (T : List ℕ) (base cap link : ℕ) where

@@ -3,9 +3,9 @@ use Prim.Native.Nat.{_-_}
 use native.Mathlib.Omega.{arith}
 use mathlib.Core.Path.{refl}
 use borrow.Author.Needs.{needs}
-use Rattle.descent.proofs.Blocks.{started-inside, LeavesTo, leaves-none, leaves-next, leaves-all}
-use Rattle.descent.proofs.leaves.leaves.Statement.{statement}
-use Rattle.descent.proofs.leaves.leaves.Tie as tie
+use Rattle.block_leaves.proofs.Blocks.{started-inside, LeavesTo, leaves-none, leaves-next, leaves-all}
+use Rattle.block_leaves.proofs.leaves.Statement.{statement}
+use Rattle.block_leaves.proofs.leaves.Tie as tie
 
 abbrev Inv-loop : tie.InvT-loop
 Inv-loop nodes h sketch budget cursors left firsts₀ j₀ firsts j = LeavesTo h cursors firsts j

@@ -1,0 +1,3 @@
+pub mod Sizes
+pub mod Shift
+pub mod Blocks
