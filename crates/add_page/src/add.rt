@@ -31,12 +31,12 @@ fn put_page(
     ensures { λ r. ⌜ outcome r (tables (now (settings .exit)) (now (nodes .exit)) (now (pages .exit)) (now (sketches .exit)) []) ≡ putPage (tables (now (settings .entry)) (now (nodes .entry)) (now (pages .entry)) (now (sketches .entry)) []) p «class» (now (sketch .entry)) ⌝ }
 {
     layout::pages::write_row(sketches, h.m, p, sketch);
-    let free = layout::settings::free_link(settings);
-    let thresholds = layout::settings::thresholds(settings);
+    let free = settings::free_link(settings);
+    let thresholds = settings::thresholds(settings);
     let inserted = insert_all(nodes, pages, sketches, thresholds, h, sketch, p, free);
     match inserted {
         Inserted::Free(link) => {
-            layout::settings::set_free_link(settings, link);
+            settings::set_free_link(settings, link);
             let signature = signature_of(h.b as u32, sketch);
             layout::pages::write_page(pages, h.pages, p, class, signature);
             0
@@ -59,8 +59,8 @@ fn place_page(
     requires { ⌜ admission (tables (now settings) (now nodes) (now pages) (now sketches) []) (add p «class» (now sketch)) ≡ Shown h ⌝ }
     ensures { λ r. ⌜ outcome r (tables (now (settings .exit)) (now (nodes .exit)) (now (pages .exit)) (now (sketches .exit)) []) ≡ placePage (tables (now (settings .entry)) (now (nodes .entry)) (now (pages .entry)) (now (sketches .entry)) []) p «class» (now (sketch .entry)) ⌝ }
 {
-    let free = layout::settings::free_link(settings);
-    let thresholds = layout::settings::thresholds(settings);
+    let free = settings::free_link(settings);
+    let thresholds = settings::thresholds(settings);
     let span = room(thresholds, nodes, pages, sketches, h, sketch, free);
     match span {
         Span::Enough => put_page(settings, nodes, pages, sketches, h, p, class, sketch),

@@ -65,7 +65,7 @@ pub fn check(
         }
         Opening::Shown(h) => h,
     };
-    let free = layout::settings::free_link(settings);
+    let free = settings::free_link(settings);
     let words = layout::lengths::map_words(h);
     let sound = test_store(nodes, pages, sketches, &mut working[..words], h, free);
     let needed = layout::lengths::working_length(h);

@@ -24,12 +24,12 @@ pub fn drop_page(
         Opening::Refused(number) => return number,
         Opening::Shown(h) => h,
     };
-    let free = layout::settings::free_link(settings);
+    let free = settings::free_link(settings);
     let p = page as usize;
     let removed = removal::remove_all(nodes, pages, sketches, h, p, free);
     match removed {
         Removed::Done(link) => {
-            layout::settings::set_free_link(settings, link);
+            settings::set_free_link(settings, link);
             layout::pages::strike_page(pages, p);
             0
         }

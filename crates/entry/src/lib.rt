@@ -48,7 +48,7 @@ fn long_store(h: Header, nodes: &[u32], pages: &[u32], sketches: &[u8]) -> bool
 pub fn admit(settings: &[u32], nodes: &[u32], pages: &[u32], sketches: &[u8]) -> Opening
     ensures { λ r. ⌜ r ≡ storeEntry (tables (now (settings .entry)) (now (nodes .entry)) (now (pages .entry)) (now (sketches .entry)) []) ⌝ }
 {
-    let h = match layout::settings::opening(settings) {
+    let h = match settings::opening(settings) {
         Opening::Refused(number) => return Opening::Refused(number),
         Opening::Shown(h) => h,
     };

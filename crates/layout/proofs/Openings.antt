@@ -1,13 +1,12 @@
--- The answer to 5 and 6: how the code tests the table, and what the answer tells a call.
+-- The answer to 5 and 6: what it tells a call.
 use Prim.Native.Nat.{ℕ, _≤_}
 use native.Mathlib.Omega.{arith}
 use mathlib.Core.Path.{_≡_, refl, sym}
-use mathlib.Core.Bool.{Bool, true, false, cond, _&&_, and-assoc}
+use mathlib.Core.Bool.{Bool, true, false, cond, _&&_}
 use mathlib.Core.List.{List, _∷_}
 use borrow.Author.Tests.{le-leb, leb-true}
 use lib.Dec.{leb, eqb}
-use lib.ListN.{length, getD, length-take, length-drop}
-use Rattle.meaning.specs.Lists.{all}
+use lib.ListN.{length, getD}
 use Rattle.meaning.specs.Refusal.{Question, ask, firstNo}
 use Rattle.meaning.specs.Questions.{inLimits}
 use Rattle.meaning.proofs.Lists.{and-second}
@@ -17,19 +16,8 @@ use Rattle.layout.specs.declared.Opening.the-variants.{Shown, Refused}
 use Rattle.layout.specs.Settings.{mark, settingsLength, settingsOf, showsOpening}
 use Rattle.layout.specs.Header.{headerOf, openingOf, pick, tablesFirst}
 use Rattle.layout.specs.Limits.{HeaderLimits, Bounds}
-use Rattle.layout.proofs.Limits.{short, limitsOn, in-limits, bounds}
+use Rattle.layout.proofs.Limits.{bounds}
 
--- ---- the test of a table, as the code makes it
-module _ (ws : List ℕ) (long : 70 ≤ length ws) where
-  pub thresholds-count : length (settingsOf ws .thresholds) ≡ 64
-  unfolding settingsOf
-  thresholds-count = simp (length-take, length-drop) (omega arith)
-
-  pub shows-tests : eqb (getD ws 0 0) mark && limitsOn (headerOf (settingsOf ws)) 64 && all short (settingsOf ws .thresholds) ≡ showsOpening ws
-  unfolding showsOpening
-  shows-tests = rw (in-limits, thresholds-count, and-assoc)
-
--- ---- what the answer to 5 and 6 tells
 pub record Shows (ws : List ℕ) (h : Header) : Type 0 where
   pub long : settingsLength ≤ length ws
   pub shows : showsOpening ws ≡ true

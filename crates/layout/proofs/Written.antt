@@ -2,14 +2,12 @@
 use Prim.Native.Nat.{ℕ, _≤_}
 use native.Mathlib.Omega.{arith}
 use mathlib.Core.Path.{_≡_, sym, ap, _∙_}
-use mathlib.Core.List.{List, [], _∷_, _++_}
+use mathlib.Core.List.{List, _++_}
 use lib.ListN.{length, set, take, drop}
-use lib.Seq.{take-at, take-all, take-take, drop-drop, getD-take, take-set-le, sets, sets-eq, paste}
+use lib.Seq.{take-at, take-take, getD-take, take-set-le}
 use Rattle.meaning.specs.Ledger.{Settings}
 use Rattle.meaning.specs.Questions.{inLimits}
-use Rattle.layout.specs.declared.Header.{Header}
-use Rattle.layout.specs.Settings.{mark, header, settingsOf, showsOpening, withHeader}
-use Rattle.layout.specs.Header.{withThresholds}
+use Rattle.layout.specs.Settings.{header, settingsOf, showsOpening}
 use Rattle.layout.proofs.Parts.{drop-take}
 
 -- ---- a table that begins with a header
@@ -29,18 +27,6 @@ module _ (s : Settings) (rest : List ℕ) (count : length (s .thresholds) ≡ 64
   pub shows-header : showsOpening (header s ++ rest) ≡ inLimits s
   unfolding showsOpening header
   shows-header = rw settings-header
-
--- ---- a written header
-module _ (ws : List ℕ) (h : Header) (ts : List ℕ) (long : 70 ≤ length ws) (count : length ts ≡ 64) where
-  abbrev six : List ℕ
-  six = mark ∷ h .b ∷ h .m ∷ h .q ∷ h .pages ∷ h .nodes ∷ []
-
-  -- what the stores of the code leave
-  pub header-written : paste (sets ws 0 six) 6 ts 64 ≡ withHeader ws (withThresholds h ts)
-  unfolding withHeader header
-  header-written =
-      ap (λ l. paste l 6 ts 64) (sets-eq six ws 0 (omega arith))
-      ∙ rw (take-all 64 ts (omega arith), drop-drop 64 6 ws)
 
 -- ---- an opening hangs on the first 70 words alone
 settings-take : (ws : List ℕ) → settingsOf (take 70 ws) ≡ settingsOf ws

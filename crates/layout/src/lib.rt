@@ -1,8 +1,8 @@
-// Where each thing stands in the lent tables (specs/), and the functions that read and write it.
+// Where each thing stands in the lent tables (specs/), and the functions that read and write it; those on the settings table are
+// the crate settings.
 pub mod lengths;
 pub mod nodes;
 pub mod pages;
-pub mod settings;
 
 // What a call goes by: b, m, q and the capacities.
 pub struct Header {

@@ -31,7 +31,7 @@ fn out_of_limits() -> Lengths
 pub fn needed(b: u32, m: u32, q: u32, page_capacity: u32, node_capacity: u32) -> Lengths
     ensures { λ r. ⌜ r ≡ lengthsOf (settingsGiven b m q «page_capacity» «node_capacity» []) ⌝ }
 {
-    if !layout::settings::limits(b, m, q, page_capacity, node_capacity, 64) {
+    if !settings::limits(b, m, q, page_capacity, node_capacity, 64) {
         return out_of_limits();
     }
     let h = Header {
@@ -41,7 +41,7 @@ pub fn needed(b: u32, m: u32, q: u32, page_capacity: u32, node_capacity: u32) ->
         pages: page_capacity as usize,
         nodes: node_capacity as usize,
     };
-    let settings = layout::settings::LENGTH as u32;
+    let settings = settings::LENGTH as u32;
     let nodes = layout::lengths::nodes_length(h) as u32;
     let pages = layout::lengths::pages_length(h) as u32;
     let sketches = layout::lengths::sketches_length(h) as u32;

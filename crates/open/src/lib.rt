@@ -30,7 +30,7 @@ fn long_enough(
     requires { ⌜ HeaderLimits h ⌝ }
     ensures { λ r. ⌜ r ≡ longSettings (tables (now (settings .entry)) (now (nodes .entry)) (now (pages .entry)) (now (sketches .entry)) (now (working .entry))) && longFor (bare h) (tables (now (settings .entry)) (now (nodes .entry)) (now (pages .entry)) (now (sketches .entry)) (now (working .entry))) (opening (bare h)) ⌝ }
 {
-    (layout::settings::LENGTH <= settings.len())
+    (settings::LENGTH <= settings.len())
         & (entry::long_nodes(h, nodes)
             & entry::long_pages(h, pages, sketches)
             & entry::long_working(h, working))
@@ -43,13 +43,9 @@ fn write_settings(settings: &mut [u32], h: Header, thresholds: &[u16])
     requires { ⌜ length (now thresholds) ≡ 64 ⌝ }
     ensures { λ r. ⌜ now (settings .exit) ≡ onto (freshSettings (withThresholds h (now (thresholds .entry)))) (now (settings .entry)) ⌝ }
 {
-    layout::settings::write_header(settings, h, thresholds);
-    words::zero_run(
-        settings,
-        layout::settings::MEMBERS,
-        layout::settings::REGISTER,
-    );
-    layout::settings::set_free_link(settings, fresh::free_link(h.nodes, h.q));
+    settings::write_header(settings, h, thresholds);
+    words::zero_run(settings, settings::MEMBERS, settings::REGISTER);
+    settings::set_free_link(settings, fresh::free_link(h.nodes, h.q));
 }
 
 // Every table that an opening writes, over its beginning.
@@ -90,7 +86,7 @@ pub fn open(
 ) -> u32
     ensures { λ r. ⌜ OpenPromise (settingsGiven b m q «page_capacity» «node_capacity» (now (thresholds .entry))) (tables (now (settings .entry)) (now (nodes .entry)) (now (pages .entry)) (now (sketches .entry)) (now (working .entry))) r (now (settings .exit)) (now (nodes .exit)) (now (pages .exit)) ⌝ }
 {
-    if !layout::settings::limits(b, m, q, page_capacity, node_capacity, thresholds.len()) {
+    if !settings::limits(b, m, q, page_capacity, node_capacity, thresholds.len()) {
         return 4;
     }
     let h = Header {

@@ -20,7 +20,7 @@ const CLASSES: u32 = 64;
 fn refusal(settings: &[u32], first: u32, firsts: u32, second: u32, seconds: u32) -> u32
     ensures { λ r. ⌜ r ≡ registerNumber (now (settings .entry)) (ltb first firsts && ltb second seconds) ⌝ }
 {
-    if let Opening::Refused(number) = layout::settings::opening(settings) {
+    if let Opening::Refused(number) = settings::opening(settings) {
         return number;
     }
     if firsts <= first {

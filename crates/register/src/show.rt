@@ -34,7 +34,7 @@ fn refused(number: u32) -> Place
 pub fn find_row(settings: &[u32], pages: &[u32], sketches: &[u8], reader: u32, page: u32) -> Place
     ensures { λ r. ⌜ r ≡ placeOf (showTables (now (settings .entry)) (now (pages .entry)) (now (sketches .entry))) reader page ⌝ }
 {
-    let h = match layout::settings::opening(settings) {
+    let h = match settings::opening(settings) {
         Opening::Refused(number) => return refused(number),
         Opening::Shown(h) => h,
     };

@@ -10,12 +10,12 @@ use lib.Bits.{bitOr}
 use lib.ListN.{length, getD, take, drop, length-drop}
 use lib.Seq.{getD-drop}
 use Rattle.meaning.specs.Lists.{all}
 use Rattle.layout.specs.Settings.{settingsOf}
 use Rattle.words.proofs.Bits.{or-below}
-use Rattle.layout.proofs.Tests.{all-more}
+use Rattle.settings.proofs.Tests.{all-more}
 use Rattle.layout.proofs.Limits.{short}
-use Rattle.layout.proofs.settings.thresholds_fit.Statement.{statement}
-use Rattle.layout.proofs.settings.thresholds_fit.Tie as tie
+use Rattle.settings.proofs.thresholds_fit.Statement.{statement}
+use Rattle.settings.proofs.thresholds_fit.Tie as tie
 
 abbrev Passed : List ℕ → ℕ → ℕ → Type 0
 Passed ws seen k = short seen ≡ all short (take k (drop 6 ws))

@@ -4,9 +4,9 @@ use native.Mathlib.Omega.{arith}
 use mathlib.Core.Path.{_≡_, ap, _∙_}
 use borrow.Author.Needs.{needs}
 use lib.Seq.{paste}
 use Rattle.layout.proofs.Parts.{Copied, copied-none, copied-more}
-use Rattle.layout.proofs.settings.write_thresholds.Statement.{statement}
-use Rattle.layout.proofs.settings.write_thresholds.Tie as tie
+use Rattle.settings.proofs.write_thresholds.Statement.{statement}
+use Rattle.settings.proofs.write_thresholds.Tie as tie
 
 abbrev Inv-loop : tie.InvT-loop
 Inv-loop settings₀ thresholds k₀ settings k = (k ≤ 64) × Copied settings₀ 6 thresholds k settings

@@ -1,10 +1,10 @@
 -- `header` reads the header.
 use native.Mathlib.Omega.{arith}
 use mathlib.Core.Path.{refl}
 use Rattle.layout.specs.Settings.{settingsOf}
 use borrow.Author.Needs.{needs}
-use Rattle.layout.proofs.settings.header.Statement.{statement}
-use Rattle.layout.proofs.settings.header.Tie as tie
+use Rattle.settings.proofs.header.Statement.{statement}
+use Rattle.settings.proofs.header.Tie as tie
 
 shared-slice-read-t3 : tie.Need-shared-slice-read-t3
 shared-slice-read-t3 c = search needs

@@ -1,9 +1,9 @@
 -- `thresholds` is the part of the table with the thresholds.
 use mathlib.Core.Path.{refl}
 use borrow.Author.Needs.{needs}
 use Rattle.layout.specs.Settings.{settingsOf}
-use Rattle.layout.proofs.settings.thresholds.Statement.{statement}
-use Rattle.layout.proofs.settings.thresholds.Tie as tie
+use Rattle.settings.proofs.thresholds.Statement.{statement}
+use Rattle.settings.proofs.thresholds.Tie as tie
 
 sub-result : tie.Need-sub-result
 sub-result c = search needs

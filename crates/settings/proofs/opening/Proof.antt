@@ -4,11 +4,11 @@ use mathlib.Core.Path.{_≡_, sym, _∙_}
 use mathlib.Core.Bool.{true, false}
 use borrow.Author.Tests.{lt-leb, le-leb, not-true, not-false}
 use lib.ListN.{length}
 use Rattle.layout.specs.Settings.{settingsLength, showsOpening}
 use Rattle.layout.specs.Header.{openingOf}
 use borrow.Author.Needs.{needs}
-use Rattle.layout.proofs.settings.opening.Statement.{statement}
-use Rattle.layout.proofs.settings.opening.Tie as tie
+use Rattle.settings.proofs.opening.Statement.{statement}
+use Rattle.settings.proofs.opening.Tie as tie
 
 returns : tie.Need-returns
 unfolding openingOf

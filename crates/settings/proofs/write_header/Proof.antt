@@ -3,9 +3,9 @@ use native.Mathlib.Omega.{arith}
 use lib.ListN.{length-set}
 use mathlib.Core.Path.{_∙_}
 use borrow.Author.Needs.{needs}
-use Rattle.layout.proofs.Written.{header-written}
-use Rattle.layout.proofs.settings.write_header.Statement.{statement}
-use Rattle.layout.proofs.settings.write_header.Tie as tie
+use Rattle.settings.proofs.Written.{header-written}
+use Rattle.settings.proofs.write_header.Statement.{statement}
+use Rattle.settings.proofs.write_header.Tie as tie
 
 slice-write-settings : tie.Need-slice-write-settings
 slice-write-settings c = search needs

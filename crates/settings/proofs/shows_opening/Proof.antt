@@ -1,10 +1,10 @@
 -- `shows_opening` is `showsOpening`.
 use native.Mathlib.Omega.{arith}
 use Rattle.layout.specs.Settings.{settingsOf}
-use Rattle.layout.proofs.Openings.{shows-tests}
+use Rattle.settings.proofs.Tests.{shows-tests}
 use borrow.Author.Needs.{needs}
-use Rattle.layout.proofs.settings.shows_opening.Statement.{statement}
-use Rattle.layout.proofs.settings.shows_opening.Tie as tie
+use Rattle.settings.proofs.shows_opening.Statement.{statement}
+use Rattle.settings.proofs.shows_opening.Tie as tie
 
 shared-slice-read-result : tie.Need-shared-slice-read-result
 shared-slice-read-result c = search needs

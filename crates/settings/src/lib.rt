@@ -5,11 +5,11 @@ ghost use lib.Dec.{ltb};
 ghost use lib.ListN.{length, getD, set};
 ghost use lib.Seq.{paste};
 ghost use Rattle.meaning.specs.Lists.{all};
 ghost use Rattle.layout.specs.Settings.{settingsLength, settingsOf, showsOpening, withHeader, freeAt};
 ghost use Rattle.layout.specs.Limits.{limitsOf, HeaderLimits};
 ghost use Rattle.layout.specs.Header.{headerOf, withThresholds, openingOf};
-use crate::Header;
-use crate::Opening;
+use layout::Header;
+use layout::Opening;
 
 const MARK: u32 = 0x56440002;
 

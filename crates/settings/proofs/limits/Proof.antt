@@ -1,9 +1,9 @@
 -- `limits` is `limitsOf`, test by test.
 use mathlib.Core.Path.{refl}
 use Rattle.meaning.specs.SketchCalls.{sketchLimits}
 use Rattle.layout.specs.Limits.{limitsOf}
-use Rattle.layout.proofs.settings.limits.Statement.{statement}
-use Rattle.layout.proofs.settings.limits.Tie as tie
+use Rattle.settings.proofs.limits.Statement.{statement}
+use Rattle.settings.proofs.limits.Tie as tie
 
 returns : tie.Need-returns
 unfolding limitsOf sketchLimits
