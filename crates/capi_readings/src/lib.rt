@@ -88,7 +88,7 @@ pub extern "C" fn vetch_show(
     ensures { λ r. ⌜ now (start .exit) ≡ startShown (showTables (now (settings .entry)) (now (pages .entry)) (now (sketches .entry))) reader page ⌝ }
     ensures { λ r. ⌜ now (length .exit) ≡ lengthShown (showTables (now (settings .entry)) (now (pages .entry)) (now (sketches .entry))) reader page ⌝ }
 {
-    let at = register::show::find_row(settings, pages, sketches, reader, page);
+    let at = show_page::show::find_row(settings, pages, sketches, reader, page);
     *start = at.start;
     *length = at.length;
     at.number

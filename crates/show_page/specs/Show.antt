@@ -5,7 +5,7 @@ use Rattle.meaning.specs.Ledger.{show, reading}
 use Rattle.promises.specs.Tables.{Tables}
 use Rattle.promises.specs.Answers.{number}
 use Rattle.promises.specs.Readings.{startShown, lengthShown}
-use Rattle.register.specs.declared.show.Place.{Place}
+use Rattle.show_page.specs.declared.show.Place.{Place}
 
 abbrev pub noRow : ℕ → Place
 noRow n = record { number = n; start = 0; length = 0 }

@@ -26,7 +26,7 @@ use Rattle.rights.specs.Register.{opens}
 use Rattle.promises.specs.Tables.{Tables, showTables, given, byTables, isShown, pageClass, pageRow}
 use Rattle.promises.specs.Answers.{number, entered, shown56, longSettings, longFor, longPages}
 use Rattle.promises.specs.Readings.{startShown, lengthShown, rowShown}
-use Rattle.register.specs.Show.{noRow, placeOf}
+use Rattle.show_page.specs.Show.{noRow, placeOf}
 use Rattle.entry.proofs.Questions.{all-yes}
 
 -- 6, of the page table and the sketch table

@@ -9,9 +9,9 @@ use Rattle.layout.specs.declared.Opening.the-variants.{Shown}
 use Rattle.layout.specs.Header.{openingOf}
 use Rattle.layout.proofs.Openings.{shown}
 use Rattle.entry.proofs.Questions.{fails, holds}
-use Rattle.register.proofs.Shows.{longFor6, row-refused, row-6, row-7, row-8, word-inside, start-fits, row-missing, row-closed, row-shown}
-use Rattle.register.proofs.show.find_row.Statement.{statement}
-use Rattle.register.proofs.show.find_row.Tie as tie
+use Rattle.show_page.proofs.Shows.{longFor6, row-refused, row-6, row-7, row-8, word-inside, start-fits, row-missing, row-closed, row-shown}
+use Rattle.show_page.proofs.show.find_row.Statement.{statement}
+use Rattle.show_page.proofs.show.find_row.Tie as tie
 
 opening-requires : tie.Need-opening-requires
 opening-requires c κs = search needs

@@ -8,7 +8,7 @@ ghost use Rattle.promises.specs.Tables.{showTables};
 ghost use Rattle.promises.specs.Answers.{number};
 ghost use Rattle.promises.specs.Readings.{startShown, rowShown};
 ghost use Rattle.promises.specs.Relation.{OnShow};
-ghost use Rattle.register.specs.Show.{noRow, placeOf};
+ghost use Rattle.show_page.specs.Show.{noRow, placeOf};
 use layout::Opening;
 
 const READERS: u32 = 256;

@@ -1,9 +1,9 @@
 -- `show_number` gives the number that `find_row` finds.
 use mathlib.Core.Path.{refl}
 use borrow.Author.Needs.{needs}
-use Rattle.register.specs.Show.{placeOf}
-use Rattle.register.proofs.show.show_number.Statement.{statement}
-use Rattle.register.proofs.show.show_number.Tie as tie
+use Rattle.show_page.specs.Show.{placeOf}
+use Rattle.show_page.proofs.show.show_number.Statement.{statement}
+use Rattle.show_page.proofs.show.show_number.Tie as tie
 
 find-row-requires : tie.Need-find-row-requires
 find-row-requires c κs = search needs

@@ -2,10 +2,10 @@
 use native.Mathlib.Nat.{add-sub-cancel-left, add-comm}
 use mathlib.Core.Path.{refl, sym}
 use borrow.Author.Needs.{needs}
-use Rattle.register.specs.Show.{placeOf}
-use Rattle.register.proofs.Shows.{place-inside, part-shown}
-use Rattle.register.proofs.show.show.Statement.{statement}
-use Rattle.register.proofs.show.show.Tie as tie
+use Rattle.show_page.specs.Show.{placeOf}
+use Rattle.show_page.proofs.Shows.{place-inside, part-shown}
+use Rattle.show_page.proofs.show.show.Statement.{statement}
+use Rattle.show_page.proofs.show.show.Tie as tie
 
 find-row-requires : tie.Need-find-row-requires
 find-row-requires c κs = search needs
