@@ -7,9 +7,9 @@ use Rattle.layout.specs.declared.Opening.the-variants.{Shown}
 use Rattle.promises.specs.Tables.{tables}
 use Rattle.entry.specs.Entry.{storeEntry}
 use Rattle.entry.proofs.Admits.{pages-fit}
-use Rattle.drop_page.proofs.Admits.{admit-refused, admit-page, admit-all}
-use Rattle.drop_page.proofs.questions.admit.Statement.{statement}
-use Rattle.drop_page.proofs.questions.admit.Tie as tie
+use Rattle.drop_steps.proofs.Admits.{admit-refused, admit-page, admit-all}
+use Rattle.drop_steps.proofs.questions.admit.Statement.{statement}
+use Rattle.drop_steps.proofs.questions.admit.Tie as tie
 
 admit-requires : tie.Need-admit-requires
 admit-requires c κs = search needs

@@ -5,9 +5,9 @@ use borrow.Author.Needs.{needs}
 use lib.Seq.{length-take-le}
 use Rattle.blocks.specs.Tables.{InTables}
 use Rattle.blocks.proofs.Tables.{in-tables}
-use Rattle.drop_page.proofs.Blocks.{remove-one}
-use Rattle.drop_page.proofs.removal.remove_block.Statement.{statement}
-use Rattle.drop_page.proofs.removal.remove_block.Tie as tie
+use Rattle.drop_steps.proofs.Blocks.{remove-one}
+use Rattle.drop_steps.proofs.removal.remove_block.Statement.{statement}
+use Rattle.drop_steps.proofs.removal.remove_block.Tie as tie
 
 row-bytes-requires : tie.Need-row-bytes-requires
 row-bytes-requires c κs = search needs

@@ -8,8 +8,8 @@ use Rattle.layout.specs.Header.{bare}
 use Rattle.drop_laws.specs.Removal.{removeFrom, removeAll}
 use Rattle.drop_laws.proofs.Removes.{remove-start, remove-done, remove-more, remove-broken}
 use Rattle.blocks.proofs.Tables.{lent-kept}
-use Rattle.drop_page.proofs.removal.remove_all.Statement.{statement}
-use Rattle.drop_page.proofs.removal.remove_all.Tie as tie
+use Rattle.drop_steps.proofs.removal.remove_all.Statement.{statement}
+use Rattle.drop_steps.proofs.removal.remove_all.Tie as tie
 
 abbrev Inv-loop : tie.InvT-loop
 Inv-loop nodes₀ pages₀ sketches h p free q link₀ j₀ nodes pages link j =
