@@ -1,8 +1,8 @@
 -- `state_word` is `freshState`.
 use borrow.Author.Tests.{lt-ltb, le-ltb}
 use Rattle.promises.specs.Answers.{freshState}
-use Rattle.open.proofs.fresh.state_word.Statement.{statement}
-use Rattle.open.proofs.fresh.state_word.Tie as tie
+use Rattle.fresh_tables.proofs.fresh.state_word.Statement.{statement}
+use Rattle.fresh_tables.proofs.fresh.state_word.Tie as tie
 
 returns : tie.Need-returns
 unfolding freshState

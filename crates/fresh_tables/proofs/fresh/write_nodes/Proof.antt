@@ -2,9 +2,9 @@
 use native.Mathlib.Omega.{arith}
 use borrow.Author.Needs.{needs}
 use Rattle.layout.specs.Lengths.{nodesLength}
-use Rattle.open.proofs.Opens.{nodes-written}
-use Rattle.open.proofs.fresh.write_nodes.Statement.{statement}
-use Rattle.open.proofs.fresh.write_nodes.Tie as tie
+use Rattle.fresh_tables.proofs.Nodes.{nodes-written}
+use Rattle.fresh_tables.proofs.fresh.write_nodes.Statement.{statement}
+use Rattle.fresh_tables.proofs.fresh.write_nodes.Tie as tie
 
 write-chain-requires : tie.Need-write-chain-requires
 unfolding nodesLength

@@ -6,11 +6,11 @@ use borrow.Author.Needs.{needs}
 use Rattle.layout.proofs.Limits.{limitsOn, header-limits}
 use Rattle.layout.specs.declared.Header.{Header}
 use Rattle.layout.specs.Limits.{HeaderLimits}
-use Rattle.open.specs.Lengths.{lengthsOf}
-use Rattle.open.proofs.Fits.{nodes-fit, pages-fit, sketches-fit, working-fit}
+use Rattle.fresh_tables.specs.Lengths.{lengthsOf}
+use Rattle.fresh_tables.proofs.Fits.{nodes-fit, pages-fit, sketches-fit, working-fit}
 use Rattle.entry.proofs.Questions.{fails, holds}
-use Rattle.open.proofs.lengths.needed.Statement.{statement}
-use Rattle.open.proofs.lengths.needed.Tie as tie
+use Rattle.fresh_tables.proofs.lengths.needed.Statement.{statement}
+use Rattle.fresh_tables.proofs.lengths.needed.Tie as tie
 
 limits-requires : tie.Need-limits-requires
 limits-requires c κs = search needs

@@ -10,9 +10,9 @@ use lib.Seq.{sets}
 use Rattle.meaning.specs.Lists.{upto}
 use Rattle.layout.specs.Header.{bare}
 use Rattle.promises.specs.Answers.{freshChain}
-use Rattle.open.proofs.Runs.{rest, rest-first, rest-next, rest-none}
-use Rattle.open.proofs.fresh.write_chain.Statement.{statement}
-use Rattle.open.proofs.fresh.write_chain.Tie as tie
+use Rattle.fresh_tables.proofs.Runs.{rest, rest-first, rest-next, rest-none}
+use Rattle.fresh_tables.proofs.fresh.write_chain.Statement.{statement}
+use Rattle.fresh_tables.proofs.fresh.write_chain.Tie as tie
 
 abbrev Inv-loop : tie.InvT-loop
 Inv-loop nodes₀ h cap x₀ nodes x =

@@ -9,9 +9,9 @@ use lib.Seq.{sets}
 use Rattle.meaning.specs.Lists.{upto}
 use Rattle.layout.specs.Header.{bare}
 use Rattle.promises.specs.Answers.{freshState}
-use Rattle.open.proofs.Runs.{rest, rest-first, rest-next, rest-none}
-use Rattle.open.proofs.fresh.write_states.Statement.{statement}
-use Rattle.open.proofs.fresh.write_states.Tie as tie
+use Rattle.fresh_tables.proofs.Runs.{rest, rest-first, rest-next, rest-none}
+use Rattle.fresh_tables.proofs.fresh.write_states.Statement.{statement}
+use Rattle.fresh_tables.proofs.fresh.write_states.Tie as tie
 
 abbrev Inv-loop : tie.InvT-loop
 Inv-loop nodes₀ h cap x₀ nodes x =

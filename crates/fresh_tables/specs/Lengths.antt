@@ -4,7 +4,7 @@ use Rattle.meaning.specs.Ledger.{Settings}
 use Rattle.layout.specs.Settings.{settingsLength}
 use Rattle.layout.specs.Limits.{limitsOf}
 use Rattle.layout.specs.Lengths.{nodesLength, pagesLength, sketchesLength, workingLength}
-use Rattle.open.specs.declared.lengths.Lengths.{Lengths}
+use Rattle.fresh_tables.specs.declared.lengths.Lengths.{Lengths}
 
 abbrev pub noLengths : Lengths
 noLengths = record { number = 4; settings = 0; nodes = 0; pages = 0; sketches = 0; working = 0 }

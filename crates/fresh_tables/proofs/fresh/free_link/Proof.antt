@@ -3,8 +3,8 @@ use native.Mathlib.Numerals.{add-one}
 use borrow.Author.Needs.{needs}
 use borrow.Author.Tests.{lt-ltb, le-ltb}
 use Rattle.promises.specs.Answers.{freeLink}
-use Rattle.open.proofs.fresh.free_link.Statement.{statement}
-use Rattle.open.proofs.fresh.free_link.Tie as tie
+use Rattle.fresh_tables.proofs.fresh.free_link.Statement.{statement}
+use Rattle.fresh_tables.proofs.fresh.free_link.Tie as tie
 
 add-result : tie.Need-add-result
 add-result c = search needs

@@ -3,8 +3,8 @@ use native.Mathlib.Numerals.{add-one}
 use borrow.Author.Needs.{needs}
 use borrow.Author.Tests.{lt-ltb, le-ltb}
 use Rattle.promises.specs.Answers.{freshChain}
-use Rattle.open.proofs.fresh.chain_word.Statement.{statement}
-use Rattle.open.proofs.fresh.chain_word.Tie as tie
+use Rattle.fresh_tables.proofs.fresh.chain_word.Statement.{statement}
+use Rattle.fresh_tables.proofs.fresh.chain_word.Tie as tie
 
 add-free-link : tie.Need-add-free-link
 add-free-link c = search needs

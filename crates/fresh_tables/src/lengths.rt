@@ -2,7 +2,7 @@
 ghost use mathlib.Core.Path.{_≡_};
 ghost use mathlib.Core.List.{[]};
 ghost use Rattle.meaning.specs.Ledger.{settingsGiven};
-ghost use Rattle.open.specs.Lengths.{noLengths, lengthsOf};
+ghost use Rattle.fresh_tables.specs.Lengths.{noLengths, lengthsOf};
 use layout::Header;
 
 // 0 with the lengths in words, of the sketch table in bytes; or 4 with zeros.
