@@ -11,7 +11,7 @@ ghost use Rattle.promises.specs.Tables.{tables, showTables};
 ghost use Rattle.promises.specs.Readings.{startShown, lengthShown};
 ghost use Rattle.promises.specs.Relation.{withList, withVerdict, Promised, OnShow};
 ghost use Rattle.search_laws.specs.Answer.{AnsweredBy};
-ghost use Rattle.open.specs.Lengths.{lengthsOf};
+ghost use Rattle.fresh_tables.specs.Lengths.{lengthsOf};
 
 #[no_mangle]
 pub extern "C" fn vetch_lengths(
@@ -33,7 +33,7 @@ pub extern "C" fn vetch_lengths(
     ensures { λ r. ⌜ now (sketches .exit) ≡ lengthsOf (settingsGiven b m q «page_capacity» «node_capacity» []) .sketches ⌝ }
     ensures { λ r. ⌜ now (working .exit) ≡ lengthsOf (settingsGiven b m q «page_capacity» «node_capacity» []) .working ⌝ }
 {
-    let needed = open::lengths::needed(b, m, q, page_capacity, node_capacity);
+    let needed = fresh_tables::lengths::needed(b, m, q, page_capacity, node_capacity);
     *settings = needed.settings;
     *nodes = needed.nodes;
     *pages = needed.pages;
@@ -88,7 +88,7 @@ pub extern "C" fn vetch_show(
     ensures { λ r. ⌜ now (start .exit) ≡ startShown (showTables (now (settings .entry)) (now (pages .entry)) (now (sketches .entry))) reader page ⌝ }
     ensures { λ r. ⌜ now (length .exit) ≡ lengthShown (showTables (now (settings .entry)) (now (pages .entry)) (now (sketches .entry))) reader page ⌝ }
 {
-    let at = register::show::find_row(settings, pages, sketches, reader, page);
+    let at = show_page::show::find_row(settings, pages, sketches, reader, page);
     *start = at.start;
     *length = at.length;
     at.number

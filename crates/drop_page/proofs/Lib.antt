@@ -1,3 +1,1 @@
-pub mod Admits
-pub mod Blocks
 pub mod Exits

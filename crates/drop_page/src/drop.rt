@@ -4,8 +4,8 @@ ghost use mathlib.Core.List.{[]};
 ghost use Rattle.promises.specs.Tables.{tables};
 ghost use Rattle.promises.specs.Store.{outcome, DropPromise};
 ghost use Rattle.drop_laws.specs.After.{dropPage};
-use crate::questions;
-use crate::removal;
+use drop_steps::questions;
+use drop_steps::removal;
 use layout::Opening;
 use trie_remove::Removed;
 

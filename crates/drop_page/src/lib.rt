@@ -1,4 +1,2 @@
 // Drop: a page leaves its leaf in each block's trie, and is live no more.
 pub mod drop;
-mod questions;
-mod removal;

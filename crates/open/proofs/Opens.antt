@@ -1,18 +1,16 @@
 -- An opening: its number by the tests on the way, and the tables that its leaves write.
-use Prim.Native.Nat.{ℕ, _+_, _*_, _≤_, _<_}
+use Prim.Native.Nat.{ℕ, _+_, _≤_, _<_}
 use native.Mathlib.Omega.{arith}
 use mathlib.Core.Path.{_≡_, sym, _∙_}
 use mathlib.Core.Bool.{Bool, true, false, cond, _&&_}
-use mathlib.Core.List.{List, [], _∷_, _++_, map}
+use mathlib.Core.List.{List, [], _∷_, _++_}
 use borrow.Author.Tests.{ne-eqb, leb-true, eqb-true}
 use lib.ListN.{length, getD, set, drop, replicate, length-replicate, length-append, length-drop}
-use lib.Seq.{sets, length-sets}
-use Rattle.layout.specs.Nodes.{headsAt}
-use Rattle.meaning.specs.Lists.{onto, upto}
+use Rattle.meaning.specs.Lists.{onto}
 use Rattle.meaning.specs.Refusal.{firstNo}
 use Rattle.meaning.specs.Ledger.{Settings, opening, settingsGiven}
 use Rattle.meaning.specs.Questions.{asked}
-use Rattle.meaning.proofs.Lists.{and-first, and-second, length-map-upto}
+use Rattle.meaning.proofs.Lists.{and-first, and-second}
 use Rattle.layout.specs.declared.Header.{Header}
 use Rattle.layout.specs.Settings.{settingsLength, header, withHeader, membersAt, registerLength, freeAt}
 use Rattle.layout.specs.Header.{headerOf, bare}
@@ -24,7 +22,7 @@ use Rattle.words.specs.Bits.{zeroed}
 use Rattle.promises.specs.Tables.{Tables}
 use Rattle.promises.specs.Answers.{number, entered, longSettings, longFor, longNodes, longPages, longWorking, freeLink, freshSettings, freshChain, freshState, freshNodes, freshPages, opened}
 use Rattle.promises.specs.Calls.{OpenPromise}
-use Rattle.open.proofs.Runs.{sets-append, onto-sets, onto-append, zeroed-sets}
+use Rattle.fresh_tables.proofs.Runs.{sets-append, onto-sets, onto-append, zeroed-sets}
 
 -- ---- the settings table: a list of a elements, n zeros and a word behind them
 written : (xs ws : List ℕ) (a n v : ℕ) → length xs ≡ a → a + n < length ws
@@ -52,35 +50,7 @@ pub settings-written : (s : Settings) (ws : List ℕ) → length (s .thresholds)
 unfolding freshSettings withHeader
 settings-written s ws count long = written (header s) ws membersAt registerLength (freeLink (s .nodes) (s .blocks)) (length-header s count) (omega arith)
 
--- ---- the node table
-pub nodes-written : (h : Header) (ns : List ℕ) → nodesLength (bare h) ≤ length ns
-    → zeroed
-    (sets (sets ns 0 (map (freshChain (bare h)) (upto (h .nodes)))) (h .nodes) (map (freshState (bare h)) (upto (h .nodes))))
-    (headsAt (h .nodes))
-    (8 * h .nodes)
-    ≡ onto (freshNodes (bare h)) ns
-unfolding freshNodes nodesLength
-nodes-written h ns long =
-    let N = h .nodes in
-    let A = map (freshChain (bare h)) (upto N) in
-    let B = map (freshState (bare h)) (upto N) in
-    let Z : List ℕ = replicate (8 * N) 0 in
-    let a : length A ≡ N = length-map-upto (freshChain (bare h)) N in
-    let b : length B ≡ N = length-map-upto (freshState (bare h)) N in
-    let z : length Z ≡ 8 * N = length-replicate (8 * N) 0 in
-    let inside : 2 * N + 8 * N ≤ length (sets (sets ns 0 A) N B) = rw (length-sets, length-sets) (omega arith) in
-    let all : length A + length (B ++ Z) ≤ length ns = omega (arith, length-append B Z) in
-    let twice : N + N ≡ 2 * N = omega arith in
-    rw (
-      onto-append A (B ++ Z) ns all,
-      sets-append B Z (onto A ns) (length A),
-      onto-sets A ns (omega arith),
-      zeroed-sets (sets (sets ns 0 A) N B) (2 * N) (8 * N) inside,
-      a,
-      b,
-      twice,
-    )
-
+-- ---- the page table
 pub pages-written : (s : Settings) (ps : List ℕ) → pagesLength s ≤ length ps → zeroed ps 0 (pagesLength s) ≡ onto (freshPages s) ps
 unfolding freshPages
 pages-written s ps long =

@@ -12,10 +12,7 @@ ghost use Rattle.layout.specs.Lengths.{nodesLength, pagesLength};
 ghost use Rattle.promises.specs.Tables.{tables};
 ghost use Rattle.promises.specs.Answers.{longSettings, longFor, freshSettings, freshNodes, freshPages};
 ghost use Rattle.promises.specs.Calls.{OpenPromise};
-
-mod fresh;
-pub mod lengths;
-
+use fresh_tables::fresh;
 use layout::Header;
 
 // 5: is every table long enough?

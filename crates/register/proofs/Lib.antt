@@ -1,2 +1,1 @@
 pub mod RightsCalls
-pub mod Shows

@@ -1,2 +1,1 @@
 pub mod Register
-pub mod Show

@@ -5,9 +5,6 @@ ghost use lib.Dec.{ltb};
 ghost use Rattle.meaning.specs.Rights.{join, leave, grant, revoke};
 ghost use Rattle.promises.specs.Calls.{RightsPromise};
 ghost use Rattle.register.specs.Register.{registerNumber};
-
-pub mod show;
-
 use layout::Opening;
 
 const READERS: u32 = 256;

@@ -1,8 +1,8 @@
 -- `vetch_show` gives what `find_row` finds, part by part, and the row is the part of the sketch table that stands there.
 use mathlib.Core.Path.{refl, sym}
 use borrow.Author.Needs.{needs}
-use Rattle.register.specs.Show.{placeOf}
-use Rattle.register.proofs.Shows.{part-shown}
+use Rattle.show_page.specs.Show.{placeOf}
+use Rattle.show_page.proofs.Shows.{part-shown}
 use Rattle.capi_readings.proofs.vetch_show.Statement.{statement}
 use Rattle.capi_readings.proofs.vetch_show.Tie as tie
 
