@@ -20,6 +20,8 @@
  *       leaf, or the free nodes ran out after all. Add and drop may have changed
  *       words of the trees, and add the page's row. It never occurs on tables
  *       that only these calls have written
+ *   15  add: the page is blank, every symbol of its sketch is 0. Asked between
+ *       11 and 12. A search for such a sketch is not refused
  *
  * and 1 to 3 of a journal command's form. docs/OPERATING.md says what to do.
  *
@@ -85,7 +87,7 @@ uint32_t vetch_open(uint32_t *settings, size_t settings_len, uint32_t *nodes,
                     uint32_t node_capacity, const uint16_t *thresholds,
                     size_t thresholds_len);
 
-/* Adds a page, of a class and with a sketch of m symbols. */
+/* Adds a page, of a class and with a sketch of m symbols, not all of them 0. */
 uint32_t vetch_add(uint32_t *settings, size_t settings_len, uint32_t *nodes,
                    size_t nodes_len, uint32_t *pages, size_t pages_len,
                    uint8_t *sketches, size_t sketches_len, uint32_t page,

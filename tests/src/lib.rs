@@ -11,3 +11,4 @@ pub mod stores;
 pub mod tables;
 pub mod trees;
 pub mod walks;
+pub mod written;

@@ -135,6 +135,14 @@ impl Index {
         if number != 0 {
             return number;
         }
+        if sketch.iter().all(|&s| s == 0) {
+            return 15;
+        }
+        self.put(page, class, sketch)
+    }
+
+    /// An add past all questions but 12, of a blank page too: stores from before question 15 have such pages.
+    pub fn put(&mut self, page: u32, class: u32, sketch: &[u8]) -> u32 {
         let mut rows = self.rows.clone();
         rows.insert(page, Row { class, sketch: sketch.to_vec() });
         let mut trees = self.trees.clone();

@@ -68,6 +68,14 @@ fn search(random: &mut Random, t: &mut Lent, s: &Settings, beside: &mut Beside) 
     given.number
 }
 
+/// A blank page is refused by 15 at the latest, and no other is.
+fn add(random: &mut Random, t: &mut Lent, page: u32, sketch: &[u8]) -> u32 {
+    let number = calls::add(t, page, around(random, 64), sketch);
+    let blank = sketch.iter().all(|&symbol| symbol == 0);
+    assert!(if blank { matches!(number, 5..=10 | 15) } else { number != 15 }, "{number} {sketch:?}");
+    number
+}
+
 /// One call; its number, and whether it may write the working table.
 fn call(random: &mut Random, t: &mut Lent, s: &Settings, sketches: &Sketches, beside: &mut Beside) -> (u32, bool) {
     let page = around(random, u64::from(s.pages));
@@ -76,11 +84,12 @@ fn call(random: &mut Random, t: &mut Lent, s: &Settings, sketches: &Sketches, be
         0 => x.push(0),
         1 => x.truncate(x.len() - 1),
         2 => x[0] = random.next() as u8,
+        3 => x.fill(0),
         _ => {}
     }
     beside.sketch.set(&x);
     match random.below(16) {
-        0..=3 => (calls::add(t, page, around(random, 64), beside.sketch.get()), false),
+        0..=3 => (add(random, t, page, beside.sketch.get()), false),
         4..=6 => (calls::drop(t, page), false),
         7..=10 => (search(random, t, s, beside), true),
         11 => (calls::check(t).0, true),
@@ -133,5 +142,5 @@ fn any_call_on_any_tables() {
         }
     }
     println!("{} calls in {seconds} s, by number: {numbers:?}", numbers.iter().sum::<u64>());
-    assert!([0, 5, 6, 7, 8, 9, 10, 11, 12, 13, 14].iter().all(|&n| numbers[n] > 0), "{numbers:?}");
+    assert!([0, 5, 6, 7, 8, 9, 10, 11, 12, 13, 14, 15].iter().all(|&n| numbers[n] > 0), "{numbers:?}");
 }

@@ -69,8 +69,10 @@ fn command(random: &mut Random, journal: &mut Vec<u8>, sketches: &Sketches, page
 
 fn sketch(random: &mut Random, sketches: &Sketches) -> Vec<u8> {
     let mut x = sketches.near(random, 3);
-    if random.below(60) == 0 {
-        x[0] = random.next() as u8;
+    match random.below(60) {
+        0 => x[0] = random.next() as u8,
+        1 => x.fill(0),
+        _ => {}
     }
     x
 }
@@ -123,7 +125,7 @@ fn generated_journals() {
             }
         }
     }
-    assert!([1, 2, 3, 4, 7, 8, 9, 11, 12].iter().all(|&n| numbers[n] > 10), "{numbers:?}");
+    assert!([1, 2, 3, 4, 7, 8, 9, 11, 12, 15].iter().all(|&n| numbers[n] > 10), "{numbers:?}");
     assert!(listed > 50_000, "{listed} listed");
 }
 
@@ -196,6 +198,9 @@ fn stored_examples() {
         (after(&[b'A', 1, 0, 64, 0, 1, 2, 3]), "E 6 7\nZ 14\n"),
         (after(&[b'A', 1, 0, 3, 0, 1, 2, 4]), "E 6 11\nZ 14\n"),
         (after(&[b'A', 1, 0, 3, 0, 1, 2, 3, b'A', 1, 0, 3, 0, 1, 2, 3]), "E 14 9\nZ 22\n"),
+        // a blank page is refused, and the next command is carried out; 9 is asked first; a query of zeros is legal
+        (after(&[b'A', 1, 0, 3, 0, 0, 0, 0, b'A', 1, 0, 3, 0, 0, 0, 1, b'A', 1, 0, 3, 0, 0, 0, 0]), "E 6 15\nE 22 9\nZ 30\n"),
+        (after(&[b'J', 0, 0, b'G', 0, 9, b'A', 1, 0, 9, 0, 0, 0, 1, b'A', 2, 0, 9, 0, 0, 0, 0, b'S', 0, 1, 0, 0, 0, 0]), "E 20 15\nS 0 1 1\nZ 35\n"),
         (after(&[b'S', 0, 65, 0, 1, 2, 3]), "E 6 7\nZ 13\n"),
         (after(&[b'S', 255, 64, 0, 1, 2, 3]), "S 255 0\nZ 13\n"),
         // block distances 1 and 2 are within radius 3; a page added, closed and opened again

@@ -30,6 +30,7 @@ fn query_of(random: &mut Random, s: &Settings, sketches: &Sketches) -> Vec<u8> {
         0 => x.push(0),
         1 => x.truncate(x.len() - 1),
         2 if s.b < 8 => x[0] = 1 << s.b,
+        3 | 4 => x.fill(0),
         _ => {}
     }
     x

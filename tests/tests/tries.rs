@@ -30,6 +30,7 @@ fn sketch_of(random: &mut Random, s: &Settings, sketches: &Sketches) -> Vec<u8> 
         0 => x.push(0),
         1 => x.truncate(x.len() - 1),
         2 if s.b < 8 => x[0] = 1 << s.b,
+        3 => x.fill(0),
         _ => {}
     }
     x
@@ -90,7 +91,7 @@ fn histories() {
             }
         }
     }
-    assert!([0, 7, 8, 9, 10, 11, 12].iter().all(|&n| numbers[n] > 20), "{numbers:?}");
+    assert!([0, 7, 8, 9, 10, 11, 12, 15].iter().all(|&n| numbers[n] > 20), "{numbers:?}");
 }
 
 #[test]
@@ -109,7 +110,7 @@ fn short_tables() {
     }
 }
 
-/// What 7 to 11 say of an add, and 8 and 9 of a drop, whatever the tries hold.
+/// What 7 to 11 and 15 say of an add, and 8 and 9 of a drop, whatever the tries hold.
 fn early(t: &Tables, s: &Settings, page: u32, added: Option<(u32, &[u8])>) -> u32 {
     if added.is_some_and(|(class, _)| class >= 64) {
         return 7;
@@ -123,6 +124,7 @@ fn early(t: &Tables, s: &Settings, page: u32, added: Option<(u32, &[u8])>) -> u3
     match added {
         Some((_, x)) if x.len() != s.m as usize => 10,
         Some((_, x)) if x.iter().any(|&c| u32::from(c) >= 1 << s.b) => 11,
+        Some((_, x)) if x.iter().all(|&c| c == 0) => 15,
         _ => 0,
     }
 }
@@ -187,7 +189,7 @@ fn damaged_tables() {
             }
         }
     }
-    assert!([0, 12, 14].iter().all(|&n| adds[n] > 100), "{adds:?}");
+    assert!([0, 12, 14, 15].iter().all(|&n| adds[n] > 100), "{adds:?}");
     assert!([0, 14].iter().all(|&n| drops[n] > 100), "{drops:?}");
     assert!(stopped_rows.iter().all(|&n| n > 20), "{stopped_rows:?}");
 }

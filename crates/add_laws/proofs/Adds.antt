@@ -85,7 +85,7 @@ abbrev allInserted : Tables → ℕ → ℕ → List ℕ → Filled
 allInserted T p c x = insertAll (given T) (rowAdded T p c x) x p (T .nodes) (T .pages) (getD (T .settings) freeAt 0)
 
 module _ (T : Tables) (p c : ℕ) (x : List ℕ) where
-  -- refused by 5 to 11
+  -- refused by 5 to 11 or 15
   pub promise-early : (n : ℕ) → number T [] (add p c x) ≡ n → n ≢ 0 → AddPromise T p c x n T
   promise-early n e h = record {
     early = λ g. sym e;

@@ -2,14 +2,14 @@
 use Prim.Native.Nat.{ℕ, _≤_, _<_}
 use native.Mathlib.Omega.{arith}
 use mathlib.Core.Path.{_≡_, refl, sym, ap, _∙_}
-use mathlib.Core.Bool.{Bool, true, false, and-false}
+use mathlib.Core.Bool.{Bool, true, false, not, and-false}
 use mathlib.Core.List.{List, [], _∷_, _++_}
 use borrow.Author.Tests.{ltb-true, leb-true, le-leb, eqb-true, not-true}
 use lib.Dec.{ltb, leb, eqb}
 use lib.ListN.{length}
 use Rattle.meaning.specs.Lists.{sum}
 use Rattle.meaning.specs.Refusal.{Question, ask, firstNo}
-use Rattle.meaning.specs.Sketch.{inRange}
+use Rattle.meaning.specs.Sketch.{inRange, blank}
 use Rattle.meaning.specs.Trie.{Tree}
 use Rattle.meaning.specs.Ledger.{add}
 use Rattle.meaning.specs.Forest.{eachFrom, forestAfter, totalNodes}
@@ -34,11 +34,11 @@ pub record Accepted (T : Tables) (F : List Tree) (p c : ℕ) (x : List ℕ) : Ty
   pub room : totalNodes (forestAfter (given T) (rowsOf T) (add p c x) F) ≤ given T .nodes
 
 module _ (T : Tables) (p c : ℕ) (x : List ℕ) where
-  -- 10 and 11 of an opening, then others
+  -- 10, 11 and 15 of an opening, then others
   abbrev pub sketchAsked : Header → List Question → List Question
-  sketchAsked h qs = ask 10 (eqb (length x) (h .m)) ∷ ask 11 (inRange (h .b) x) ∷ qs
+  sketchAsked h qs = ask 10 (eqb (length x) (h .m)) ∷ ask 11 (inRange (h .b) x) ∷ ask 15 (not (blank x)) ∷ qs
 
-  -- 7 to 11
+  -- 7 to 11, and 15
   abbrev pub callAsked : Header → List Question → List Question
   callAsked h qs = ask 7 (ltb c 64) ∷ (pageAsked (h .pages) (T .pages) p false ++ sketchAsked h qs)
 

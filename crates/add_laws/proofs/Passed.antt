@@ -28,7 +28,7 @@ use Rattle.entry.specs.Admission.{admission}
 use Rattle.layout.specs.Tables.{Lent, Fits}
 use Rattle.add_laws.proofs.KeepsAsked.{accepted, callAsked, room12, number-by, number-none}
 
--- no question of 5 to 11 says no
+-- no question of 5 to 11 and 15 says no
 pub record Passed (T : Tables) (h : Header) (p : ℕ) (x : List ℕ) : Type 0 where
   pub header : headerOf (given T) ≡ h
   pub long : settingsLength ≤ length (T .settings)

@@ -49,7 +49,7 @@ module _ (T : Tables) (p c : ℕ) (x : List ℕ) where
   unfoldable pub placePage : Outcome
   placePage = onRoom (roomOf (given T) (T .nodes) (T .pages) (T .sketches) x (getD (T .settings) freeAt 0))
 
-  -- 5 to 11
+  -- 5 to 11 and 15
   abbrev pub onOpening : Opening → Outcome
   onOpening (Shown h) = placePage
   onOpening (Refused n) = outcome n T

@@ -1,4 +1,4 @@
--- The steps of an add past 11, as the code takes them.
+-- The steps of an add past 15, as the code takes them.
 use Prim.Native.Nat.{ℕ}
 use mathlib.Core.Path.{_≡_, sym, ap, _∙_}
 use mathlib.Core.Bool.{true}
@@ -68,7 +68,7 @@ module _ (T : Tables) (h : Header) (header : headerOf (given T) ≡ h) (p c : �
         ∙ ap (λ (k : Header). withPage (k .pages) P p c (signature (k .b) x)) (sym header) in
         rw (rowed, w, written) (rw m at inserted)
 
--- 5 to 11
+-- 5 to 11 and 15
 module _ (T : Tables) (p c : ℕ) (x : List ℕ) (o : Opening) (e : o ≡ admission T (add p c x)) where
   told : onOpening T p c x o ≡ addPage T p c x
   unfolding addPage

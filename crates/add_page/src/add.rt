@@ -45,7 +45,7 @@ fn put_page(
     }
 }
 
-// Past 11: question 12, before anything is written.
+// Past 15: question 12, before anything is written.
 fn place_page(
     settings: &mut [u32],
     nodes: &mut [u32],

@@ -1,4 +1,4 @@
--- Questions 5 to 11 of an add, by the answers on the way.
+-- Questions 5 to 11 and 15 of an add, by the answers on the way.
 use Prim.Native.Nat.{ℕ, _≤_, _<_}
 use native.Mathlib.Omega.{arith}
 use mathlib.Core.Path.{_≡_, sym, ap, _∙_}
@@ -8,7 +8,7 @@ use mathlib.Core.List.{List, [], _∷_, _++_}
 use borrow.Author.Tests.{lt-ltb, le-ltb, eq-eqb, ne-eqb}
 use lib.ListN.{length}
 use Rattle.meaning.specs.Refusal.{Question, ask, firstNo}
-use Rattle.meaning.specs.Sketch.{inRange}
+use Rattle.meaning.specs.Sketch.{inRange, blank}
 use Rattle.meaning.specs.Ledger.{add}
 use Rattle.layout.specs.declared.Header.{Header}
 use Rattle.layout.specs.declared.Opening.the-variants.{Shown, Refused}
@@ -68,8 +68,13 @@ module _ (ws nodes pages sketches : List ℕ) (p c : ℕ) (x : List ℕ) where
           unfolding firstNo
           admit-11 r = refused-by 11 (at-sketch ∙ rw (eq-eqb (length x) (h .m) count, r)) (omega arith)
 
-          pub admit-all : inRange (h .b) x ≡ true → Shown h ≡ admission T (add p c x)
-          unfolding firstNo
-          admit-all r =
-              then-shown T (add p c x) (past6 (headerOf (given T))) (number-none T p c x) h e
-              (by-header ∙ at-sketch ∙ rw (eq-eqb (length x) (h .m) count, r))
+          module _ (range : inRange (h .b) x ≡ true) where
+            pub admit-15 : blank x ≡ true → Refused 15 ≡ admission T (add p c x)
+            unfolding firstNo
+            admit-15 r = refused-by 15 (at-sketch ∙ rw (eq-eqb (length x) (h .m) count, range, r)) (omega arith)
+
+            pub admit-all : blank x ≡ false → Shown h ≡ admission T (add p c x)
+            unfolding firstNo
+            admit-all r =
+                then-shown T (add p c x) (past6 (headerOf (given T))) (number-none T p c x) h e
+                (by-header ∙ at-sketch ∙ rw (eq-eqb (length x) (h .m) count, range, r))

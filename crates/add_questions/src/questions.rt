@@ -1,4 +1,4 @@
-// Questions 5 to 11 of an add.
+// Questions 5 to 11 of an add, and 15.
 ghost use mathlib.Core.Path.{_≡_};
 ghost use mathlib.Core.List.{[]};
 ghost use Rattle.meaning.specs.Ledger.{add};
@@ -36,6 +36,9 @@ pub fn admit(
     }
     if !sketch::symbols::in_range(h.b as u32, sketch) {
         return Opening::Refused(11);
+    }
+    if sketch::symbols::blank(sketch) {
+        return Opening::Refused(15);
     }
     Opening::Shown(h)
 }

@@ -1,5 +1,6 @@
 -- A small store, computed: the laws' hypotheses can be met. Two blocks of a symbol each, three nodes, one page: it stands in a leaf below
--- the first root, and in the second root itself. Its class is 0, and its row 0 1 has the signature 2. It is dropped.
+-- the first root, and in the second root itself. Its class is 0, and its row is blank, as stores from before question 15 may have it: the
+-- store is sound. It is dropped.
 use Prim.Native.Nat.{ℕ, zero, suc, _<_}
 use native.Mathlib.Omega.{arith}
 use mathlib.Core.Path.{_≡_, refl, sym, _∙_}
@@ -50,7 +51,7 @@ unfoldable settings : List ℕ
 settings = header given₁ ++ (replicate registerLength 0 ++ 0 ∷ [])
 
 abbrev T : Tables
-T = tables settings N (1 ∷ 2 ∷ 0 ∷ 0 ∷ []) (0 ∷ 1 ∷ []) []
+T = tables settings N (1 ∷ 0 ∷ 0 ∷ 0 ∷ []) (0 ∷ 0 ∷ []) []
 
 passes : number T [] (drop 0) ≡ 0
 unfolding number entered shown56 longSettings longFor longNodes longPages nodesLength pagesLength sketchesLength showsOpening inLimits sketchLimits asked byTables isLive firstNo all settings settingsOf header given₁

@@ -6,7 +6,7 @@ use lib.ListN.{replicate}
 use Rattle.layout.specs.Settings.{settingsLength}
 use Rattle.meaning.specs.Lists.{all, any, sum}
 use Rattle.meaning.specs.Refusal.{firstNo}
-use Rattle.meaning.specs.Sketch.{inRange, perByte, packedLength, blockLength}
+use Rattle.meaning.specs.Sketch.{inRange, blank, perByte, packedLength, blockLength}
 use Rattle.meaning.specs.SketchCalls.{sketchLimits}
 use Rattle.meaning.specs.Trie.{fresh, addLeaf, insert, nodes}
 use Rattle.meaning.specs.Ledger.{Settings, settingsGiven, Event, opening, add, drop, accept, step, ledger, withRows, putRow}
@@ -44,7 +44,7 @@ dropped = event (drop 0) 0 ∷ added
 
 -- no question says no, whatever the tables
 adds : (T : Tables) → judged T (ledger opened) (forest opened) (add 0 3 x) ≡ 0
-unfolding s x opened judged admitted asked byLedger firstNo inRange all any forest forestAfter ledger step accept putRow eachFrom blockBytes packedLength perByte blockLength totalNodes sum insert addLeaf nodes fresh
+unfolding s x opened judged admitted asked byLedger firstNo inRange blank all any forest forestAfter ledger step accept putRow eachFrom blockBytes packedLength perByte blockLength totalNodes sum insert addLeaf nodes fresh
 adds T = refl
 
 drops : (T : Tables) → judged T (ledger added) (forest added) (drop 0) ≡ 0

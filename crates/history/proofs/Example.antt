@@ -8,7 +8,7 @@ use Rattle.meaning.specs.Lists.{all, any, keep, onto, from, upto, sum}
 use Rattle.meaning.specs.Refusal.{firstNo}
 use Rattle.meaning.specs.Ledger.{Settings, settingsGiven, Event, opening, add, change, accept, step, ledger, withRows, withRegister, putRow, calledFor, listed}
 use Rattle.meaning.specs.Forest.{blockBytes, forest, forestAfter, eachFrom, totalNodes}
-use Rattle.meaning.specs.Sketch.{distance, inRange, perByte, packedLength, packByte, packBytes, pack, blockLength}
+use Rattle.meaning.specs.Sketch.{distance, inRange, blank, perByte, packedLength, packByte, packBytes, pack, blockLength}
 use Rattle.meaning.specs.Trie.{fresh, addLeaf, insert, nodes}
 use Rattle.meaning.specs.Rights.{samePair, stands, write, openTo, join, grant, changed}
 use Rattle.meaning.specs.SketchCalls.{sketchLimits}
@@ -111,7 +111,7 @@ unfolding s x held first second third opened-tables added-tables opened freshSet
 added = record { pages = refl; sketches = refl }
 
 accepts : judged opened-tables (ledger events) (forest events) (add 1 3 x) ≡ 0
-unfolding s x events judged admitted asked byLedger firstNo inRange all any forest forestAfter ledger step accept withRegister changed putRow eachFrom blockBytes packedLength perByte blockLength totalNodes sum insert addLeaf nodes fresh
+unfolding s x events judged admitted asked byLedger firstNo inRange blank all any forest forestAfter ledger step accept withRegister changed putRow eachFrom blockBytes packedLength perByte blockLength totalNodes sum insert addLeaf nodes fresh
 accepts = refl
 
 shown-page : Represents added-tables (ledger (event (add 1 3 x) 0 ∷ events))

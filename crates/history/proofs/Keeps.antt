@@ -5,9 +5,9 @@ use mathlib.Core.Path.{_≡_, refl, sym, ap, _∙_}
 use mathlib.Core.Bool.{Bool, true, false, cond, not}
 use mathlib.Core.Logic.{_≢_}
 use mathlib.Core.List.{List, []}
-use lib.Dec.{ltb, eqb}
+use lib.Dec.{eqb}
 use lib.ListN.{length, replicate, length-replicate}
-use borrow.Author.Tests.{eqb-true, eqb-false, eq-eqb, ne-eqb, ltb-true}
+use borrow.Author.Tests.{eqb-true, eqb-false, eq-eqb, ne-eqb, not-true}
 use Rattle.meaning.specs.Lists.{all}
 use Rattle.meaning.specs.Refusal.{Question, firstNo}
 use Rattle.meaning.specs.Trie.{Tree, fresh}
@@ -55,8 +55,8 @@ module _ (s : Settings) (T : Tables) (a : Answer) (T′ : Tables) (p : Promised 
       let h = entered-4-5 s T (sym (p .0 .answers) ∙ e) in
       rw (left-by s T a T′ p, eq-eqb (a .number) 0 e) (record { tables = started s (h .0) T (h .1) L; store = fresh-store s (h .0) T (h .1) })
 
-not-14 : (qs : List Question) → all (λ q. ltb (q .number) 14) qs ≡ true → firstNo qs ≢ 14
-not-14 qs h e = omega (arith, ltb-true (firstNo qs) 14 (number-in (λ n. ltb n 14) qs refl h))
+not-14 : (qs : List Question) → all (λ q. not (eqb (q .number) 14)) qs ≡ true → firstNo qs ≢ 14
+not-14 qs h = eqb-false (firstNo qs) 14 (not-true (eqb (firstNo qs) 14) (number-in (λ n. not (eqb n 14)) qs refl h))
 
 -- the tables that an add or a drop does not take, and those that it takes
 pub rejoin : (T T′ : Tables) → toStore T′ ≡ toStore T → T′ .working ≡ T .working → T′ ≡ T

@@ -9,6 +9,7 @@ pub mod FreshStore
 pub mod Store
 pub mod Numbers
 pub mod Keeps
+pub mod Blank
 pub mod Main
 pub mod Foreign
 pub mod Example

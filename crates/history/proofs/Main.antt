@@ -1,18 +1,18 @@
 -- The claim about whole histories (demand 3).
 use Prim.Native.Nat.{ℕ, _≤_}
 use native.Mathlib.Omega.{arith}
-use mathlib.Core.Path.{_≡_, sym, ap, _∙_}
+use mathlib.Core.Path.{_≡_, refl, sym, ap, _∙_}
 use mathlib.Core.Bool.{cond}
 use mathlib.Core.List.{List, []}
 use lib.Dec.{leb, eqb}
 use lib.ListN.{length, take, length-map}
 use lib.Seq.{take-at}
 use borrow.Author.Tests.{ne-eqb, le-leb}
-use Rattle.meaning.specs.Lists.{onto}
+use Rattle.meaning.specs.Lists.{all, onto}
 use Rattle.meaning.specs.Refusal.{firstNo}
 use Rattle.meaning.specs.Questions.{asked}
 use Rattle.meaning.specs.Trie.{Tree}
-use Rattle.meaning.specs.Ledger.{Ledger, Event, search, show, check, reading, step, unopened, ledger, calledFor, listed}
+use Rattle.meaning.specs.Ledger.{Ledger, Event, search, show, check, reading, accept, step, unopened, ledger, calledFor, listed}
 use Rattle.meaning.specs.Forest.{forest, forestAfter}
 use Rattle.promises.specs.Tables.{Tables, pageRow, scan}
 use Rattle.promises.specs.Answers.{entered}
@@ -26,6 +26,7 @@ use Rattle.history.proofs.Searches.{ordered, refuses, finds, shows-row}
 use Rattle.history.proofs.Searches.{agreed as agreed-in}
 use Rattle.history.proofs.Numbers.{Shows, numbers}
 use Rattle.history.proofs.Keeps.{begins, zeros-left, goes-on}
+use Rattle.history.proofs.Blank.{Written, still-written}
 
 -- after every history the tables show the ledger, and the store is sound with the tries of demand 2
 pub represents : {es : List Event} {T : Tables} → History es T → Shows T (ledger es) (forest es)
@@ -33,6 +34,14 @@ unfolding ledger step forest forestAfter
 represents (begun s T₀ a T p e) = begins s T₀ a T p unopened e
 represents (called {es} {T} h c a T′ p) = goes-on T (ledger es) (forest es) (represents h) c a T′ p
 represents (foreign h c T₀ a T₁ p l m) = rw (ne-eqb (a .number) 0 (omega arith)) (represents h)
+
+-- and no row is blank
+unblank : {es : List Event} {T : Tables} → History es T → Written (ledger es)
+unfolding ledger step accept all
+unblank (begun s T₀ a T p e) = refl
+unblank (called {es} {T} h c a T′ p) =
+    still-written T (ledger es) (forest es) (unblank h) c (a .number) (numbers T (ledger es) (forest es) (represents h) c a T′ p)
+unblank (foreign h c T₀ a T₁ p l m) = rw (ne-eqb (a .number) 0 (omega arith)) (unblank h)
 
 -- a search rightly put gives what the ledger calls for
 module _ (T : Tables) (L : Ledger) (F : List Tree) (W : Shows T L F) where
@@ -62,6 +71,7 @@ theorem {es} {T} h = record {
   checks = λ a T′ p. p .0 .whole (numbers T L F W (reading check) a T′ p) F (W .store);
   searched = λ reader radius x o a T′ p. p .0 .working-left ∙ zeros-left T L F W (search reader radius x o);
   checked = λ a T′ p. p .0 .working-left ∙ zeros-left T L F W check;
+  written = unblank h;
   sound = W .store;
 }
   where

@@ -7,7 +7,7 @@ use lib.Dec.{ltb, leb, eqb}
 use lib.ListN.{length, replicate}
 use Rattle.meaning.specs.Lists.{all, any, onto}
 use Rattle.meaning.specs.Refusal.{Question, firstNo}
-use Rattle.meaning.specs.Sketch.{inRange}
+use Rattle.meaning.specs.Sketch.{inRange, blank}
 use Rattle.meaning.specs.Trie.{Tree}
 use Rattle.meaning.specs.Ledger.{Settings, Row, Ledger, Event, search, show, check, Call, opening, reading, ifOpening, calledFor, listed}
 use Rattle.meaning.specs.Questions.{asked, byLedger}
@@ -86,6 +86,8 @@ pub record Claim (T : Tables) (L : Ledger) (F : List Tree) : Type 0 where
   pub searched : (reader radius : ℕ) (x o : List ℕ) (a : Answer) (T′ : Tables) → Promised (reading (search reader radius x o)) T a T′
       → T′ .working ≡ zeroed L (T .working)
   pub checked : (a : Answer) (T′ : Tables) → Promised (reading check) T a T′ → T′ .working ≡ zeroed L (T .working)
+  -- no page is blank: so none is listed or shown
+  pub written : all (λ r. not (blank (r .sketch))) (L .rows) ≡ true
   -- the store is sound, and its tries are those
   pub sound : Sound T F
 

@@ -3,3 +3,4 @@ pub mod Each
 pub mod Sums
 pub mod Stacks
 pub mod Journal
+pub mod Questions

@@ -6,7 +6,7 @@ use lib.Dec.{ltb, leb, eqb}
 use lib.ListN.{length}
 use Rattle.meaning.specs.Lists.{all, any}
 use Rattle.meaning.specs.Refusal.{Question, ask}
-use Rattle.meaning.specs.Sketch.{inRange}
+use Rattle.meaning.specs.Sketch.{inRange, blank}
 use Rattle.meaning.specs.SketchCalls.{sketchLimits}
 use Rattle.meaning.specs.Rights.{openTo, changeInRange}
 use Rattle.meaning.specs.Trie.{Tree}
@@ -58,6 +58,7 @@ asked v (add p c x) =
     ∷ ask 9 (not (v .live p))
     ∷ ask 10 (eqb (length x) (v .symbols))
     ∷ ask 11 (inRange (v .bits) x)
+    ∷ ask 15 (not (blank x))
     ∷ ask 12 (v .room p c x)
     ∷ []
 asked v (drop p) = ask 8 (ltb p (v .pages)) ∷ ask 9 (v .live p) ∷ []

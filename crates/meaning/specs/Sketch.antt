@@ -16,6 +16,10 @@ distance (x ∷ xs) (y ∷ ys) = cond (eqb x y) 0 1 + distance xs ys
 unfoldable pub inRange : ℕ → List ℕ → Bool
 inRange b xs = all (λ x. ltb x (2 ^ b)) xs
 
+-- every symbol is 0, as on the empty back of a sheet
+unfoldable pub blank : List ℕ → Bool
+blank xs = all (λ x. eqb x 0) xs
+
 -- z: how many symbols a byte takes
 unfoldable pub perByte : ℕ → ℕ
 perByte b = 8 / b

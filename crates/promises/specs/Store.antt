@@ -59,7 +59,7 @@ pub record AddedTo (T : Tables) (F : List Tree) (p c : ℕ) (x : List ℕ) (n : 
   pub tries : n ≡ 0 → Sound T′ (forestAfter (given T) (rowsOf T) (add p c x) F)
 
 pub record AddPromise (T : Tables) (p c : ℕ) (x : List ℕ) (n : ℕ) (T′ : Tables) : Type 0 where
-  -- 5 to 11 are asked of any tables: with no tries to count, 12 is passed
+  -- 5 to 11 and 15 are asked of any tables: with no tries to count, 12 is passed
   pub early : number T [] (add p c x) ≢ 0 → n ≡ number T [] (add p c x)
   pub sound : (F : List Tree) → Sound T F → AddedTo T F p c x n T′
   -- on any tables, as is all that follows
@@ -70,7 +70,7 @@ pub record AddPromise (T : Tables) (p c : ℕ) (x : List ℕ) (n : ℕ) (T′ : 
   -- the row of page p may be written by then
   pub stopped-row : n ≡ 14 → (T′ .sketches ≡ T .sketches) ⊎ (T′ .sketches ≡ withRow (given T .symbols) (T .sketches) p x)
   pub rest : SameRest T T′
-  -- Past 11 on unsound tables the answer is left open. 12: the free chain has fewer nodes than are needed. 14: of the links followed one
+  -- Past 15 on unsound tables the answer is left open. 12: the free chain has fewer nodes than are needed. 14: of the links followed one
   -- leads outside its table, or on the page's path to a free node; an inner node stands at the packed length; more than 32 siblings, or
   -- more pages than the capacity, stand in one chain; a leaf that is split has a child already, which is no leaf; or the free nodes run
   -- out while the page is put in, though enough were counted, since chains share nodes or pages.

@@ -1,18 +1,20 @@
--- Distance and range, place by place.
+-- Distance, range and blank sketches, place by place.
 use mathlib.Core.Bool.{Bool, true, false, cond, not, _&&_, and-assoc, and-true}
+use mathlib.Core.Logic.{_≢_}
 use mathlib.Core.List.{List}
 use mathlib.Core.Path.{_≡_, sym, _∙_}
 use Prim.Native.Nat.{ℕ, suc, _+_, _^_, _<_, _≤_}
 use native.Mathlib.Nat.{add-zero, zero-add}
 use native.Mathlib.Numerals.{add-one}
 use native.Mathlib.Omega.{arith}
+use borrow.Author.Tests.{eq-eqb, ne-eqb}
 use lib.Bits.{bitOr}
 use lib.Dec.{ltb, eqb}
 use lib.ListN.{length, getD, take, drop, drop-of-length-le}
 use lib.Seq.{drop-cons}
 use mir.Val.{boolByte}
 use Rattle.meaning.specs.Lists.{all}
-use Rattle.meaning.specs.Sketch.{distance, inRange}
+use Rattle.meaning.specs.Sketch.{distance, inRange, blank}
 use Rattle.words.proofs.Bits.{or-below}
 use Rattle.sketch.proofs.Lists.{all-take, all-drop}
 
@@ -50,10 +52,28 @@ module _ (xs ys : List ℕ) where
   unfolding distance
   counted-all d i h c = sym (add-zero d) ∙ (rw (drop-of-length-le xs h) at (c .1))
 
+-- a test of all symbols from place i on: of that one, then of the others
+all-step : (p : ℕ → Bool) (xs : List ℕ) (i : ℕ) → i < length xs → all p (drop i xs) ≡ p (getD xs i 0) && all p (drop (i + 1) xs)
+unfolding all
+all-step p xs i h = rw (add-one, drop-cons xs i 0 h)
+
+-- a symbol that is not 0, one that is, and none left
+pub blank-stop : (xs : List ℕ) (i : ℕ) → i < length xs → getD xs i 0 ≢ 0 → blank (drop i xs) ≡ false
+unfolding blank
+blank-stop xs i h d = all-step (λ x. eqb x 0) xs i h ∙ rw (ne-eqb (getD xs i 0) 0 d)
+
+pub blank-more : (xs : List ℕ) (i : ℕ) → i < length xs → getD xs i 0 ≡ 0 → blank (drop i xs) ≡ blank (drop (i + 1) xs)
+unfolding blank
+blank-more xs i h e = all-step (λ x. eqb x 0) xs i h ∙ rw (eq-eqb (getD xs i 0) 0 e)
+
+pub blank-end : (xs : List ℕ) (i : ℕ) → length xs ≤ i → blank (drop i xs) ≡ true
+unfolding blank all
+blank-end xs i h = rw (drop-of-length-le xs h)
+
 range-step : (b : ℕ) (xs : List ℕ) (i : ℕ) → i < length xs
     → inRange b (drop i xs) ≡ ltb (getD xs i 0) (2 ^ b) && inRange b (drop (i + 1) xs)
-unfolding inRange all
-range-step b xs i h = rw (add-one, drop-cons xs i 0 h)
+unfolding inRange
+range-step b = all-step (λ x. ltb x (2 ^ b))
 
 pub range-end : (b : ℕ) (t : Bool) (xs : List ℕ) (i : ℕ) → length xs ≤ i → t && inRange b (drop i xs) ≡ t
 unfolding inRange all

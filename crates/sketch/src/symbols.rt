@@ -1,8 +1,8 @@
-// Symbols: their range, and the distance of two sketches.
+// Symbols: their range, whether all are 0, and the distance of two sketches.
 ghost use mathlib.Core.Path.{_≡_};
 ghost use Prim.Native.Nat.{_≤_};
 ghost use lib.ListN.{length};
-ghost use Rattle.meaning.specs.Sketch.{distance, inRange};
+ghost use Rattle.meaning.specs.Sketch.{distance, inRange, blank};
 ghost use Rattle.sketch.specs.Settings.{Bits};
 
 // Whether every symbol is below 2^b. Of the symbols together, bit by bit, that is one test.
@@ -17,6 +17,20 @@ pub fn in_range(b: u32, xs: &[u8]) -> bool
         i += 1;
     }
     (bits as u32) < 1u32 << b
+}
+
+// Whether every symbol is 0.
+pub fn blank(xs: &[u8]) -> bool
+    ensures { λ r. ⌜ r ≡ blank (now (xs .entry)) ⌝ }
+{
+    let mut i = 0;
+    while i < xs.len() {
+        if xs[i] != 0 {
+            return false;
+        }
+        i += 1;
+    }
+    true
 }
 
 // The number of places where two sketches differ.

@@ -72,7 +72,7 @@ fn scans_and_hashing_list_what_the_plain_index_lists() {
         plain.settings.pages = s.pages;
         for p in 0..s.pages {
             let (class, x) = (random.below(64) as u32, sketches.near(random, 4));
-            assert_eq!(plain.add(p, class, &x), 0);
+            assert_eq!(plain.put(p, class, &x), 0);
             pages.add(class as u8, &x);
         }
         let packed = pages.packed(s.b);

@@ -110,7 +110,8 @@ impl Pointers {
     pub fn add(&mut self, page: u32, class: u8, sketch: &[u8]) -> bool {
         let p = page as usize;
         let fits = sketch.len() == self.packed.m && sketch.iter().all(|&c| u32::from(c) < 1 << self.packed.b);
-        if class > 63 || p >= self.live.len() || self.live[p] || !fits {
+        let blank = || sketch.iter().all(|&c| c == 0);
+        if class > 63 || p >= self.live.len() || self.live[p] || !fits || blank() {
             return false;
         }
         self.packed.set(p, class, sketch);

@@ -8,7 +8,7 @@ use Rattle.add_page.proofs.Puts.{place-short, place-broken, place-enoug
 use Rattle.add_page.proofs.add.place_page.Statement.{statement}
 use Rattle.add_page.proofs.add.place_page.Tie as tie
 
--- the tables at entry, and what 5 to 11 told
+-- the tables at entry, and what 5 to 11 and 15 told
 abbrev entry : tie.After-free-link-arg → tie.Start
 entry k = k .before .before .before .before .before .before
 

@@ -9,7 +9,7 @@ use Rattle.add_page.proofs.Puts.{put-free, put-broken}
 use Rattle.add_page.proofs.add.put_page.Statement.{statement}
 use Rattle.add_page.proofs.add.put_page.Tie as tie
 
--- the tables at entry, and what 5 to 11 told
+-- the tables at entry, and what 5 to 11 and 15 told
 abbrev entry : tie.After-write-row-arg → tie.Start
 entry k = k .before .before .before .before .before .before
 

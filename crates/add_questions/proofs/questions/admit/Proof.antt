@@ -1,4 +1,4 @@
--- `admit` asks 5 to 11 in their order.
+-- `admit` asks 5 to 11 and 15 in their order.
 use native.Mathlib.Omega.{arith}
 use mathlib.Core.Path.{_≡_, sym, _∙_}
 use mathlib.Core.List.{[]}
@@ -9,7 +9,7 @@ use Rattle.promises.specs.Tables.{tables}
 use Rattle.entry.specs.Entry.{storeEntry}
 use Rattle.entry.proofs.Questions.{fails, holds}
 use Rattle.entry.proofs.Admits.{pages-fit, shown-limits}
-use Rattle.add_questions.proofs.Admits.{admit-refused, admit-7, admit-page, admit-10, admit-11, admit-all}
+use Rattle.add_questions.proofs.Admits.{admit-refused, admit-7, admit-page, admit-10, admit-11, admit-15, admit-all}
 use Rattle.add_questions.proofs.questions.admit.Statement.{statement}
 use Rattle.add_questions.proofs.questions.admit.Tie as tie
 
@@ -73,13 +73,26 @@ returns-5 c =
     admit-11 _ _ _ _ _ _ _ _ (shows (t .before)) (t .if1 .left) _ (a .before .ask-page .ensures) (a .if2 .left) (n .if3 .left)
     (fails (c .before .in-range .ensures) (c .if4 .taken))
 
+blank-requires : tie.Need-blank-requires
+blank-requires c κs = search needs
+
 returns-6 : tie.Need-returns-6
 returns-6 c =
-    let n = c .before .before .before in
+    let r = c .before .before in
+    let n = r .before .before .before in
+    let a = n .before .before in
+    let t = a .before .before in
+    admit-15 _ _ _ _ _ _ _ _ (shows (t .before)) (t .if1 .left) _ (a .before .ask-page .ensures) (a .if2 .left) (n .if3 .left)
+    (holds (r .before .in-range .ensures) (r .if4 .left)) (sym (c .before .blank .ensures) ∙ c .if5 .taken)
+
+returns-7 : tie.Need-returns-7
+returns-7 c =
+    let r = c .before .before in
+    let n = r .before .before .before in
     let a = n .before .before in
     let t = a .before .before in
     admit-all _ _ _ _ _ _ _ _ (shows (t .before)) (t .if1 .left) _ (a .before .ask-page .ensures) (a .if2 .left) (n .if3 .left)
-    (holds (c .before .in-range .ensures) (c .if4 .left))
+    (holds (r .before .in-range .ensures) (r .if4 .left)) (sym (c .before .blank .ensures) ∙ c .if5 .left)
 
 pub admit-spec : {M : Type 1} → statement M
 admit-spec =
@@ -96,4 +109,6 @@ admit-spec =
     cast-in-range
     in-range-requires
     returns-5
-    returns-6)
+    blank-requires
+    returns-6
+    returns-7)
