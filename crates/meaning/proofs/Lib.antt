@@ -4,3 +4,4 @@ pub mod Sums
 pub mod Stacks
 pub mod Journal
 pub mod Questions
+pub mod Rights
