@@ -21,7 +21,8 @@
  *       words of the trees, and add the page's row. It never occurs on tables
  *       that only these calls have written
  *   15  add: the page is blank, every symbol of its sketch is 0. Asked between
- *       11 and 12. A search for such a sketch is not refused
+ *       11 and 12, and so before 14. A search for such a sketch is not refused
+ *       for that; blank pages that tables hold from before stay
  *
  * and 1 to 3 of a journal command's form. docs/OPERATING.md says what to do.
  *

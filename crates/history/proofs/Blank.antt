@@ -39,8 +39,8 @@ module _ (f : Row → Bool) where
       go false k = k
 
 -- ---- the rows of a ledger
-abbrev pub Written : Ledger → Type 0
-Written L = all (λ r. not (blank (r .sketch))) (L .rows) ≡ true
+abbrev pub NoneBlank : Ledger → Type 0
+NoneBlank L = all (λ r. not (blank (r .sketch))) (L .rows) ≡ true
 
 module _ (T : Tables) (L : Ledger) (F : List Tree) where
   -- an add that is accepted has passed 15
@@ -54,7 +54,7 @@ module _ (T : Tables) (L : Ledger) (F : List Tree) where
       let h11 = passed 11 (inRange (L .settings .bits) x) _ (omega arith) (h10 .1) in
       passed 15 (not (blank x)) _ (omega arith) (h11 .1) .0
 
-  accepted : Written L → (c : Call) → judged T L F c ≡ 0 → Written (accept c L)
+  accepted : NoneBlank L → (c : Call) → judged T L F c ≡ 0 → NoneBlank (accept c L)
   unfolding accept withRows withRegister all
   accepted h (opening s) e = refl
   accepted h (add p c x) e = all-put (λ r. not (blank (r .sketch))) (row p c x) (L .rows) (past-15 p c x e) h
@@ -63,10 +63,10 @@ module _ (T : Tables) (L : Ledger) (F : List Tree) where
   accepted h (reading q) e = h
 
   -- a call that gave the number by the ledger's questions
-  pub still-written : Written L → (c : Call) (n : ℕ) → n ≡ judged T L F c → Written (step (event c n) L)
+  pub still-none : NoneBlank L → (c : Call) (n : ℕ) → n ≡ judged T L F c → NoneBlank (step (event c n) L)
   unfolding step
-  still-written h c n j = go (eqb n 0) refl
+  still-none h c n j = go (eqb n 0) refl
     where
-      go : (t : Bool) → eqb n 0 ≡ t → Written (cond (not t) L (accept c L))
+      go : (t : Bool) → eqb n 0 ≡ t → NoneBlank (cond (not t) L (accept c L))
       go true e = accepted h c (sym j ∙ eqb-true n 0 e)
       go false e = h

@@ -26,7 +26,7 @@ use Rattle.history.proofs.Searches.{ordered, refuses, finds, shows-row}
 use Rattle.history.proofs.Searches.{agreed as agreed-in}
 use Rattle.history.proofs.Numbers.{Shows, numbers}
 use Rattle.history.proofs.Keeps.{begins, zeros-left, goes-on}
-use Rattle.history.proofs.Blank.{Written, still-written}
+use Rattle.history.proofs.Blank.{NoneBlank, still-none}
 
 -- after every history the tables show the ledger, and the store is sound with the tries of demand 2
 pub represents : {es : List Event} {T : Tables} → History es T → Shows T (ledger es) (forest es)
@@ -36,11 +36,11 @@ represents (called {es} {T} h c a T′ p) = goes-on T (ledger es) (forest es) (r
 represents (foreign h c T₀ a T₁ p l m) = rw (ne-eqb (a .number) 0 (omega arith)) (represents h)
 
 -- and no row is blank
-unblank : {es : List Event} {T : Tables} → History es T → Written (ledger es)
+unblank : {es : List Event} {T : Tables} → History es T → NoneBlank (ledger es)
 unfolding ledger step accept all
 unblank (begun s T₀ a T p e) = refl
 unblank (called {es} {T} h c a T′ p) =
-    still-written T (ledger es) (forest es) (unblank h) c (a .number) (numbers T (ledger es) (forest es) (represents h) c a T′ p)
+    still-none T (ledger es) (forest es) (unblank h) c (a .number) (numbers T (ledger es) (forest es) (represents h) c a T′ p)
 unblank (foreign h c T₀ a T₁ p l m) = rw (ne-eqb (a .number) 0 (omega arith)) (unblank h)
 
 -- a search rightly put gives what the ledger calls for
@@ -71,7 +71,7 @@ theorem {es} {T} h = record {
   checks = λ a T′ p. p .0 .whole (numbers T L F W (reading check) a T′ p) F (W .store);
   searched = λ reader radius x o a T′ p. p .0 .working-left ∙ zeros-left T L F W (search reader radius x o);
   checked = λ a T′ p. p .0 .working-left ∙ zeros-left T L F W check;
-  written = unblank h;
+  none-blank = unblank h;
   sound = W .store;
 }
   where

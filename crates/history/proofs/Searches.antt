@@ -1,20 +1,21 @@
 -- What a search lists under the invariant: the rows called for, rising; and what a show gives. Two ledgers that agree list the same.
 use mathlib.Core.Path.{_≡_, refl, sym, _∙_}
 use mathlib.Core.Bool.{Bool, true, false, cond, _&&_}
+use mathlib.Core.Logic.{_≢_}
 use mathlib.Core.List.{List, []}
 use Prim.Native.Nat.{ℕ, _<_}
 use native.Mathlib.Omega.{arith}
 use lib.Dec.{ltb, leb, eqb}
 use lib.ListN.{length}
-use borrow.Author.Tests.{eqb-true, ltb-true, eq-eqb, lt-ltb, le-leb}
+use borrow.Author.Tests.{eqb-true, ltb-true, leb-true, eq-eqb, lt-ltb, le-leb}
 use Rattle.meaning.specs.Refusal.{firstNo}
-use Rattle.meaning.specs.Sketch.{distance}
+use Rattle.meaning.specs.Sketch.{distance, inRange}
 use Rattle.meaning.specs.SketchCalls.{outputLeft}
 use Rattle.meaning.specs.Rights.{openTo}
 use Rattle.meaning.specs.Trie.{Tree}
 use Rattle.meaning.specs.Ledger.{Ledger, search, show, reading, calledFor, listed}
 use Rattle.meaning.specs.Questions.{asked, byLedger}
-use Rattle.meaning.proofs.Lists.{and-first}
+use Rattle.meaning.proofs.Lists.{and-first, and-second}
 use Rattle.layout.specs.Pages.{isLive}
 use Rattle.promises.specs.Tables.{Tables, pageRow, isShown, scan}
 use Rattle.promises.specs.Answers.{number}
@@ -27,6 +28,25 @@ use Rattle.history.proofs.Represents.{Represents, given-eq, rows-eq, sh
 accepted : (t : Bool) → eqb (cond t 0 13) 0 ≡ t
 accepted true = refl
 accepted false = refl
+
+-- a search that 7, 10 and 11 do not refuse is rightly put
+not-first : (n : ℕ) (t : Bool) (x k : ℕ) → k ≢ n → cond t x n ≡ k → (t ≡ true) × (x ≡ k)
+not-first n true x k d e = (refl, e)
+not-first n false x k d e = absurd (d (sym e))
+
+pub put-rightly : (T : Tables) (L : Ledger) (F : List Tree) (reader radius : ℕ) (x o : List ℕ) (n : ℕ)
+    → judged T L F (reading (search reader radius x o)) ≡ n → n ≢ 7 → n ≢ 10 → n ≢ 11 → RightlyPut L reader radius x
+unfolding judged admitted asked byLedger firstNo
+put-rightly T L F reader radius x o n e not7 not10 not11 =
+    let h7 = not-first 7 (ltb reader 256 && leb radius 64) _ n not7 e in
+    let h10 = not-first 10 (eqb (length x) (L .settings .symbols)) _ n not10 (h7 .1) in
+    let h11 = not-first 11 (inRange (L .settings .bits) x) _ n not11 (h10 .1) in
+    record {
+      reads = ltb-true reader 256 (and-first (ltb reader 256) (leb radius 64) (h7 .0));
+      near = leb-true radius 64 (and-second (ltb reader 256) (leb radius 64) (h7 .0));
+      whole = eqb-true (length x) (L .settings .symbols) (h10 .0);
+      symbols = h11 .0;
+    }
 
 module _ (T : Tables) (L : Ledger) (R : Represents T L) where
   -- each page once

@@ -87,7 +87,7 @@ pub record Claim (T : Tables) (L : Ledger) (F : List Tree) : Type 0 where
       → T′ .working ≡ zeroed L (T .working)
   pub checked : (a : Answer) (T′ : Tables) → Promised (reading check) T a T′ → T′ .working ≡ zeroed L (T .working)
   -- no page is blank: so none is listed or shown
-  pub written : all (λ r. not (blank (r .sketch))) (L .rows) ≡ true
+  pub none-blank : all (λ r. not (blank (r .sketch))) (L .rows) ≡ true
   -- the store is sound, and its tries are those
   pub sound : Sound T F
 

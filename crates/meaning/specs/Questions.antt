@@ -1,4 +1,4 @@
--- The questions put to a call (document 01), by one definition for the tables and for the ledger.
+-- The questions put to a call (document 01; 15 by document 02, F-1), by one definition for the tables and for the ledger.
 use Prim.Native.Nat.{ℕ}
 use mathlib.Core.Bool.{Bool, _&&_, not}
 use mathlib.Core.List.{List, [], _∷_}

@@ -1,4 +1,4 @@
--- A call's refusal number, by the questions of document 01 in their order, and the tables that it leaves.
+-- A call's refusal number, by the questions of documents 01 and 02 in their order, and the tables that it leaves.
 use Prim.Native.Nat.{ℕ, suc, _+_, _*_}
 use mathlib.Core.Bool.{Bool, true, cond, _&&_}
 use mathlib.Core.List.{List, [], _∷_, _++_, map}
