@@ -25,10 +25,14 @@ pub asks : (n : ℕ) (t : Bool) {x y : ℕ} → (t ≡ true → x ≡ y) → con
 asks n true h = h refl
 asks n false h = refl
 
+-- where the number given is another one, the question passes, and the number is given by those behind it
+pub not-by : (n : ℕ) (t : Bool) (x k : ℕ) → k ≢ n → cond t x n ≡ k → (t ≡ true) × (x ≡ k)
+not-by n true x k d e = (refl, e)
+not-by n false x k d e = absurd (d (sym e))
+
 -- a question that passes with all after it
 pub passed : (n : ℕ) (t : Bool) (x : ℕ) → 0 < n → cond t x n ≡ 0 → (t ≡ true) × (x ≡ 0)
-passed n true x p e = (refl, e)
-passed n false x p e = absurd (omega arith)
+passed n t x p = not-by n t x 0 (λ z. absurd (omega arith))
 
 -- ---- numbers in a row
 

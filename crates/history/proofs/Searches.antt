@@ -21,7 +21,7 @@ use Rattle.promises.specs.Tables.{Tables, pageRow, isShown, scan}
 use Rattle.promises.specs.Answers.{number}
 use Rattle.promises.specs.Readings.{Lists}
 use Rattle.history.specs.History.{admitted, judged, RightlyPut, Found, sketchIn, rising, Agree}
-use Rattle.history.proofs.Lists.{passed, rows-sketch, rows-keep, rising-keep, rising-ext, any-map}
+use Rattle.history.proofs.Lists.{passed, not-by, rows-sketch, rows-keep, rising-keep, rising-ext, any-map}
 use Rattle.history.proofs.Pages.{rowAt}
 use Rattle.history.proofs.Represents.{Represents, given-eq, rows-eq, shown-eq, scan-eq, found-eq, number-eq}
 
@@ -30,17 +30,13 @@ accepted true = refl
 accepted false = refl
 
 -- a search that 7, 10 and 11 do not refuse is rightly put
-not-first : (n : ℕ) (t : Bool) (x k : ℕ) → k ≢ n → cond t x n ≡ k → (t ≡ true) × (x ≡ k)
-not-first n true x k d e = (refl, e)
-not-first n false x k d e = absurd (d (sym e))
-
 pub put-rightly : (T : Tables) (L : Ledger) (F : List Tree) (reader radius : ℕ) (x o : List ℕ) (n : ℕ)
     → judged T L F (reading (search reader radius x o)) ≡ n → n ≢ 7 → n ≢ 10 → n ≢ 11 → RightlyPut L reader radius x
 unfolding judged admitted asked byLedger firstNo
 put-rightly T L F reader radius x o n e not7 not10 not11 =
-    let h7 = not-first 7 (ltb reader 256 && leb radius 64) _ n not7 e in
-    let h10 = not-first 10 (eqb (length x) (L .settings .symbols)) _ n not10 (h7 .1) in
-    let h11 = not-first 11 (inRange (L .settings .bits) x) _ n not11 (h10 .1) in
+    let h7 = not-by 7 (ltb reader 256 && leb radius 64) _ n not7 e in
+    let h10 = not-by 10 (eqb (length x) (L .settings .symbols)) _ n not10 (h7 .1) in
+    let h11 = not-by 11 (inRange (L .settings .bits) x) _ n not11 (h10 .1) in
     record {
       reads = ltb-true reader 256 (and-first (ltb reader 256) (leb radius 64) (h7 .0));
       near = leb-true radius 64 (and-second (ltb reader 256) (leb radius 64) (h7 .0));
