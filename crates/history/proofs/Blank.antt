@@ -1,22 +1,18 @@
 -- No row of a history's ledger is blank: question 15 refuses such an add (document 02, F-1).
 use Prim.Native.Nat.{ℕ}
-use native.Mathlib.Omega.{arith}
 use mathlib.Core.Path.{_≡_, refl, sym, _∙_}
 use mathlib.Core.Bool.{Bool, true, false, cond, not}
 use mathlib.Core.List.{List, [], _∷_}
 use lib.Dec.{ltb, eqb}
-use lib.ListN.{length}
 use borrow.Author.Tests.{eqb-true}
-use Rattle.meaning.specs.Lists.{all, any, keep}
-use Rattle.meaning.specs.Refusal.{firstNo}
-use Rattle.meaning.specs.Sketch.{inRange, blank}
+use Rattle.meaning.specs.Lists.{all, keep}
+use Rattle.meaning.specs.Sketch.{blank}
 use Rattle.meaning.specs.Trie.{Tree}
 use Rattle.meaning.specs.Ledger.{Row, row, Ledger, Call, opening, add, drop, change, reading, accept, step, withRows, withRegister, putRow}
-use Rattle.meaning.specs.Questions.{asked, byLedger}
 use Rattle.meaning.proofs.Lists.{and-intro, and-first, and-second}
 use Rattle.promises.specs.Tables.{Tables}
-use Rattle.history.specs.History.{event, admitted, judged}
-use Rattle.history.proofs.Lists.{passed}
+use Rattle.history.specs.History.{event, judged}
+use Rattle.history.proofs.Steps.{add-passed}
 
 -- ---- a test that every row passes
 module _ (f : Row → Bool) where
@@ -43,21 +39,10 @@ abbrev pub NoneBlank : Ledger → Type 0
 NoneBlank L = all (λ r. not (blank (r .sketch))) (L .rows) ≡ true
 
 module _ (T : Tables) (L : Ledger) (F : List Tree) where
-  -- an add that is accepted has passed 15
-  past-15 : (p c : ℕ) (x : List ℕ) → judged T L F (add p c x) ≡ 0 → not (blank x) ≡ true
-  unfolding judged admitted asked byLedger firstNo
-  past-15 p c x e =
-      let h7 = passed 7 (ltb c 64) _ (omega arith) e in
-      let h8 = passed 8 (ltb p (L .settings .pages)) _ (omega arith) (h7 .1) in
-      let h9 = passed 9 (not (any (λ r. eqb (r .page) p) (L .rows))) _ (omega arith) (h8 .1) in
-      let h10 = passed 10 (eqb (length x) (L .settings .symbols)) _ (omega arith) (h9 .1) in
-      let h11 = passed 11 (inRange (L .settings .bits) x) _ (omega arith) (h10 .1) in
-      passed 15 (not (blank x)) _ (omega arith) (h11 .1) .0
-
   accepted : NoneBlank L → (c : Call) → judged T L F c ≡ 0 → NoneBlank (accept c L)
   unfolding accept withRows withRegister all
   accepted h (opening s) e = refl
-  accepted h (add p c x) e = all-put (λ r. not (blank (r .sketch))) (row p c x) (L .rows) (past-15 p c x e) h
+  accepted h (add p c x) e = all-put (λ r. not (blank (r .sketch))) (row p c x) (L .rows) (add-passed T L F p c x e .inked) h
   accepted h (drop p) e = all-kept (λ r. not (blank (r .sketch))) _ (L .rows) h
   accepted h (change c) e = h
   accepted h (reading q) e = h

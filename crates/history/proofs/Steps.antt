@@ -9,6 +9,7 @@ use lib.ListN.{length, take}
 use lib.Seq.{take-take}
 use borrow.Author.Tests.{eqb-true, ltb-true, leb-true, not-true}
 use Rattle.meaning.specs.Lists.{any, keep}
+use Rattle.meaning.specs.Sketch.{inRange, blank}
 use Rattle.meaning.specs.Refusal.{firstNo}
 use Rattle.meaning.specs.Rights.{Register, Change, changeInRange, changed}
 use Rattle.meaning.specs.Trie.{Tree}
@@ -32,6 +33,26 @@ use Rattle.history.proofs.Represents.{Represents, AsLong, long-kept, se
 below : (t : Bool) {b : Bool} {c d : ℕ} → c < 64 → (b ≡ true → d < 64) → cond t true b ≡ true → cond t c d < 64
 below true h k e = h
 below false h k e = k e
+
+-- what an add has passed that no question refuses
+pub record AddPassed (L : Ledger) (p c : ℕ) (x : List ℕ) : Type 0 where
+  pub class : ltb c 64 ≡ true
+  pub page : ltb p (L .settings .pages) ≡ true
+  pub dead : not (any (λ r. eqb (r .page) p) (L .rows)) ≡ true
+  pub whole : eqb (length x) (L .settings .symbols) ≡ true
+  pub symbols : inRange (L .settings .bits) x ≡ true
+  pub inked : not (blank x) ≡ true
+
+pub add-passed : (T : Tables) (L : Ledger) (F : List Tree) (p c : ℕ) (x : List ℕ) → judged T L F (add p c x) ≡ 0 → AddPassed L p c x
+unfolding judged admitted asked byLedger firstNo
+add-passed T L F p c x e =
+    let h7 = passed 7 (ltb c 64) _ (omega arith) e in
+    let h8 = passed 8 (ltb p (L .settings .pages)) _ (omega arith) (h7 .1) in
+    let h9 = passed 9 (not (any (λ r. eqb (r .page) p) (L .rows))) _ (omega arith) (h8 .1) in
+    let h10 = passed 10 (eqb (length x) (L .settings .symbols)) _ (omega arith) (h9 .1) in
+    let h11 = passed 11 (inRange (L .settings .bits) x) _ (omega arith) (h10 .1) in
+    let h15 = passed 15 (not (blank x)) _ (omega arith) (h11 .1) in
+    record { class = h7 .0; page = h8 .0; dead = h9 .0; whole = h10 .0; symbols = h11 .0; inked = h15 .0 }
 
 module _ (T : Tables) (L : Ledger) (R : Represents T L) where
   -- the tables afterwards, as long and with the same header
@@ -104,15 +125,12 @@ module _ (T : Tables) (L : Ledger) (R : Represents T L) where
 
     pub adds : (F : List Tree) (p c : ℕ) (x : List ℕ) → PageAdded (toStore T) (toStore T′) p c x → judged T L F (add p c x) ≡ 0
         → Represents T′ (accept (add p c x) L)
-    unfolding judged admitted asked byLedger firstNo accept
+    unfolding accept
     adds F p c x d e =
-        let h7 = passed 7 (ltb c 64) _ (omega arith) e in
-        let h8 = passed 8 (ltb p P) _ (omega arith) (h7 .1) in
-        let h9 = passed 9 (not (any (λ r. eqb (r .page) p) (L .rows))) _ (omega arith) (h8 .1) in
-        let h10 = passed 10 (eqb (length x) m) _ (omega arith) (h9 .1) in
-        let hp : p < P = ltb-true p P (h8 .0) in
-        let free : isLive (T .pages) p ≡ false = live-eq T L R p hp ∙ not-true _ (h9 .0) in
-        let whole : length x ≡ m = eqb-true (length x) m (h10 .0) in
+        let a = add-passed T L F p c x e in
+        let hp : p < P = ltb-true p P (a .page) in
+        let free : isLive (T .pages) p ≡ false = live-eq T L R p hp ∙ not-true _ (a .dead) in
+        let whole : length x ≡ m = eqb-true (length x) m (a .whole) in
         let fits : p * m + m ≤ length (T .sketches) = row-inside m P (length (T .sketches)) hp (long-sketches T L R) in
         let g : ℕ = signature (L .settings .bits) x in
         let written : take (2 * P) (T′ .pages) ≡ take (2 * P) (withPage P (T .pages) p c g) = rw (given-eq T L R) at (d .pages) in
@@ -123,4 +141,4 @@ module _ (T : Tables) (L : Ledger) (R : Represents T L) where
         (row-same m (T .sketches) p fits x whole) (λ i hi. row-other m (T .sketches) p fits x whole i)))
         (λ i hi v.
         rw (class-add P (T .pages) (T′ .pages) p hp (long-pages T L R) c g written i hi)
-        (below (eqb i p) (ltb-true c 64 (h7 .0)) (R .classes i hi) (sym (live-add P (T .pages) (T′ .pages) p hp (long-pages T L R) c g written i hi) ∙ v)))
+        (below (eqb i p) (ltb-true c 64 (a .class)) (R .classes i hi) (sym (live-add P (T .pages) (T′ .pages) p hp (long-pages T L R) c g written i hi) ∙ v)))
