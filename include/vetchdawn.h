@@ -95,7 +95,9 @@ uint32_t vetch_add(uint32_t *settings, size_t settings_len, uint32_t *nodes,
                    uint32_t class_of_page, const uint8_t *sketch,
                    size_t sketch_len);
 
-/* Drops a page. */
+/* Drops a page. A leaf that loses its last page by this, and then each inner
+ * node that loses its last child, is free for later adds; a root becomes an
+ * empty leaf instead. Tables from before this rule need no change. */
 uint32_t vetch_drop(uint32_t *settings, size_t settings_len, uint32_t *nodes,
                     size_t nodes_len, uint32_t *pages, size_t pages_len,
                     const uint8_t *sketches, size_t sketches_len,

@@ -1,4 +1,4 @@
-//! Tables that end at a page of memory without access rights, so that a read or write past the end stops the test.
+//! Tables that end at memory without access rights, so that a read or write past the end stops the test.
 use crate::calls::Lent;
 use crate::tables::Tables;
 use std::ffi::c_void;
@@ -10,10 +10,13 @@ extern "C" {
 }
 
 const PAGE: usize = 4096;
+/// So wide that a damaged link of 19 bits does not lead past it: not to a node's own words, nor to one of its heads.
+const GUARD: usize = 64 << 20;
+const NO_ACCESS: i32 = 0;
 const READ_WRITE: i32 = 3;
-const PRIVATE_ANONYMOUS: i32 = 0x22;
+const PRIVATE_ANONYMOUS_NORESERVE: i32 = 0x4022;
 
-/// A slice between two guard pages, right before the one behind it, or right behind the one before.
+/// A slice between two guards, right before the one behind it, or right behind the one before.
 pub struct Guarded<T: Copy> {
     map: *mut u8,
     size: usize,
@@ -33,24 +36,23 @@ impl<T: Copy> Guarded<T> {
     fn placed(data: &[T], start: bool) -> Self {
         let bytes = std::mem::size_of_val(data);
         let inner = bytes.div_ceil(PAGE) * PAGE;
-        let size = inner + 2 * PAGE;
+        let size = inner + 2 * GUARD;
         unsafe {
-            let map = mmap(std::ptr::null_mut(), size, READ_WRITE, PRIVATE_ANONYMOUS, -1, 0).cast::<u8>();
+            let map = mmap(std::ptr::null_mut(), size, NO_ACCESS, PRIVATE_ANONYMOUS_NORESERVE, -1, 0).cast::<u8>();
             assert!(map as isize != -1, "no memory");
-            assert_eq!(mprotect(map.cast(), PAGE, 0), 0);
-            assert_eq!(mprotect(map.add(PAGE + inner).cast(), PAGE, 0), 0);
-            let data_at = map.add(PAGE + if start { 0 } else { inner - bytes }).cast::<T>();
+            assert_eq!(mprotect(map.add(GUARD).cast(), inner, READ_WRITE), 0);
+            let data_at = map.add(GUARD + if start { 0 } else { inner - bytes }).cast::<T>();
             std::ptr::copy_nonoverlapping(data.as_ptr(), data_at, data.len());
             Guarded { map, size, data: data_at, len: data.len() }
         }
     }
 
-    /// Other data in the same place, right before the guard page behind it. There must be room for it.
+    /// Other data in the same place, right before the guard behind it. There must be room for it.
     pub fn set(&mut self, data: &[T]) {
         let bytes = std::mem::size_of_val(data);
-        assert!(bytes <= self.size - 2 * PAGE);
+        assert!(bytes <= self.size - 2 * GUARD);
         unsafe {
-            self.data = self.map.add(self.size - PAGE - bytes).cast::<T>();
+            self.data = self.map.add(self.size - GUARD - bytes).cast::<T>();
             std::ptr::copy_nonoverlapping(data.as_ptr(), self.data, data.len());
         }
         self.len = data.len();
@@ -93,7 +95,7 @@ impl GuardedTables {
         }
     }
 
-    /// Each right behind the guard page before it.
+    /// Each right behind the guard before it.
     pub fn at_start(t: &Tables) -> Self {
         GuardedTables {
             settings: Guarded::at_start(&t.settings),

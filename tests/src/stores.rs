@@ -1,5 +1,7 @@
 //! Random stores: settings, sketches that are alike, histories, and damage.
+use crate::baselines::block;
 use crate::calls;
+use crate::plain::pack;
 use crate::random::Random;
 use crate::tables::{Settings, Tables, FREE};
 use crate::trees::Index;
@@ -25,6 +27,17 @@ pub fn small_settings(random: &mut Random) -> Settings {
         _ => (0..64).map(|_| random.below(5) as u16).collect(),
     };
     Settings { b: 1 + random.below(8) as u32, m, q, pages, nodes, thresholds }
+}
+
+/// Settings for small tables with long paths: blocks of two to five packed bytes, and leaves that split at the first or second page.
+pub fn deep_settings(random: &mut Random) -> Settings {
+    let b = 1 + random.below(8) as u32;
+    let q = 1 + random.below(3) as u32;
+    let symbols = 1 + (8 / b) * (1 + random.below(4) as u32);
+    let pages = 1 + random.below(40) as u32;
+    let nodes = if random.below(3) == 0 { q + random.below(60) as u32 } else { q + q * 6 * pages };
+    let thresholds = (0..64).map(|_| random.below(2) as u16).collect();
+    Settings { b, m: 64.min(q * symbols), q, pages, nodes, thresholds }
 }
 
 /// Tables full of anything, long enough for the settings, with a rest behind.
@@ -111,6 +124,65 @@ pub fn damage(random: &mut Random, t: &mut Tables, s: &Settings) {
             _ => {
                 let at = random.below(t.sketches.len() as u64) as usize;
                 t.sketches[at] = random.next() as u8;
+            }
+        }
+    }
+}
+
+/// The nodes on the way of a page in block j of a sound store, from the root to its leaf.
+pub fn way(t: &Tables, s: &Settings, j: usize, page: u32) -> Vec<usize> {
+    let (m, n) = (s.m as usize, s.nodes as usize);
+    let (start, symbols) = block(m, s.q as usize, j);
+    let row = page as usize * m + start;
+    let mut way = vec![j];
+    for byte in pack(s.b, symbols as u32, &t.sketches[row..row + symbols]).unwrap() {
+        let x = way[way.len() - 1];
+        if t.nodes[n + x] != 1 {
+            break;
+        }
+        let mut child = t.nodes[2 * n + 8 * x + usize::from(byte / 32)] as usize - 1;
+        while t.nodes[child] >> 19 != u32::from(byte) {
+            child = (t.nodes[child] & 0x7_ffff) as usize - 1;
+        }
+        way.push(child);
+    }
+    way
+}
+
+/// Damages some words on the way of a page in one block of a sound store: links of its nodes, most of them to nodes on the way, so that
+/// there are cycles; other states; the link behind the page; the free link.
+pub fn damage_way(random: &mut Random, t: &mut Tables, s: &Settings, page: u32) {
+    let (n, p) = (s.nodes as usize, s.pages as usize);
+    let j = random.below(u64::from(s.q)) as usize;
+    let way = way(t, s, j, page);
+    for _ in 0..1 + random.below(3) {
+        let on_it = |random: &mut Random| way[random.below(way.len() as u64) as usize];
+        let x = on_it(random);
+        let link = match random.below(8) {
+            0 => 0,
+            1 => random.below(n as u64 + 2) as u32,
+            2 => random.next() as u32 & 0x7_ffff,
+            3 => 1 + random.below(u64::from(s.q)) as u32,
+            _ => 1 + on_it(random) as u32,
+        };
+        // of the chain word that it leads to, or of the node itself
+        let byte = t.nodes[if random.below(2) == 0 { on_it(random) } else { x }] >> 19 << 19;
+        match random.below(8) {
+            0 | 1 => t.nodes[x] = byte | link,
+            2 => t.nodes[n + x] = [0, 1, 2, 3 + page, link][random.below(5) as usize],
+            3 | 4 => {
+                let heads = &mut t.nodes[2 * n + 8 * x..2 * n + 8 * x + 8];
+                let used = heads.iter().position(|&head| head != 0).unwrap_or(0);
+                let g = if random.below(2) == 0 { used } else { random.below(8) as usize };
+                heads[g] = if random.below(4) == 0 { byte | link } else { link };
+            }
+            5 => t.pages[(2 + j) * p + page as usize] = [1 + page, link][random.below(2) as usize],
+            6 => t.settings[FREE] = link,
+            _ => {
+                // a head of x and the byte of the node that it leads to, so that the way goes on there
+                let to = on_it(random);
+                t.nodes[to] = t.nodes[to] & 0x7_ffff | byte;
+                t.nodes[2 * n + 8 * x + (byte >> 24) as usize] = 1 + to as u32;
             }
         }
     }

@@ -55,19 +55,20 @@ impl Grow<'_> {
     }
 }
 
-/// A page leaves its leaf; an emptied leaf below another node goes.
-fn take(node: &mut Node, bytes: &[u8], page: u32) {
+/// A page leaves its leaf. Says whether the node is to go: an emptied leaf, or an inner node that has lost its last child by this
+/// (document 02, F-2). Without `prune` inner nodes stay, as they did before.
+fn take(node: &mut Node, bytes: &[u8], page: u32, prune: bool) -> bool {
     match node {
         Node::Leaf(pages) => {
             pages.remove(&page);
+            pages.is_empty()
         }
         Node::Inner(children) => {
-            if let Some(child) = children.get_mut(&bytes[0]) {
-                take(child, &bytes[1..], page);
-                if *child == Node::fresh() {
-                    children.remove(&bytes[0]);
-                }
+            let gone = children.get_mut(&bytes[0]).is_some_and(|child| take(child, &bytes[1..], page, prune));
+            if gone {
+                children.remove(&bytes[0]);
             }
+            gone && prune && children.is_empty()
         }
     }
 }
@@ -107,7 +108,8 @@ impl Index {
         plain::pack(self.settings.b, n as u32, &sketch[start..start + n]).unwrap()
     }
 
-    fn total(trees: &[Node]) -> usize {
+    /// How many nodes the trees have.
+    pub fn total(trees: &[Node]) -> usize {
         trees.iter().map(Node::count).sum()
     }
 
@@ -161,13 +163,25 @@ impl Index {
     }
 
     pub fn drop(&mut self, page: u32) -> u32 {
+        self.strike(page, true)
+    }
+
+    /// A drop as it was before F-2: stores from that time have inner nodes without children.
+    pub fn drop_before(&mut self, page: u32) -> u32 {
+        self.strike(page, false)
+    }
+
+    /// The root stays: where it is to go it is a fresh tree.
+    fn strike(&mut self, page: u32, prune: bool) -> u32 {
         if page >= self.settings.pages {
             return 8;
         }
         let Some(row) = self.rows.remove(&page) else { return 9 };
         for j in 0..self.trees.len() {
             let bytes = self.packed(j, &row.sketch);
-            take(&mut self.trees[j], &bytes, page);
+            if take(&mut self.trees[j], &bytes, page, prune) {
+                self.trees[j] = Node::fresh();
+            }
         }
         0
     }

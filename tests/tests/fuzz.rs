@@ -1,10 +1,12 @@
-//! Calls of every kind on tables of any lengths and contents, with guard pages before and behind each. FUZZ_SECONDS says how long.
-//! No call faults or hangs, no closed, far or dead page is listed, and refusals change nothing.
+//! Calls of every kind on tables of any lengths and contents, with a guard before and behind each. FUZZ_SECONDS says how long.
+//! No call faults or hangs, no closed, far or dead page is listed, refusals change nothing; a store that calls have made stays sound, and
+//! every inner node in it has children.
 use std::time::{Duration, Instant};
 use vetchdawn_tests::calls::{self, Lent};
 use vetchdawn_tests::guard::{Guarded, GuardedTables};
 use vetchdawn_tests::random::Random;
-use vetchdawn_tests::stores::{any_tables, cut_short, damage, scramble, small_settings, Sketches};
+use vetchdawn_tests::sound::sound;
+use vetchdawn_tests::stores::{any_tables, cut_short, damage, damage_way, deep_settings, scramble, small_settings, Sketches};
 use vetchdawn_tests::tables::{class_of, is_hit, opens, Settings, Tables};
 
 /// A number that is mostly below `n`.
@@ -16,9 +18,10 @@ fn around(random: &mut Random, n: u64) -> u32 {
     }
 }
 
-/// Tables that were opened and filled, or not, and then damaged, or not, and cut to what is needed, or shorter.
-fn tables(random: &mut Random, s: &Settings, sketches: &Sketches) -> Tables {
+/// Tables that were opened and filled, or not, and then damaged, or not, and cut to what is needed, or shorter; and whether they are intact.
+fn tables(random: &mut Random, s: &Settings, sketches: &Sketches) -> (Tables, bool) {
     let mut t = any_tables(random, s);
+    let mut intact = false;
     if random.below(20) != 0 {
         assert_eq!(calls::open(&mut t, s), 0);
         for _ in 0..random.below(60) {
@@ -29,21 +32,27 @@ fn tables(random: &mut Random, s: &Settings, sketches: &Sketches) -> Tables {
             calls::join(&mut t, random.below(3) as u32, random.below(4) as u32);
             calls::grant(&mut t, random.below(4) as u32, random.below(64) as u32);
         }
-        match random.below(5) {
+        match random.below(8) {
             0 => scramble(random, &mut t, s),
             1 | 2 => damage(random, &mut t, s),
             3 => {
                 let at = random.below(t.settings.len() as u64) as usize;
                 t.settings[at] = random.next() as u32;
             }
-            _ => {}
+            4 | 5 => {
+                if let Some(page) = (0..s.pages).find(|&page| t.pages[page as usize] != 0) {
+                    damage_way(random, &mut t, s, page);
+                }
+            }
+            _ => intact = true,
         }
     }
     t.cut(&s.lengths());
     if random.below(12) == 0 {
         cut_short(random, &mut t, s, 5);
+        intact = false;
     }
-    t
+    (t, intact)
 }
 
 /// What is lent beside the tables: a sketch, and the output of a search.
@@ -76,8 +85,16 @@ fn add(random: &mut Random, t: &mut Lent, page: u32, sketch: &[u8]) -> u32 {
     number
 }
 
-/// One call; its number, and whether it may write the working table.
-fn call(random: &mut Random, t: &mut Lent, s: &Settings, sketches: &Sketches, beside: &mut Beside) -> (u32, bool) {
+/// What was called: a drop, a search or a check, which may write the working table, or something else.
+#[derive(Clone, Copy, PartialEq)]
+enum Kind {
+    Drop,
+    Reading,
+    Other,
+}
+
+/// One call, in a withdrawal no add; its number.
+fn call(random: &mut Random, t: &mut Lent, s: &Settings, sketches: &Sketches, beside: &mut Beside, withdrawal: bool) -> (u32, Kind) {
     let page = around(random, u64::from(s.pages));
     let mut x = sketches.near(random, 4);
     match random.below(60) {
@@ -89,12 +106,12 @@ fn call(random: &mut Random, t: &mut Lent, s: &Settings, sketches: &Sketches, be
     }
     beside.sketch.set(&x);
     match random.below(16) {
-        0..=3 => (add(random, t, page, beside.sketch.get()), false),
-        4..=6 => (calls::drop(t, page), false),
-        7..=10 => (search(random, t, s, beside), true),
-        11 => (calls::check(t).0, true),
-        12 => (calls::lent_right(t, random.below(4), around(random, 4), around(random, 4)), false),
-        13 => (calls::lent_right(t, random.below(4), around(random, 256), around(random, 64)), false),
+        0..=3 if !withdrawal => (add(random, t, page, beside.sketch.get()), Kind::Other),
+        0..=6 => (calls::drop(t, page), Kind::Drop),
+        7..=10 => (search(random, t, s, beside), Kind::Reading),
+        11 => (calls::check(t).0, Kind::Reading),
+        12 => (calls::lent_right(t, random.below(4), around(random, 4), around(random, 4)), Kind::Other),
+        13 => (calls::lent_right(t, random.below(4), around(random, 256), around(random, 64)), Kind::Other),
         14 => {
             let reader = around(random, 4);
             let number = match calls::lent_show(t, reader, page) {
@@ -106,10 +123,37 @@ fn call(random: &mut Random, t: &mut Lent, s: &Settings, sketches: &Sketches, be
                 }
                 Err(number) => number,
             };
-            (number, false)
+            (number, Kind::Other)
         }
-        _ if random.below(20) == 0 => (calls::lent_open(t, s), false),
-        _ => (calls::drop(t, page), false),
+        _ if random.below(20) == 0 => (calls::lent_open(t, s), Kind::Other),
+        _ => (calls::drop(t, page), Kind::Drop),
+    }
+}
+
+fn childless(t: &Tables, s: &Settings) -> bool {
+    let n = s.nodes as usize;
+    (0..n).any(|x| t.nodes[n + x] == 1 && t.nodes[2 * n + 8 * x..][..8].iter().all(|&head| head == 0))
+}
+
+/// Of the drops that were carried out: how many gave back two nodes or more, took out an inner node, and took out two.
+#[derive(Default, Debug)]
+struct Drops {
+    all: u64,
+    two_nodes: u64,
+    inner: u64,
+    two_inner: u64,
+}
+
+impl Drops {
+    /// Of the states of the nodes, before and after one.
+    fn count(&mut self, before: &[u32], after: &[u32]) {
+        let states = || before.iter().zip(after);
+        let freed = states().filter(|(&was, &is)| was != 0 && is == 0).count();
+        let inner = states().filter(|(&was, &is)| was == 1 && is != 1).count();
+        self.all += 1;
+        self.two_nodes += u64::from(freed >= 2);
+        self.inner += u64::from(inner >= 1);
+        self.two_inner += u64::from(inner >= 2);
     }
 }
 
@@ -119,20 +163,27 @@ fn any_call_on_any_tables() {
     let end = Instant::now() + Duration::from_secs(seconds);
     let mut random = Random::new(61);
     let mut numbers = [0u64; 16];
+    // of stores that are intact, and of others
+    let mut drops = [Drops::default(), Drops::default()];
     let mut beside = Beside { sketch: Guarded::new(&[0; 65]), output: Guarded::new(&[0; 65_536]) };
     while Instant::now() < end {
-        let s = small_settings(&mut random);
+        let s = if random.below(2) == 0 { small_settings(&mut random) } else { deep_settings(&mut random) };
         let sketches = Sketches::new(&mut random, s.b, s.m, 3);
-        let t = tables(&mut random, &s, &sketches);
+        let (t, intact) = tables(&mut random, &s, &sketches);
         let mut lent = if random.below(2) == 0 { GuardedTables::new(&t) } else { GuardedTables::at_start(&t) };
         let mut before = t;
-        for _ in 0..200 {
-            let (number, working) = call(&mut random, &mut lent.lend(), &s, &sketches, &mut beside);
+        for i in 0..200 {
+            let (number, kind) = call(&mut random, &mut lent.lend(), &s, &sketches, &mut beside, i >= 100);
             numbers[number as usize] += 1;
             let now = lent.lend();
+            if number == 0 && kind == Kind::Drop {
+                let cap = now.settings[5] as usize;
+                drops[usize::from(intact)].count(&before.nodes[cap..2 * cap], &now.nodes[cap..2 * cap]);
+            }
+            assert!(!intact || number != 14, "14 on a sound store");
             if number != 0 && number != 14 {
                 let same = *now.settings == *before.settings && *now.nodes == *before.nodes && *now.pages == *before.pages && *now.sketches == *before.sketches;
-                assert!(same && (working || *now.working == *before.working), "refused by {number}, and a table changed");
+                assert!(same && (kind == Kind::Reading || *now.working == *before.working), "refused by {number}, and a table changed");
             }
             before.settings.copy_from_slice(now.settings);
             before.nodes.copy_from_slice(now.nodes);
@@ -140,7 +191,12 @@ fn any_call_on_any_tables() {
             before.sketches.copy_from_slice(now.sketches);
             before.working.copy_from_slice(now.working);
         }
+        assert!(!intact || sound(&before, &s) && calls::check(&mut lent.lend()) == (0, true), "no longer sound, {s:?}");
+        assert!(!intact || !childless(&before, &s), "an inner node without children, {s:?}");
     }
     println!("{} calls in {seconds} s, by number: {numbers:?}", numbers.iter().sum::<u64>());
+    println!("drops on other tables: {:?}", drops[0]);
+    println!("drops on sound stores: {:?}", drops[1]);
+    assert!(drops.iter().all(|d| 10 * d.inner > d.all && 20 * d.two_inner > d.all), "{drops:?}");
     assert!([0, 5, 6, 7, 8, 9, 10, 11, 12, 13, 14, 15].iter().all(|&n| numbers[n] > 0), "{numbers:?}");
 }

@@ -172,6 +172,32 @@ fn form_of_a_command() {
     assert!(numbers.iter().all(|&n| n > 5_000), "{numbers:?}");
 }
 
+/// An add of a page whose four blocks have the bytes v and 1.
+fn add(page: u32, v: u32) -> Vec<u8> {
+    let [low, high] = two(page);
+    let mut bytes = vec![b'A', low, high, 3];
+    bytes.extend([v as u8, 1].repeat(4));
+    bytes
+}
+
+/// With threshold 0 a deposit of 128 pages needs all 1,024 nodes: four roots, and two nodes a page in each block but for the first page,
+/// which has one. It is withdrawn, and another one fits (document 02, F-2).
+#[test]
+fn a_deposit_after_another() {
+    let mut bytes = vec![b'I', 8, 8, 4, 0, 0];
+    let mut want = String::new();
+    for first in [0, 128] {
+        (0..128).for_each(|i| bytes.extend(add(i, first + i)));
+        // one more, with a byte of its own
+        want += &format!("E {} 12\n", bytes.len());
+        bytes.extend(add(200, (first + 128) % 256));
+        (0..128).for_each(|i| bytes.extend([b'D', two(i)[0], two(i)[1]]));
+    }
+    want += &format!("Z {}\n", bytes.len());
+    assert_eq!(printed(&bytes), want);
+    assert_eq!(run(&bytes), want);
+}
+
 /// An opening with b 2, m 4, q 2 and threshold 1.
 const OPEN: [u8; 6] = [b'I', 2, 4, 2, 1, 0];
 

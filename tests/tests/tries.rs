@@ -1,11 +1,12 @@
 //! Add and drop through C against explicit trees in plain Rust, node for node; and on damaged tables.
 use vetchdawn_tests::calls;
 use vetchdawn_tests::guard::GuardedTables;
+use vetchdawn_tests::outcomes::judge;
 use vetchdawn_tests::plain::signature;
 use vetchdawn_tests::random::Random;
-use vetchdawn_tests::stores::{cut_short, damaged, filled, opened, small_settings, Sketches};
+use vetchdawn_tests::stores::{cut_short, damaged, deep_settings, filled, opened, small_settings, Sketches};
 use vetchdawn_tests::tables::{Settings, Tables, FREE};
-use vetchdawn_tests::trees::{whole, Index};
+use vetchdawn_tests::trees::{whole, Index, Node};
 
 /// An operand that is now and then out of its range.
 fn page_of(random: &mut Random, s: &Settings) -> u32 {
@@ -60,12 +61,18 @@ fn compare(t: &Tables, before: &Tables, plain: &Index) {
     assert_eq!(t.working, before.working);
 }
 
+fn counts(trees: &[Node]) -> Vec<usize> {
+    trees.iter().map(Node::count).collect()
+}
+
 #[test]
 fn histories() {
     let mut random = Random::new(21);
     let mut numbers = [0u32; 16];
-    for _ in 0..3_000 {
-        let s = small_settings(&mut random);
+    // the nodes that a drop takes out of one tree
+    let mut taken = [0u32; 4];
+    for round in 0..3_000 {
+        let s = if round % 2 == 0 { small_settings(&mut random) } else { deep_settings(&mut random) };
         let (mut t, mut plain) = opened(&mut random, &s);
         let centres = 1 + random.below(5) as usize;
         let sketches = Sketches::new(&mut random, s.b, s.m, centres);
@@ -74,8 +81,10 @@ fn histories() {
             let before = t.clone();
             let page = page_of(&mut random, &s);
             let number = if random.below(5) < drops {
+                let nodes = counts(&plain.trees);
                 let number = calls::drop(&mut t.lend(), page);
                 assert_eq!(number, plain.drop(page), "drop {page} {s:?}");
+                nodes.iter().zip(counts(&plain.trees)).for_each(|(before, now)| taken[(before - now).min(3)] += 1);
                 number
             } else {
                 let (class, x) = (class_of(&mut random), sketch_of(&mut random, &s, &sketches));
@@ -92,6 +101,7 @@ fn histories() {
         }
     }
     assert!([0, 7, 8, 9, 10, 11, 12, 15].iter().all(|&n| numbers[n] > 20), "{numbers:?}");
+    assert!(taken[1] > 10_000 && taken[2] > 5_000 && taken[3] > 500, "{taken:?}");
 }
 
 #[test]
@@ -110,52 +120,6 @@ fn short_tables() {
     }
 }
 
-/// What 7 to 11 and 15 say of an add, and 8 and 9 of a drop, whatever the tries hold.
-fn early(t: &Tables, s: &Settings, page: u32, added: Option<(u32, &[u8])>) -> u32 {
-    if added.is_some_and(|(class, _)| class >= 64) {
-        return 7;
-    }
-    if page >= s.pages {
-        return 8;
-    }
-    if (t.pages[page as usize] != 0) == added.is_some() {
-        return 9;
-    }
-    match added {
-        Some((_, x)) if x.len() != s.m as usize => 10,
-        Some((_, x)) if x.iter().any(|&c| u32::from(c) >= 1 << s.b) => 11,
-        Some((_, x)) if x.iter().all(|&c| c == 0) => 15,
-        _ => 0,
-    }
-}
-
-/// What an add, or a drop, of a page may have changed, whatever the tables held: with 0 that page's word, signature and row; with 14 that
-/// row at most; and in both cases words of the tries. Says whether the row of the page is the sketch then.
-fn compare_outside_tries(before: &Tables, after: &Tables, s: &Settings, page: u32, added: Option<(u32, &[u8])>, number: u32) -> bool {
-    let mut want = before.clone();
-    if number != 0 && number != 14 {
-        assert!(*after == want, "a refusal changed a table");
-        return false;
-    }
-    let (p, m, page) = (s.pages as usize, s.m as usize, page as usize);
-    let row = page * m..page * m + m;
-    let written = added.is_some_and(|(_, x)| after.sketches[row.clone()] == *x);
-    if let Some((_, x)) = added.filter(|_| written) {
-        want.sketches[row].copy_from_slice(x);
-    }
-    if number == 0 {
-        assert_eq!(written, added.is_some());
-        want.pages[page] = added.map_or(0, |(class, _)| 1 + class);
-        want.pages[p + page] = added.map_or(before.pages[p + page], |(_, x)| signature(s.b, x));
-        want.settings[FREE] = after.settings[FREE];
-    }
-    let (nodes, links) = (..s.lengths().nodes, 2 * p..s.lengths().pages);
-    want.nodes[nodes].copy_from_slice(&after.nodes[nodes]);
-    want.pages[links.clone()].copy_from_slice(&after.pages[links]);
-    assert!(*after == want, "{number}: a word outside the tries, or of another page, changed");
-    written
-}
-
 #[test]
 fn damaged_tables() {
     let mut random = Random::new(23);
@@ -165,7 +129,7 @@ fn damaged_tables() {
         let s = small_settings(&mut random);
         let (mut t, sketches) = damaged(&mut random, &s, round);
         if random.below(2) == 0 {
-            t.cut(&s.lengths()); // a guard page stands right behind each
+            t.cut(&s.lengths()); // a guard stands right behind each
         }
         let mut lent = GuardedTables::new(&t);
         for _ in 0..10 {
@@ -177,10 +141,7 @@ fn damaged_tables() {
                 Some((class, x)) => calls::add(&mut lent.lend(), page, class, x),
                 None => calls::drop(&mut lent.lend(), page),
             };
-            let first = early(&before, &s, page, added);
-            let open: &[u32] = if added.is_some() { &[0, 12, 14] } else { &[0, 14] };
-            assert!(if first == 0 { open.contains(&number) } else { number == first }, "{number}, not {first}");
-            let written = compare_outside_tries(&before, &lent.tables(), &s, page, added, number);
+            let written = judge(&before, &lent.tables(), &s, page, added, number);
             if added.is_some() {
                 adds[number as usize] += 1;
                 stopped_rows[usize::from(written)] += u32::from(number == 14);

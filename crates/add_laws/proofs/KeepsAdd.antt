@@ -29,6 +29,7 @@ use Rattle.trie_laws.proofs.Forest.{each-length}
 use Rattle.promises.specs.Tables.{Tables, given, pageClass, pageRow, rowsOf}
 use Rattle.promises.specs.Answers.{number}
 use Rattle.promises.specs.Sound.{Holding, Sound, SoundPage, livePage, pageBytes}
+use Rattle.promises.proofs.Stores.{tries-count}
 use Rattle.add_laws.specs.declared.Inserted.the-variants.{Free}
 use Rattle.add_laws.specs.declared.Inserted.the-variants as insertion
 use Rattle.add_laws.specs.Insert.{filled, insertAll}
@@ -117,9 +118,6 @@ module _ (T : Tables) (F : List Tree) (sound : Sound T F) (p c : ℕ) (x : List 
       (λ d. page-old q d (sym (live-old q d) ∙ live))
 
   -- ---- the tries
-  count-before : length F ≡ s .blocks
-  count-before = ap length (sym (sound .forest)) ∙ length-map (sound .tries) tree ∙ sound .holding .blocks
-
   forest-bytes : eachFrom (Inserts s bytes p) 0 F ≡ forestAfter s (rowsOf T) (add p c x) F
   forest-bytes =
       forest-read T p x F sound c (a .dead) bytes
@@ -127,7 +125,7 @@ module _ (T : Tables) (F : List Tree) (sound : Sound T F) (p c : ℕ) (x : List 
 
   count-after : length (G .to) ≡ s .blocks
   count-after =
-      sym (length-map (G .to) tree) ∙ ap length (G .forest ∙ sym forest-bytes) ∙ each-length (Inserts s bytes p) 0 F ∙ count-before
+      sym (length-map (G .to) tree) ∙ ap length (G .forest ∙ sym forest-bytes) ∙ each-length (Inserts s bytes p) 0 F ∙ tries-count T F sound
 
   holding : Holding T′ (G .to) (G .free)
   holding = record {
@@ -142,7 +140,7 @@ module _ (T : Tables) (F : List Tree) (sound : Sound T F) (p c : ℕ) (x : List 
   blocks : EachFrom (SoundBlock (given T′) (pageBytes T′) (livePage T′)) 0 (forestAfter s (rowsOf T) (add p c x) F)
   blocks =
       rw (given-same, bytes-same, live-same, ← forest-bytes)
-      (written-blocks T p x F sound (a .dead) (a .count) (a .range) (sketches-long T F sound p c x a) (a .page) (omega (arith, count-before)))
+      (written-blocks T p x F sound (a .dead) (a .count) (a .range) (sketches-long T F sound p c x a) (a .page) (omega (arith, tries-count T F sound)))
 
   sound-after : Sound T′ (forestAfter s (rowsOf T) (add p c x) F)
   sound-after = record {

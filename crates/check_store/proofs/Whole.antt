@@ -6,7 +6,7 @@ use mathlib.Core.Path.{_≡_, refl, sym, ap, _∙_}
 use mathlib.Core.Logic.{by-cases}
 use mathlib.Core.Bool.{true}
 use mathlib.Core.List.{List, [], _∷_, map as each}
-use borrow.Author.Tests.{ltb-true, lt-ltb}
+use borrow.Author.Tests.{lt-ltb}
 use lib.Dec.{ltb}
 use lib.ListN.{length, getD}
 use Rattle.meaning.specs.Lists.{count, upto}
@@ -23,7 +23,7 @@ use Rattle.sketch_laws.proofs.Lists.{count-same}
 use Rattle.children.specs.Heap.{Holds}
 use Rattle.children.specs.Phys.{Phys, tree}
 use Rattle.trie_laws.specs.Block.{SoundBlock, EachFrom}
-use Rattle.meaning.proofs.Lists.{and-intro, and-first, and-second}
+use Rattle.meaning.proofs.Lists.{and-intro, and-second}
 use Rattle.trie_laws.proofs.Pages.{stands-any, stands-all, stands-length}
 use Rattle.trie_laws.proofs.Walk.{walk-sound}
 use Rattle.trie_laws.proofs.Agree.{sound-agree}
@@ -32,6 +32,7 @@ use Rattle.blocks.proofs.RowBytes.{row-same}
 use Rattle.node_check.specs.declared.leaf.Left.the-variants.{Some}
 use Rattle.promises.specs.Tables.{Tables, given, pageClass, pageRow}
 use Rattle.promises.specs.Sound.{triesCells, Rooted, livePage, pageBytes, Sound}
+use Rattle.promises.proofs.Stores.{live-below}
 use Rattle.check_tables.specs.Free.{testFree}
 use Rattle.check_tries.specs.Windows.{passed, testWindows}
 use Rattle.check_store.specs.Store.{testStore}
@@ -61,10 +62,6 @@ module _ (T : Tables) (F : List Tree) (sound : Sound T F) where
   unfolding livePage
   page-live p l e = and-intro (ltb p (s .pages)) (isLive P p) (lt-ltb p (s .pages) l) e
 
-  page-below : (p : ℕ) → livePage T p ≡ true → p < s .pages
-  unfolding livePage
-  page-below p e = ltb-true p (s .pages) (and-first (ltb p (s .pages)) (isLive P p) e)
-
   page-alive : (p : ℕ) → livePage T p ≡ true → isLive P p ≡ true
   unfolding livePage
   page-alive p e = and-second (ltb p (s .pages)) (isLive P p) e
@@ -77,7 +74,7 @@ module _ (T : Tables) (F : List Tree) (sound : Sound T F) where
 
   same-bytes : (j p : ℕ) → livePage T p ≡ true → rowBytes s j S p ≡ pageBytes T j p
   unfolding pageBytes pageRow
-  same-bytes j p e = row-same s j S p (page-fits p (page-below p e) (page-alive p e) .symbols)
+  same-bytes j p e = row-same s j S p (page-fits p (live-below T p e) (page-alive p e) .symbols)
 
   same-count : count (livePage T) (upto (s .pages)) ≡ live
   unfolding livePage
@@ -98,7 +95,7 @@ module _ (T : Tables) (F : List Tree) (sound : Sound T F) where
           (λ x m. same-bytes j x (sym (stands-any (livePage T) (tree t) (b .0 .stands) x) ∙ m))
           ∙ b .0 .sound;
       alive = stands-all (livePage T) (tree t) (b .0 .stands) (isLive P) page-alive;
-      pages = stands-length (livePage T) (tree t) (b .0 .stands) (s .pages) page-below ∙ same-count;
+      pages = stands-length (livePage T) (tree t) (b .0 .stands) (s .pages) (live-below T) ∙ same-count;
     },
     places (suc j) ts (r .2) (h .1) (b .1),
   )

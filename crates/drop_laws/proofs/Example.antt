@@ -23,14 +23,16 @@ use Rattle.layout.specs.Pages.{isLive, classOf, signatureAt, rowOf}
 use Rattle.layout.specs.Signature.{foldedByte, folded, signature}
 use Rattle.children.specs.Heap.{Cells, nil, _⊕_}
 use Rattle.layout.specs.States.{kindOf}
+use Rattle.children.specs.Order.{bare}
 use Rattle.children.specs.Places.{placeFrom, findPlace}
 use Rattle.children.specs.Phys.{Phys, noKid, kid, headsFrom, leafP, innerP}
 use Rattle.trie_laws.specs.Sound.{filled, soundTrie, Stands}
-use Rattle.trie.specs.Descend.{descend, descendTo}
+use Rattle.trie.specs.Descend.{stepTo, descend, descendTo, passedAt}
 use Rattle.blocks.specs.RowBytes.{reduced, rowBytes}
 use Rattle.trie_remove.specs.declared.Removed.the-variants.{Done}
 use Rattle.trie_remove.specs.Take.{takePage}
 use Rattle.trie.specs.Model.{freeChild}
+use Rattle.trie_remove.specs.Prune.{pruneUp}
 use Rattle.trie_remove.specs.Remove.{setFirst, removeAt, removePage, gone}
 use Rattle.trie_remove.proofs.Example.{nodesOf, pagesOf, node-claims, page-claims, once-count}
 use Rattle.promises.specs.Tables.{Tables, tables, given, byTables, pageClass, pageRow, rowsOf}
@@ -103,10 +105,10 @@ sound = record {
   pages = page-sound;
 }
 
--- it is dropped: the leaf below the first root is freed, the second root stays
+-- it is dropped: the leaf below the first root is freed, and both roots are empty leaves
 done : DropSound T 0 (forestAfter (given T) (rowsOf T) (drop 0) F)
 done = drop-sound T F sound 0 (admitted T 0 passes)
 
-computed : removeAll (given T) (T .sketches) 0 N (T .pages) 0 ≡ gone (0 ∷ 0 ∷ 0 ∷ 1 ∷ 2 ∷ 0 ∷ 0 ∷ replicate 23 0) (T .pages) (Done 3)
-unfolding removeAll removeFrom removeBlock removePage removeAt setFirst freeChild kindOf takePage descendTo descend findPlace placeFrom settings settingsOf header given₁ rowBytes reduced rowOf bytesOfSketch pack packBytes packByte packedLength perByte block blockLength blockStart
+computed : removeAll (given T) (T .sketches) 0 N (T .pages) 0 ≡ gone (0 ∷ 0 ∷ 0 ∷ 2 ∷ 2 ∷ 0 ∷ 0 ∷ replicate 23 0) (T .pages) (Done 3)
+unfolding removeAll removeFrom removeBlock removePage removeAt setFirst pruneUp bare all upto from freeChild kindOf takePage descendTo descend stepTo passedAt findPlace placeFrom settings settingsOf header given₁ rowBytes reduced rowOf bytesOfSketch pack packBytes packByte packedLength perByte block blockLength blockStart
 computed = refl

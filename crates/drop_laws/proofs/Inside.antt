@@ -13,12 +13,14 @@ use Rattle.layout.specs.States.{kindOf, firstOf}
 use Rattle.layout.specs.Pages.{nextAt, linksAt}
 use Rattle.layout.specs.Lengths.{pagesLength}
 use Rattle.layout.proofs.Words.{link-behind}
+use Rattle.children.specs.Order.{bare}
 use Rattle.children.specs.Places.{linkAt}
 use Rattle.trie.specs.declared.path.Reach.{Reach}
 use Rattle.trie.specs.declared.path.Reach.the-variants.{Leaf, Gap}
 use Rattle.trie.specs.declared.path.Reach.the-variants as reach
-use Rattle.trie.specs.Descend.{descendTo, Inside as ReachInside}
+use Rattle.trie.specs.Descend.{descendTo, Inside as ReachInside, Passed, passedAt}
 use Rattle.trie.proofs.Inside.{descend-inside}
+use Rattle.trie.proofs.Notes.{passed-inside}
 use Rattle.blocks.specs.RowBytes.{rowBytes}
 use Rattle.blocks.proofs.BlockBytes.{row-octets}
 use Rattle.blocks.proofs.Tables.{links-high}
@@ -27,7 +29,8 @@ use Rattle.trie_remove.specs.declared.Taken.the-variants as taken
 use Rattle.trie_remove.specs.declared.Removed.the-variants.{Done, Broken}
 use Rattle.trie_remove.specs.Take.{Took, took, takeFrom, takePage}
 use Rattle.trie.specs.Model.{freeChild}
-use Rattle.trie_remove.specs.Remove.{Freed, freed, Gone, gone, goneTo, setFirst, removeTaken, removeAt, removeReached, removePage}
+use Rattle.trie_remove.specs.Prune.{Freed, freed, pruneUp, InTable}
+use Rattle.trie_remove.specs.Remove.{Gone, gone, goneTo, setFirst, removeTaken, removeAt, removeReached, removePage}
 use Rattle.store.specs.Within.{Within, Both}
 use Rattle.store.proofs.Within.{within-none, within-both, within-set, node-set}
 use Rattle.drop_laws.specs.Removal.{onRemoved, removeBlock, removeFrom, removeAll}
@@ -75,36 +78,60 @@ module _ (cap : ℕ) where
       (within-both (node-set cap M (stateAt cap c) freeState (omega arith))
       (node-set cap (set M (stateAt cap c) freeState) c free (omega arith)))
 
-  first-within : (N : List ℕ) (n s k l free : ℕ) → n < cap → s < nodeWords cap → FreedIn N (setFirst N cap n s k l free)
+  put-within : (N : List ℕ) (n l : ℕ) → n < cap → Within 0 (nodeWords cap) N (set N (stateAt cap n) (leafState l))
+  put-within N n l ln = node-set cap N (stateAt cap n) (leafState l) (omega arith)
+
+  -- nodes freed on the way up
+  up-within : (way : ℕ → Passed) (k : ℕ) → InTable cap way k → (N : List ℕ) (n s free : ℕ) → n < cap → s < nodeWords cap → FreedIn N (pruneUp N cap way k n s free)
+  unfolding pruneUp
+  up-within way zero w N n s free ln ls = within-none
+  up-within way (suc k) w N n s free ln ls =
+      let x = w k (omega arith) in
+      go (bare M cap (way k .node)) (pruneUp (set M (stateAt cap (way k .node)) (leafState 0)) cap way k (way k .node) (way k .slot) (n + 1))
+      (up-within way k (λ j l. w j (omega arith)) (set M (stateAt cap (way k .node)) (leafState 0)) (way k .node) (way k .slot) (n + 1) (x .0) (x .1))
+    where
+      M : List ℕ
+      M = freeChild N cap s n free
+
+      out : Within 0 (nodeWords cap) N M
+      out = free-within N s n free ls ln
+
+      on : (r : Freed) → FreedIn (set M (stateAt cap (way k .node)) (leafState 0)) r → FreedIn N r
+      on (freed N' free') h = within-both out (within-both (put-within M (way k .node) 0 (w k (omega arith) .0)) h)
+
+      go : (t : Bool) (r : Freed) → FreedIn (set M (stateAt cap (way k .node)) (leafState 0)) r → FreedIn N (cond t r (freed M (n + 1)))
+      go true r h = on r h
+      go false r h = out
+
+  first-within : (way : ℕ → Passed) (N : List ℕ) (n s k l free : ℕ) → n < cap → s < nodeWords cap → InTable cap way k → FreedIn N (setFirst N cap way n s k l free)
   unfolding setFirst
-  first-within N n s k l free ln ls = go (ltb 0 l) (eqb k 0)
+  first-within way N n s k l free ln ls w = go (ltb 0 l) (pruneUp M cap way k n s free) (up-within way k w M n s free ln ls)
     where
       M : List ℕ
       M = set N (stateAt cap n) (leafState l)
 
-      put : Within 0 (nodeWords cap) N M
-      put = node-set cap N (stateAt cap n) (leafState l) (omega arith)
+      on : (r : Freed) → FreedIn M r → FreedIn N r
+      on (freed N' free') h = within-both (put-within N n l ln) h
 
-      go : (t u : Bool) → FreedIn N (cond t (freed M free) (cond u (freed M free) (freed (freeChild M cap s n free) (n + 1))))
-      go true u = put
-      go false true = put
-      go false false = within-both put (free-within M s n free ls ln)
+      go : (t : Bool) (r : Freed) → FreedIn M r → FreedIn N (cond t (freed M free) r)
+      go true r h = put-within N n l ln
+      go false r h = on r h
 
 -- ---- both tables
 abbrev pub GoneIn : ℕ → ℕ → ℕ → List ℕ → List ℕ → Gone → Type 0
 GoneIn cap lo hi N P (gone N' P' r) = Both cap lo hi N P N' P'
 
 module _ (cap lo hi pcap base p : ℕ) (low : lo ≤ base) (high : base + pcap ≤ hi) where
-  at-within : (N P : List ℕ) (n s k free : ℕ) → n < cap → s < nodeWords cap → GoneIn cap lo hi N P (removeAt N P cap pcap base n s k p free)
+  at-within : (N P : List ℕ) (way : ℕ → Passed) (n s k free : ℕ) → n < cap → s < nodeWords cap → InTable cap way k → GoneIn cap lo hi N P (removeAt N P cap pcap base way n s k p free)
   unfolding removeAt
-  at-within N P n s k free ln ls =
+  at-within N P way n s k free ln ls w =
       go (takePage P pcap base (firstOf (kindOf N cap n)) p) (take-within lo hi pcap base p low high P (firstOf (kindOf N cap n)))
     where
       left : (P' : List ℕ) (x : Freed) → FreedIn cap N x → Within lo hi P P' → GoneIn cap lo hi N P (goneTo P' x)
       left P' (freed N' free') h g = (h, g)
 
-      go : (t : Took) → TookIn lo hi pcap base p low high P t → GoneIn cap lo hi N P (removeTaken N cap n s k free t)
-      go (took P' (First l)) h = left P' (setFirst N cap n s k l free) (first-within cap N n s k l free ln ls) h
+      go : (t : Took) → TookIn lo hi pcap base p low high P t → GoneIn cap lo hi N P (removeTaken N cap way n s k free t)
+      go (took P' (First l)) h = left P' (setFirst N cap way n s k l free) (first-within cap way N n s k l free ln ls w) h
       go (took P' taken.Inside) h = (within-none, h)
       go (took P' taken.Missing) h = (within-none, h)
       go (took P' taken.Broken) h = (within-none, h)
@@ -113,8 +140,8 @@ module _ (cap lo hi pcap base p : ℕ) (low : lo ≤ base) (high : base + pcap �
   unfolding removePage
   page-within N P Y root free lr o = go (descendTo N cap root Y) (descend-inside N cap Y o root lr)
     where
-      go : (r : Reach) → ReachInside cap (length Y) r → GoneIn cap lo hi N P (removeReached N P cap pcap base p free r)
-      go (Leaf n s k) h = at-within N P n s k free (h .0) (h .1)
+      go : (r : Reach) → ReachInside cap (length Y) r → GoneIn cap lo hi N P (removeReached N P cap pcap base (passedAt N cap root Y) p free r)
+      go (Leaf n s k) h = at-within N P (passedAt N cap root Y) n s k free (h .0) (h .1) (λ j l. passed-inside N cap root Y lr o j)
       go (Gap n s k) h = (within-none, within-none)
       go reach.Broken h = (within-none, within-none)
 

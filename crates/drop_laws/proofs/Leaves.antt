@@ -15,7 +15,6 @@ use Rattle.children.specs.Heap.{Cells, Heap, page, _⊕_}
 use Rattle.children.specs.Phys.{Phys, root, tree, first, cells, freeCells, Below, State}
 use Rattle.children.proofs.Frame.{Less, less, nodes-kept, pages-kept}
 use Rattle.trie_laws.specs.Block.{SoundBlock, EachFrom}
-use Rattle.trie_laws.proofs.Nodes.{remove-nodes}
 use Rattle.trie_laws.proofs.Pages.{stands-any}
 use Rattle.trie.proofs.Arrival.{Leads, sound-leads}
 use Rattle.blocks.specs.Tables.{Roomy}
@@ -121,5 +120,5 @@ module _ (s : Settings) (S : List ℕ) (p : ℕ) (inside : p * s .symbols + s .s
         chain = E .chain;
         below = E .below;
         left = λ i. A .removed i ∷ E .left i;
-        count = omega (arith, A .count, E .count, ap nodes (A .removed), remove-nodes (bytes j) 0 p (tree t));
+        count = omega (arith, A .count, E .count);
       }

@@ -13,7 +13,6 @@ use lib.Seq.{getD-set-same}
 use Rattle.meaning.specs.Trie.{Tree}
 use Rattle.meaning.specs.Ledger.{Settings, drop}
 use Rattle.meaning.specs.Forest.{bytesOfSketch, bytesIn, eachFrom, forestAfter, totalNodes}
-use Rattle.meaning.proofs.Lists.{and-first}
 use Rattle.layout.specs.Settings.{freeAt, settingsOf}
 use Rattle.layout.specs.Lengths.{pagesLength}
 use Rattle.layout.specs.Pages.{isLive, signatureAt, rowOf, withoutPage, linksAt}
@@ -33,6 +32,7 @@ use Rattle.trie_remove.specs.declared.Removed.the-variants.{Done}
 use Rattle.trie_remove.specs.Remove.{gone}
 use Rattle.promises.specs.Tables.{Tables, given, pageClass, pageRow, rowsOf}
 use Rattle.promises.specs.Sound.{triesCells, livePage, pageBytes, SoundPage, Sound}
+use Rattle.promises.proofs.Stores.{live-below}
 use Rattle.store.specs.Within.{Within}
 use Rattle.store.proofs.Claims.{free-none, tries-behind}
 use Rattle.store.proofs.Cells.{beside-none}
@@ -116,7 +116,7 @@ module _ (T : Tables) (p : ℕ) (a : Admitted T p) (N P : List ℕ) (free : ℕ)
   page-sound : (q : ℕ) → livePage T q ≡ true → q ≢ p → SoundPage T q → SoundPage T' q
   unfolding pageRow livePage
   page-sound q h d g =
-      let below : q < given T .pages = ltb-true q (given T .pages) (and-first (ltb q (given T .pages)) (isLive (T .pages) q) h) in
+      let below : q < given T .pages = live-below T q h in
       record {
         class = rw (class-same q below d) (g .class);
         symbols = rw given-same (unfold pageRow in (g .symbols));

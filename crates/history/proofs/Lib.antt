@@ -10,6 +10,7 @@ pub mod Store
 pub mod Numbers
 pub mod Keeps
 pub mod Blank
+pub mod Pruned
 pub mod Main
 pub mod Foreign
 pub mod Example

@@ -6,8 +6,9 @@ use mathlib.Core.List.{List, [], _∷_, map}
 use Prim.Native.Nat.{ℕ, zero, suc, _+_, _≤_, _<_}
 use native.Mathlib.Omega.{arith}
 use lib.Dec.{ltb, eqb}
+use lib.ListN.{length}
 use borrow.Author.Tests.{ltb-true, lt-ltb, le-ltb, eqb-true, eqb-false, eq-eqb, ne-eqb}
-use Rattle.meaning.specs.Lists.{all, any, keep, from}
+use Rattle.meaning.specs.Lists.{all, any, count, keep, from}
 use Rattle.meaning.specs.Ledger.{Row, putRow}
 use Rattle.meaning.proofs.Lists.{and-first, and-second}
 use Rattle.promises.specs.Tables.{rowsFrom}
@@ -87,6 +88,19 @@ dead h k (suc n) = dead h (suc k) n
 
 pub rows-none : (l : ℕ → Bool) (h : ℕ → Row) (n : ℕ) → ((i : ℕ) → i < n → l i ≡ false) → rowsFrom l h 0 n ≡ []
 rows-none l h n a = rows-upto l (λ i. false) h h n a (λ i x e. refl) ∙ dead h 0 n
+
+-- as many as there are live pages
+pub rows-length : (l : ℕ → Bool) (h : ℕ → Row) (k n : ℕ) → length (rowsFrom l h k n) ≡ count l (from k n)
+unfolding rowsFrom from count
+rows-length l h k zero = refl
+rows-length l h k (suc n) = go (l k) (rows-length l h (suc k) n)
+  where
+    rest : List Row
+    rest = rowsFrom l h (suc k) n
+
+    go : (t : Bool) → length rest ≡ count l (from (suc k) n) → length (cond t (h k ∷ rest) rest) ≡ cond t 1 0 + count l (from (suc k) n)
+    go true e = omega (arith, e)
+    go false e = omega (arith, e)
 
 -- each row has its own page number
 module _ (l : ℕ → Bool) (h : ℕ → Row) (own : (i : ℕ) → h i .page ≡ i) where

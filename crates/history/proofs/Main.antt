@@ -13,7 +13,9 @@ use Rattle.meaning.specs.Refusal.{firstNo}
 use Rattle.meaning.specs.Questions.{asked}
 use Rattle.meaning.specs.Trie.{Tree}
 use Rattle.meaning.specs.Ledger.{Ledger, Event, search, show, check, reading, accept, step, unopened, ledger, calledFor, listed}
-use Rattle.meaning.specs.Forest.{forest, forestAfter}
+use Rattle.meaning.specs.Forest.{forest, forestAfter, totalNodes}
+use Rattle.trie_laws.proofs.Forest.{total-fresh}
+use Rattle.trie_laws.proofs.Pruned.{forest-pruned}
 use Rattle.promises.specs.Tables.{Tables, pageRow, scan}
 use Rattle.promises.specs.Answers.{entered}
 use Rattle.promises.specs.Readings.{rowShown, earlyNumber}
@@ -27,6 +29,7 @@ use Rattle.history.proofs.Searches.{agreed as agreed-in}
 use Rattle.history.proofs.Numbers.{Shows, numbers}
 use Rattle.history.proofs.Keeps.{begins, zeros-left, goes-on}
 use Rattle.history.proofs.Blank.{NoneBlank, still-none}
+use Rattle.history.proofs.Pruned.{few, without-pages}
 
 -- after every history the tables show the ledger, and the store is sound with the tries of demand 2
 pub represents : {es : List Event} {T : Tables} → History es T → Shows T (ledger es) (forest es)
@@ -72,6 +75,9 @@ theorem {es} {T} h = record {
   searched = λ reader radius x o a T′ p. p .0 .working-left ∙ zeros-left T L F W (search reader radius x o);
   checked = λ a T′ p. p .0 .working-left ∙ zeros-left T L F W check;
   none-blank = unblank h;
+  all-pruned = forest-pruned es;
+  few-nodes = few T L F W (forest-pruned es);
+  emptied = without-pages T L F W (forest-pruned es);
   sound = W .store;
 }
   where
@@ -83,6 +89,11 @@ theorem {es} {T} h = record {
 
     W : Shows T L F
     W = represents h
+
+-- ---- without pages
+-- a store from which every page was dropped has as many nodes as blocks
+pub nodes-without-pages : {es : List Event} {T : Tables} → History es T → ledger es .rows ≡ [] → totalNodes (forest es) ≡ ledger es .settings .blocks
+nodes-without-pages {es} h e = ap totalNodes (theorem h .emptied e) ∙ total-fresh (ledger es .settings .blocks)
 
 -- ---- two histories that agree
 

@@ -1,15 +1,16 @@
 -- Histories of calls, and the claim about them (demand 3; document 01, "The ledger").
 use mathlib.Core.Path.{_≡_}
-use Prim.Native.Nat.{ℕ, _≤_, _<_}
+use Prim.Native.Nat.{ℕ, _+_, _*_, _≤_, _<_}
 use mathlib.Core.Bool.{Bool, true, cond, _&&_, not}
 use mathlib.Core.List.{List, [], _∷_, _++_}
 use lib.Dec.{ltb, leb, eqb}
-use lib.ListN.{length, replicate}
+use lib.ListN.{length, getD, replicate}
 use Rattle.meaning.specs.Lists.{all, any, onto}
 use Rattle.meaning.specs.Refusal.{Question, firstNo}
 use Rattle.meaning.specs.Sketch.{inRange, blank}
-use Rattle.meaning.specs.Trie.{Tree}
+use Rattle.meaning.specs.Trie.{Tree, fresh, nodes, pruned}
 use Rattle.meaning.specs.Ledger.{Settings, Row, Ledger, Event, search, show, check, Call, opening, reading, ifOpening, calledFor, listed}
+use Rattle.meaning.specs.Forest.{blockBytes}
 use Rattle.meaning.specs.Questions.{asked, byLedger}
 use Rattle.layout.specs.Lengths.{workingLength}
 use Rattle.promises.specs.Tables.{Tables}
@@ -88,6 +89,11 @@ pub record Claim (T : Tables) (L : Ledger) (F : List Tree) : Type 0 where
   pub checked : (a : Answer) (T′ : Tables) → Promised (reading check) T a T′ → T′ .working ≡ zeroed L (T .working)
   -- no page is blank: so none is listed or shown
   pub none-blank : all (λ r. not (blank (r .sketch))) (L .rows) ≡ true
+  -- every inner node of the tries has a child; so a trie has at most a node for each byte of each page, and its root
+  pub all-pruned : all pruned F ≡ true
+  pub few-nodes : (j : ℕ) → j < length F → nodes (getD F j fresh) ≤ 1 + length (L .rows) * blockBytes (L .settings) j
+  -- without pages the tries are as after an opening: each is its root
+  pub emptied : L .rows ≡ [] → F ≡ replicate (L .settings .blocks) fresh
   -- the store is sound, and its tries are those
   pub sound : Sound T F
 

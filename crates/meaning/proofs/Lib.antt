@@ -5,3 +5,4 @@ pub mod Stacks
 pub mod Journal
 pub mod Questions
 pub mod Rights
+pub mod Pruning

@@ -1,7 +1,7 @@
 -- The dynamic filter trie of one block (source document 000, section IV; document 01, "Trees").
 -- Level 0 is the root. Children stand in rising byte, so equal tries are equal values.
 use Prim.Native.Nat.{ℕ, suc, _+_, _-_}
-use mathlib.Core.Bool.{cond, _&&_}
+use mathlib.Core.Bool.{Bool, true, false, cond, _&&_}
 use mathlib.Core.List.{List, [], _∷_, _++_}
 use lib.Dec.{ltb, leb, eqb}
 use lib.ListN.{length, getD}
@@ -18,6 +18,21 @@ mutual
   pub data Children : Type 0 where
     none : Children
     child : ℕ → Tree → Children → Children
+
+-- at least one child
+unfoldable pub hasChild : Children → Bool
+hasChild none = false
+hasChild (child c t cs) = true
+
+unfoldable mutual
+  -- every inner node has a child
+  pub pruned : Tree → Bool
+  pruned (leaf ps) = true
+  pruned (inner cs) = hasChild cs && prunedIn cs
+
+  pub prunedIn : Children → Bool
+  prunedIn none = true
+  prunedIn (child c t cs) = pruned t && prunedIn cs
 
 -- a fresh trie
 unfoldable pub fresh : Tree
@@ -46,6 +61,12 @@ prune c (leaf []) cs = cs
 prune c (leaf (p ∷ ps)) cs = child c (leaf (p ∷ ps)) cs
 prune c (inner ds) cs = child c (inner ds) cs
 
+-- an inner node that had the children cs and has ds: with its last child gone it is an empty leaf (document 02, F-2)
+unfoldable pub shrunk : Children → Children → Tree
+shrunk none ds = inner ds
+shrunk (child c t cs) none = leaf []
+shrunk (child c t cs) (child d u ds) = inner (child d u ds)
+
 -- Over the packed bytes of each page in this block.
 module _ (bytesOf : ℕ → List ℕ) where
   -- the byte of a page at level k
@@ -58,10 +79,11 @@ module _ (bytesOf : ℕ → List ℕ) where
   split k (p ∷ ps) cs = split k ps (putLeaf (byteAt k p) p cs)
 
   unfoldable mutual
-    -- a page taken out of the trie of a node at level k; an emptied leaf that is not the root goes
+    -- a page taken out of the trie of a node at level k: an emptied leaf that is not the root goes, and then each inner node that loses its
+    -- last child by this; a root so emptied is a leaf
     pub remove : ℕ → ℕ → Tree → Tree
     remove k p (leaf ps) = leaf (without p ps)
-    remove k p (inner cs) = inner (removeIn k p cs)
+    remove k p (inner cs) = shrunk cs (removeIn k p cs)
 
     pub removeIn : ℕ → ℕ → Children → Children
     removeIn k p none = none

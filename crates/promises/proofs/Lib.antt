@@ -1,3 +1,4 @@
 pub mod Numbers
 pub mod Readings
 pub mod Kept
+pub mod Stores

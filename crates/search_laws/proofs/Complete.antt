@@ -2,11 +2,11 @@
 use Prim.Native.Nat.{ℕ, _≤_, _<_}
 use native.Mathlib.Omega.{arith}
 use native.Mathlib.Nat.{zero-add}
-use mathlib.Core.Path.{_≡_, refl, sym, ap, _∙_}
+use mathlib.Core.Path.{_≡_, refl, _∙_}
 use mathlib.Core.Bool.{true}
 use mathlib.Core.List.{List}
 use lib.Dec.{ltb, leb, eqb}
-use lib.ListN.{length, getD, length-map}
+use lib.ListN.{length, getD}
 use borrow.Author.Tests.{lt-ltb, leb-true}
 use Rattle.meaning.specs.Lists.{any}
 use Rattle.meaning.specs.Sketch.{distance, inRange, blockLength}
@@ -20,7 +20,6 @@ use Rattle.layout.proofs.Rows.{row-inside, length-row}
 use Rattle.rights.specs.Register.{opens}
 use Rattle.sketch_laws.proofs.Walk.{met-somewhere}
 use Rattle.meaning.specs.Trie.{pagesIn as pagesUpon}
-use Rattle.children.specs.Phys.{tree}
 use Rattle.meaning.proofs.Lists.{and-first, and-second, and-intro}
 use Rattle.trie_laws.specs.Block.{SoundBlock}
 use Rattle.trie_laws.proofs.Block.{each-get}
@@ -28,15 +27,12 @@ use Rattle.trie_laws.proofs.Pages.{stands-any}
 use Rattle.promises.specs.Tables.{Tables, given, pageClass, pageRow, isShown}
 use Rattle.hits.proofs.Wanted.{wanted}
 use Rattle.promises.specs.Sound.{Sound, livePage, pageBytes}
+use Rattle.promises.proofs.Stores.{tries-count}
 use Rattle.search_laws.proofs.Paths.{sound-path, sound-shallow}
 use Rattle.search_laws.proofs.Meets.{met-from}
 
 module _ (T : Tables) (F : List Tree) (sound : Sound T F) (limits : HeaderLimits (headerOf (given T)))
     (long : sketchesLength (given T) ≤ length (T .sketches)) where
-  -- as many tries as blocks
-  pub tries-count : length F ≡ given T .blocks
-  tries-count = ap length (sym (sound .forest)) ∙ length-map (sound .tries) tree ∙ sound .holding .blocks
-
   -- the trie of block j
   trie : ℕ → Tree
   trie j = getD F j fresh
@@ -44,7 +40,7 @@ module _ (T : Tables) (F : List Tree) (sound : Sound T F) (limits : HeaderLimits
   block-sound : (j : ℕ) → j < given T .blocks → SoundBlock (given T) (pageBytes T) (livePage T) j (trie j)
   unfolding trie
   block-sound j l =
-      rw (zero-add j) at (each-get (SoundBlock (given T) (pageBytes T) (livePage T)) 0 F j fresh (omega (arith, tries-count)) (sound .blocks))
+      rw (zero-add j) at (each-get (SoundBlock (given T) (pageBytes T) (livePage T)) 0 F j fresh (omega (arith, tries-count T F sound)) (sound .blocks))
 
   module _ (reader radius : ℕ) (x : List ℕ) (count : length x ≡ given T .symbols) (range : inRange (given T .bits) x ≡ true)
       (p : ℕ) (page : p < given T .pages) (w : wanted T reader radius x p ≡ true) where
@@ -77,4 +73,4 @@ module _ (T : Tables) (F : List Tree) (sound : Sound T F) (limits : HeaderLimits
         (λ j l. sound-path (pageBytes T j) b (blockLength m q j) (blockBytes (given T) j) (trie j) 0 (block-sound j l .sound))
         (λ j l. sound-shallow (pageBytes T j) b (blockLength m q j) (blockBytes (given T) j) (trie j) 0 (block-sound j l .sound))
         in-trie near in
-        met-from (given T) radius x p F 0 (at .0) fresh (omega (arith, at .1, tries-count)) (rw (zero-add (at .0)) (at .2))
+        met-from (given T) radius x p F 0 (at .0) fresh (omega (arith, at .1, tries-count T F sound)) (rw (zero-add (at .0)) (at .2))

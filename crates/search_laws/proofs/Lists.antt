@@ -1,21 +1,20 @@
 -- What a search lists: on any tables pages that it met and that it is to list, on a sound store all that it is to list.
-use Prim.Native.Nat.{ℕ, _<_}
+use Prim.Native.Nat.{ℕ}
 use native.Mathlib.Omega.{arith}
 use mathlib.Core.Path.{_≡_, refl, sym, ap, _∙_, subst}
 use mathlib.Core.Bool.{Bool, true, false, _&&_, and-assoc}
 use mathlib.Core.List.{List}
-use lib.Dec.{ltb, eqb}
-use borrow.Author.Tests.{ltb-true}
+use lib.Dec.{eqb}
 use Rattle.meaning.specs.Lists.{any, upto}
 use Rattle.meaning.specs.Sketch.{inRange}
 use Rattle.meaning.specs.Trie.{Tree}
 use Rattle.meaning.specs.Forest.{metFrom, totalNodes}
-use Rattle.meaning.proofs.Lists.{and-first, keep-from}
+use Rattle.meaning.proofs.Lists.{keep-from}
 use Rattle.layout.specs.Lengths.{sketchesLength}
-use Rattle.layout.specs.Pages.{isLive}
 use Rattle.promises.specs.Tables.{Tables, given, scan}
 use Rattle.promises.specs.Sound.{Sound, livePage, pageBytes}
 use Rattle.promises.specs.Readings.{listedOf}
+use Rattle.promises.proofs.Stores.{live-below}
 use Rattle.hits.specs.Hit.{Fitting, testOf, nearQuery, passes}
 use Rattle.hits.proofs.Wanted.{wanted, passes-wanted, passes-sound}
 use Rattle.search_laws.specs.Answer.{passing, meets}
@@ -49,12 +48,9 @@ module _ (T : Tables) (reader radius : ℕ) (x : List ℕ) where
     pub walks-whole : Whole (meets T reader radius x) met-all (given T .nodes) (totalNodes F)
     walks-whole =
         subst (λ G. Whole (meets T reader radius x) (metFrom (given T) radius x 0 G) (given T .nodes) (totalNodes G)) (sound .forest)
-        (blocks-right (given T) (fit .limits) (T .nodes) (T .pages) x (fit .query) range (pageBytes T) (livePage T) below radius (sound .tries)
+        (blocks-right (given T) (fit .limits) (T .nodes) (T .pages) x (fit .query) range (pageBytes T) (livePage T) (live-below T) radius (sound .tries)
         (sound .holding .blocks) (sound .holding .words .holds .0) (sound .holding .roots)
         (rw (sound .forest) (sound .blocks)) (omega (arith, sound .holding .all)))
-      where
-        below : (p : ℕ) → livePage T p ≡ true → p < given T .pages
-        below p e = ltb-true p (given T .pages) (and-first (ltb p (given T .pages)) (isLive (T .pages) p) (unfold livePage in e))
 
     pub list-all : foundIn met-all ≡ scan T reader radius x
     unfolding passing scan upto sketchesLength

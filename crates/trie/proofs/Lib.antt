@@ -5,6 +5,7 @@ pub mod Fresh
 pub mod Spans
 pub mod Descends
 pub mod Inside
+pub mod Notes
 pub mod Paths
 pub mod Way
 pub mod Arrival

@@ -7,9 +7,9 @@ use lib.Dec.{eqb}
 use lib.ListN.{getD}
 use borrow.Author.Tests.{eqb-true, eq-eqb}
 use Rattle.meaning.specs.Lists.{all, any}
-use Rattle.meaning.specs.Trie.{Tree, leaf, inner, Children, none, child, putLeaf, byteAt, split, remove, removeIn, addLeaf, insert, insertIn, pagesIn, pagesAmong}
+use Rattle.meaning.specs.Trie.{Tree, leaf, inner, Children, none, child, putLeaf, shrunk, byteAt, split, remove, removeIn, addLeaf, insert, insertIn, pagesIn, pagesAmong}
 use Rattle.trie_laws.specs.Sound.{Agree, soundTrie, soundFrom}
-use Rattle.trie_laws.specs.Needed.{distinct, splitNodes, needed, neededIn, frees, freesIn}
+use Rattle.trie_laws.specs.Needed.{distinct, splitNodes, needed, neededIn}
 use Rattle.meaning.proofs.Lists.{or-first, or-second, any-append}
 use Rattle.trie_laws.proofs.Lists.{holds, fails, truth, all-agree}
 
@@ -50,22 +50,11 @@ module _ (f g : ℕ → List ℕ) where
 
     pub remove-agree : (k p : ℕ) (t : Tree) → f p ≡ g p → remove f k p t ≡ remove g k p t
     remove-agree k p (leaf ps) e = refl
-    remove-agree k p (inner cs) e = ap inner (removeIn-agree k p cs e)
+    remove-agree k p (inner cs) e = ap (shrunk cs) (removeIn-agree k p cs e)
 
     pub removeIn-agree : (k p : ℕ) (cs : Children) → f p ≡ g p → removeIn f k p cs ≡ removeIn g k p cs
     removeIn-agree k p none e = refl
     removeIn-agree k p (child c t cs) e = rw (byte-agree k p e, remove-agree (suc k) p t e, removeIn-agree k p cs e) refl
-
-  mutual
-    unfolding frees
-
-    pub frees-agree : (k p : ℕ) (t : Tree) → f p ≡ g p → frees f k p t ≡ frees g k p t
-    frees-agree k p (leaf ps) e = refl
-    frees-agree k p (inner cs) e = freesIn-agree k p cs e
-
-    pub freesIn-agree : (k p : ℕ) (cs : Children) → f p ≡ g p → freesIn f k p cs ≡ freesIn g k p cs
-    freesIn-agree k p none e = refl
-    freesIn-agree k p (child c t cs) e = rw (byte-agree k p e, remove-agree (suc k) p t e, frees-agree (suc k) p t e, freesIn-agree k p cs e) refl
 
   -- ---- an insertion
   pub split-agree : (k : ℕ) (ps : List ℕ) (cs : Children) → Agree f g ps → split f k ps cs ≡ split g k ps cs

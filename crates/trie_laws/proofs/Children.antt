@@ -7,9 +7,9 @@ use mathlib.Core.List.{List, [], _∷_}
 use lib.Dec.{ltb, eqb}
 use borrow.Author.Tests.{eqb-true, le-ltb, eq-eqb}
 use Rattle.meaning.specs.Lists.{count}
-use Rattle.meaning.specs.Trie.{Tree, leaf, inner, Children, none, child, push, putLeaf, prune, byteAt, remove, removeIn, addLeaf, insert, insertIn, nodes, nodesIn, pagesIn, pagesAmong}
+use Rattle.meaning.specs.Trie.{Tree, leaf, inner, Children, none, child, push, putLeaf, prune, shrunk, byteAt, remove, removeIn, addLeaf, insert, insertIn, nodes, nodesIn, pagesIn, pagesAmong}
 use Rattle.trie_laws.specs.Sound.{filled, soundFrom}
-use Rattle.trie_laws.specs.Needed.{splitNodes, needed, neededIn, frees, freesIn}
+use Rattle.trie_laws.specs.Needed.{splitNodes, needed, neededIn}
 use Rattle.trie_laws.specs.Path.{has, childBy, setChild, dropChild, putChild, pruneChild}
 use Rattle.meaning.proofs.Lists.{count-append}
 use Rattle.trie_laws.proofs.Lists.{less, same, more, compared, holds, fails, truth}
@@ -86,6 +86,15 @@ module _ (b : ℕ) (u : Tree) where
     | holds e ↦ simp e (ap (child c t) (drop-put cs))
     | fails e ↦ simp (e, irreflexive b) refl
   ]
+
+-- with a child changed an inner node stays inner
+pub shrunk-set : (b : ℕ) (u : Tree) (cs : Children) → shrunk cs (setChild b u cs) ≡ inner (setChild b u cs)
+unfolding shrunk setChild
+shrunk-set b u none = refl
+shrunk-set b u (child c t cs) = elim (truth (ltb c b)) [
+  | holds e ↦ simp e refl
+  | fails e ↦ simp e refl
+]
 
 pub set-same : (b : ℕ) (cs : Children) → setChild b (childBy b cs) cs ≡ cs
 unfolding childBy setChild
@@ -200,6 +209,11 @@ module _ (bytesOf : ℕ → List ℕ) (len : ℕ) (thresholds : List ℕ) (k p :
       insertIn bytesOf len thresholds k p cs ≡ setChild (byteAt bytesOf k p) (insert bytesOf len thresholds (suc k) p (childBy (byteAt bytesOf k p) cs)) cs
   insert-there cs h = insert-alter cs ∙ alter-there (byteAt bytesOf k p) (addLeaf bytesOf len thresholds (suc k) p []) (insert bytesOf len thresholds (suc k) p) cs h
 
+  -- where it is missing it is made
+  pub insert-gap : (cs : Children) → has (byteAt bytesOf k p) cs ≡ false →
+      insertIn bytesOf len thresholds k p cs ≡ putChild (byteAt bytesOf k p) (addLeaf bytesOf len thresholds (suc k) p []) cs
+  insert-gap cs h = insert-alter cs ∙ alter-gap (byteAt bytesOf k p) (addLeaf bytesOf len thresholds (suc k) p []) (insert bytesOf len thresholds (suc k) p) cs h
+
   pub needed-there : (cs : Children) → has (byteAt bytesOf k p) cs ≡ true →
       neededIn bytesOf len thresholds k p cs ≡ needed bytesOf len thresholds (suc k) p (childBy (byteAt bytesOf k p) cs)
   unfolding needed has childBy
@@ -235,6 +249,17 @@ prune-behind y c t u cs l = rw l (go (filled u))
     go true = refl
     go false = refl
 
+-- an inner node that has lost a child: with another one it stays, else it is an empty leaf
+pub shrunk-some : (cs : Children) (d : ℕ) (u : Tree) (ds : Children) → shrunk cs (child d u ds) ≡ inner (child d u ds)
+unfolding shrunk
+shrunk-some none d u ds = refl
+shrunk-some (child c t cs) d u ds = refl
+
+pub shrunk-last : (b : ℕ) (cs : Children) → has b cs ≡ true → shrunk cs none ≡ leaf []
+unfolding has shrunk
+shrunk-last b none h = absurd (false≢true h)
+shrunk-last b (child c t cs) h = refl
+
 pub remove-there : (bytesOf : ℕ → List ℕ) (k p : ℕ) (cs : Children) → has (byteAt bytesOf k p) cs ≡ true →
     removeIn bytesOf k p cs ≡ pruneChild (byteAt bytesOf k p) (remove bytesOf (suc k) p (childBy (byteAt bytesOf k p) cs)) cs
 unfolding remove has childBy
@@ -248,14 +273,3 @@ remove-there bytesOf k p (child c t cs) h =
           rw (s .eq, s .gt)
           (ap (child c t) (remove-there bytesOf k p cs (rw (s .gt) at h)) ∙ prune-behind y c t (remove bytesOf (suc k) p (childBy y cs)) cs (s .gt))
     ]
-
-pub frees-there : (bytesOf : ℕ → List ℕ) (k p : ℕ) (cs : Children) → has (byteAt bytesOf k p) cs ≡ true →
-    freesIn bytesOf k p cs ≡
-    cond (filled (remove bytesOf (suc k) p (childBy (byteAt bytesOf k p) cs))) (frees bytesOf (suc k) p (childBy (byteAt bytesOf k p) cs)) true
-unfolding frees has childBy
-frees-there bytesOf k p none h = absurd (false≢true h)
-frees-there bytesOf k p (child c t cs) h = elim (compared (byteAt bytesOf k p) c) [
-  | less l s ↦ absurd (true≢false (sym h ∙ rw (s .gt, s .qe) refl))
-  | same l s ↦ rw (s .eq, s .gt) refl
-  | more l s ↦ rw (s .eq, s .gt) (frees-there bytesOf k p cs (rw (s .gt) at h))
-]

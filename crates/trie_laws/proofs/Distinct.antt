@@ -52,14 +52,10 @@ distinct-once s (x ∷ xs) h =
       | fails e ↦ rw e (omega (arith, rw e at h))
     ]
 
--- one page has one byte, and each list of pages has a byte
+-- one page has one byte
 pub distinct-one : (bytesOf : ℕ → List ℕ) (k p : ℕ) → distinct bytesOf k (p ∷ []) ≡ 1
 unfolding distinct distinctFrom
 distinct-one bytesOf k p = refl
-
-pub distinct-some : (bytesOf : ℕ → List ℕ) (k p : ℕ) (ps : List ℕ) → 0 < distinct bytesOf k (p ∷ ps)
-unfolding distinct distinctFrom
-distinct-some bytesOf k p ps = omega arith
 
 -- ---- the bytes below m that occur, counted one by one
 count-split : (f g h : ℕ → Bool) (xs : List ℕ) → ((y : ℕ) → cond (f y) 1 0 ≡ cond (g y) 1 0 + cond (h y) 1 0) → count f xs ≡ count g xs + count h xs

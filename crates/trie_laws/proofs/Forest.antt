@@ -49,8 +49,8 @@ module _ (bytes : ℕ → ℕ → List ℕ) (p : ℕ) where
       (λ i t. insert-nodes (bytes i) (lens i) thresholds 0 p t)
 
   pub total-remove : (j : ℕ) (F : List Tree) →
-      totalNodes (eachFrom (λ i. remove (bytes i) 0 p) j F) + sumFrom (λ i t. cond (frees (bytes i) 0 p t) 1 0) j F ≡ totalNodes F
-  total-remove = each-less (λ i. remove (bytes i) 0 p) (λ i t. cond (frees (bytes i) 0 p t) 1 0) (λ i t. remove-nodes (bytes i) 0 p t)
+      totalNodes (eachFrom (λ i. remove (bytes i) 0 p) j F) + sumFrom (λ i. frees (bytes i) 0 p) j F ≡ totalNodes F
+  total-remove = each-less (λ i. remove (bytes i) 0 p) (λ i. frees (bytes i) 0 p) (λ i t. remove-nodes (bytes i) 0 p t)
 
 pub total-fresh : (q : ℕ) → totalNodes (replicate q fresh) ≡ q
 unfolding totalNodes sum fresh nodes
@@ -65,7 +65,7 @@ unfolding forestAfter
 total-add s rows p c x F = total-insert (bytesIn s (putRow (row p c x) rows)) p (blockBytes s) (s .thresholds) 0 F
 
 pub total-drop : (s : Settings) (rows : List Row) (p : ℕ) (F : List Tree) →
-    totalNodes (forestAfter s rows (drop p) F) + sumFrom (λ j t. cond (frees (bytesIn s rows j) 0 p t) 1 0) 0 F ≡ totalNodes F
+    totalNodes (forestAfter s rows (drop p) F) + sumFrom (λ j. frees (bytesIn s rows j) 0 p) 0 F ≡ totalNodes F
 unfolding forestAfter
 total-drop s rows p F = total-remove (bytesIn s rows) p 0 F
 

@@ -9,7 +9,7 @@ use lib.ListN.{length}
 use borrow.Author.Tests.{eq-eqb}
 use Rattle.meaning.specs.Lists.{all}
 use Rattle.meaning.specs.Sketch.{packedLength, packable, allPackable}
-use Rattle.meaning.specs.Trie.{Tree, leaf, inner, Children, none, child, fresh, push, putLeaf, prune, byteAt, split, remove, removeIn, addLeaf, insert, insertIn, pagesIn, pagesAmong}
+use Rattle.meaning.specs.Trie.{Tree, leaf, inner, Children, none, child, fresh, push, putLeaf, prune, shrunk, byteAt, split, remove, removeIn, addLeaf, insert, insertIn, pagesIn, pagesAmong}
 use Rattle.trie_laws.specs.Sound.{filled, packs, soundTrie, soundFrom}
 use Rattle.trie_laws.specs.Needed.{splits}
 use Rattle.meaning.proofs.Lists.{and-intro, and-first, and-second, or-second, all-append, upto-all}
@@ -171,6 +171,12 @@ module _ (bytesOf : ℕ → List ℕ) (b n len : ℕ) where
       let s = child-parts bytesOf b n len k lo c t cs h in
       sound-instead bytesOf b n len k lo c t cs h (inner ds) (record { packing = s .here .packing; full = refl; path = a; sub = g })
 
+  shrunk-sound : (k : ℕ) (cs ds : Children) → k < len → soundFrom bytesOf b n len k 0 ds ≡ true → soundTrie bytesOf b n len k (shrunk cs ds) ≡ true
+  unfolding shrunk soundTrie
+  shrunk-sound k none ds l h = inner-whole bytesOf b n len k ds (record { level = l; childrenB = h })
+  shrunk-sound k (child c t cs) none l h = refl
+  shrunk-sound k (child c t cs) (child d u ds) l h = inner-whole bytesOf b n len k (child d u ds) (record { level = l; childrenB = h })
+
   mutual
     unfolding remove soundTrie
 
@@ -178,7 +184,7 @@ module _ (bytesOf : ℕ → List ℕ) (b n len : ℕ) where
     remove-sound k p (leaf ps) h = refl
     remove-sound k p (inner cs) h =
         let s = inner-parts bytesOf b n len k cs h in
-        inner-whole bytesOf b n len k (removeIn bytesOf k p cs) (record { level = s .level; childrenB = removeIn-sound k p 0 cs (s .childrenB) })
+        shrunk-sound k cs (removeIn bytesOf k p cs) (s .level) (removeIn-sound k p 0 cs (s .childrenB))
 
     pub removeIn-sound : (k p lo : ℕ) (cs : Children) → soundFrom bytesOf b n len k lo cs ≡ true → soundFrom bytesOf b n len k lo (removeIn bytesOf k p cs) ≡ true
     removeIn-sound k p lo none h = refl

@@ -6,11 +6,12 @@ pub mod Sound
 pub mod Pages
 pub mod Keeps
 pub mod Agree
-pub mod Back
 pub mod Children
 pub mod Path
 pub mod Reach
 pub mod Walk
 pub mod Forest
 pub mod Block
+pub mod Pruned
+pub mod Back
 pub mod Example

@@ -7,7 +7,7 @@ use mathlib.Core.List.{List, [], _∷_, map}
 use lib.Dec.{ltb, eqb}
 use lib.ListN.{length, getD}
 use borrow.Author.Tests.{lt-ltb, le-ltb, eq-eqb, ne-eqb}
-use Rattle.meaning.specs.Trie.{Tree, leaf, inner, Children, none, child, without, push, putLeaf, prune, byteAt, split, remove, removeIn, addLeaf, insert, insertIn, nodes, nodesIn}
+use Rattle.meaning.specs.Trie.{Tree, leaf, inner, Children, none, child, push, putLeaf, prune, shrunk, byteAt, split, remove, removeIn, addLeaf, insert, insertIn, nodes, nodesIn}
 use Rattle.trie_laws.specs.Sound.{filled}
 use Rattle.trie_laws.specs.Needed.{distinctFrom, distinct, splits, splitNodes, needed, neededIn, frees, freesIn}
 use Rattle.trie_laws.specs.Path.{has}
@@ -107,29 +107,30 @@ module _ (bytesOf : ℕ → List ℕ) (len : ℕ) (thresholds : List ℕ) where
       go false = refl
 
 -- ---- a removal
-module _ (bytesOf : ℕ → List ℕ) where
-  prune-nodes : (c k p : ℕ) (t : Tree) (cs : Children) →
-      nodesIn (prune c (remove bytesOf k p t) cs) + cond (cond (filled (remove bytesOf k p t)) (frees bytesOf k p t) true) 1 0 ≡
-      nodes (remove bytesOf k p t) + cond (frees bytesOf k p t) 1 0 + nodesIn cs
-  unfolding prune remove nodes filled frees
-  prune-nodes c k p (leaf ps) cs = go (without p ps)
-    where
-      go : (qs : List ℕ) → nodesIn (prune c (leaf qs) cs) + cond (cond (filled (leaf qs)) false true) 1 0 ≡ 1 + 0 + nodesIn cs
-      go [] = omega arith
-      go (q ∷ qs) = omega arith
-  prune-nodes c k p (inner ds) cs = omega arith
+prune-nodes : (c f : ℕ) (t : Tree) (cs : Children) → nodesIn (prune c t cs) + cond (filled t) f (suc f) ≡ nodes t + f + nodesIn cs
+unfolding prune nodes filled
+prune-nodes c f (leaf []) cs = omega arith
+prune-nodes c f (leaf (p ∷ ps)) cs = omega arith
+prune-nodes c f (inner ds) cs = omega arith
 
+shrunk-nodes : (cs ds : Children) → nodes (shrunk cs ds) ≡ suc (nodesIn ds)
+unfolding shrunk nodes
+shrunk-nodes none ds = refl
+shrunk-nodes (child c t cs) none = refl
+shrunk-nodes (child c t cs) (child d u ds) = refl
+
+module _ (bytesOf : ℕ → List ℕ) where
   mutual
     unfolding remove nodes frees
 
-    pub remove-nodes : (k p : ℕ) (t : Tree) → nodes (remove bytesOf k p t) + cond (frees bytesOf k p t) 1 0 ≡ nodes t
+    pub remove-nodes : (k p : ℕ) (t : Tree) → nodes (remove bytesOf k p t) + frees bytesOf k p t ≡ nodes t
     remove-nodes k p (leaf ps) = refl
-    remove-nodes k p (inner cs) = omega (arith, removeIn-nodes k p cs)
+    remove-nodes k p (inner cs) = omega (arith, shrunk-nodes cs (removeIn bytesOf k p cs), removeIn-nodes k p cs)
 
-    pub removeIn-nodes : (k p : ℕ) (cs : Children) → nodesIn (removeIn bytesOf k p cs) + cond (freesIn bytesOf k p cs) 1 0 ≡ nodesIn cs
+    pub removeIn-nodes : (k p : ℕ) (cs : Children) → nodesIn (removeIn bytesOf k p cs) + freesIn bytesOf k p cs ≡ nodesIn cs
     removeIn-nodes k p none = refl
     removeIn-nodes k p (child c t cs) = elim (compared (byteAt bytesOf k p) c) [
       | less l s ↦ rw (s .eq) (omega (arith, removeIn-nodes k p cs))
-      | same l s ↦ rw (s .eq) (omega (arith, prune-nodes c (suc k) p t cs, remove-nodes (suc k) p t))
+      | same l s ↦ rw (s .eq) (omega (arith, prune-nodes c (frees bytesOf (suc k) p t) (remove bytesOf (suc k) p t) cs, remove-nodes (suc k) p t))
       | more l s ↦ rw (s .eq) (omega (arith, removeIn-nodes k p cs))
     ]

@@ -9,7 +9,7 @@ use lib.Dec.{ltb, eqb}
 use lib.ListN.{length}
 use borrow.Author.Tests.{eqb-true, lt-ltb, ne-eqb}
 use Rattle.meaning.specs.Lists.{all, any, count, upto}
-use Rattle.meaning.specs.Trie.{Tree, leaf, inner, Children, none, child, without, push, putLeaf, prune, byteAt, split, remove, removeIn, addLeaf, insert, insertIn, pagesIn, pagesAmong}
+use Rattle.meaning.specs.Trie.{Tree, leaf, inner, Children, none, child, without, push, putLeaf, prune, shrunk, byteAt, split, remove, removeIn, addLeaf, insert, insertIn, pagesIn, pagesAmong}
 use Rattle.trie_laws.specs.Sound.{soundTrie, soundFrom, Stands, withPage, withoutPage}
 use Rattle.trie_laws.specs.Needed.{splits}
 use Rattle.trie_laws.specs.Path.{isLeaf, leaves}
@@ -110,6 +110,12 @@ module _ (q : ℕ → Bool) (p : ℕ) where
   prune-count c (leaf (x ∷ xs)) cs = count-append q (x ∷ xs) (pagesAmong cs)
   prune-count c (inner ds) cs = count-append q (pagesAmong ds) (pagesAmong cs)
 
+shrunk-pages : (cs ds : Children) → pagesIn (shrunk cs ds) ≡ pagesAmong ds
+unfolding shrunk pagesIn
+shrunk-pages none ds = refl
+shrunk-pages (child c t cs) none = refl
+shrunk-pages (child c t cs) (child d u ds) = refl
+
 -- a page stands nowhere but below its own byte
 pub off-byte : (bytesOf : ℕ → List ℕ) (k p c : ℕ) (xs : List ℕ) →
     all (λ x. eqb (byteAt bytesOf k x) c) xs ≡ true → eqb (byteAt bytesOf k p) c ≡ false → any (eqb p) xs ≡ false
@@ -132,7 +138,8 @@ module _ (bytesOf : ℕ → List ℕ) (b n len : ℕ) where
 
       pub remove-count : (k p : ℕ) (t : Tree) → soundTrie bytesOf b n len k t ≡ true → count q (pagesIn (remove bytesOf k p t)) ≡ count (λ x. not (eqb x p) && q x) (pagesIn t)
       remove-count k p (leaf ps) h = without-count q p ps
-      remove-count k p (inner cs) h = removeIn-count k p 0 cs (inner-parts bytesOf b n len k cs h .childrenB)
+      remove-count k p (inner cs) h =
+          rw (shrunk-pages cs (removeIn bytesOf k p cs)) (removeIn-count k p 0 cs (inner-parts bytesOf b n len k cs h .childrenB))
 
       pub removeIn-count : (k p lo : ℕ) (cs : Children) → soundFrom bytesOf b n len k lo cs ≡ true →
           count q (pagesAmong (removeIn bytesOf k p cs)) ≡ count (λ x. not (eqb x p) && q x) (pagesAmong cs)

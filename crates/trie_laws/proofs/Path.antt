@@ -6,12 +6,12 @@ use mathlib.Core.Path.{_≡_, refl, sym, ap, _∙_}
 use mathlib.Core.Bool.{Bool, true, false, false≢true}
 use mathlib.Core.List.{List, [], _∷_}
 use Rattle.meaning.specs.Lists.{count}
-use Rattle.meaning.specs.Trie.{Tree, leaf, inner, Children, without, byteAt, remove, insert, nodes, pagesIn}
+use Rattle.meaning.specs.Trie.{Tree, leaf, inner, Children, without, shrunk, byteAt, remove, insert, nodes, pagesIn}
 use Rattle.trie_laws.specs.Sound.{filled}
-use Rattle.trie_laws.specs.Needed.{splitNodes, needed, frees}
+use Rattle.trie_laws.specs.Needed.{splitNodes, needed}
 use Rattle.trie_laws.specs.Path.{has, childBy, dropChild, pruneChild, hasBelow, below, setBelow, hasPath, subtree, replace, pathOf}
 use Rattle.meaning.proofs.Lists.{and-first, and-second}
-use Rattle.trie_laws.proofs.Children.{has-set, child-set, set-set, set-same, set-nodes, set-count, insert-there, needed-there, needed-gap, remove-there, frees-there}
+use Rattle.trie_laws.proofs.Children.{has-set, child-set, set-set, set-same, set-nodes, set-count, insert-there, needed-there, needed-gap, remove-there, shrunk-set}
 
 -- ---- one step
 module _ (y : ℕ) (u : Tree) where
@@ -159,7 +159,15 @@ module _ (bytesOf : ℕ → List ℕ) (p : ℕ) where
       remove bytesOf k p t ≡ setBelow (byteAt bytesOf k p) (remove bytesOf (suc k) p (below (byteAt bytesOf k p) t)) t
   unfolding remove hasBelow below setBelow pruneChild
   remove-step k (leaf ps) h f = absurd (false≢true h)
-  remove-step k (inner cs) h f = ap inner (remove-there bytesOf k p cs h ∙ rw f refl)
+  remove-step k (inner cs) h f =
+      let y : ℕ = byteAt bytesOf k p in
+      ap (shrunk cs) (remove-there bytesOf k p cs h ∙ rw f refl) ∙ shrunk-set y (remove bytesOf (suc k) p (childBy y cs)) cs
+
+  -- a child that is left an empty leaf goes
+  pub remove-emptied : (k : ℕ) (cs : Children) → has (byteAt bytesOf k p) cs ≡ true → remove bytesOf (suc k) p (childBy (byteAt bytesOf k p) cs) ≡ leaf [] →
+      remove bytesOf k p (inner cs) ≡ shrunk cs (dropChild (byteAt bytesOf k p) cs)
+  unfolding remove pruneChild filled
+  remove-emptied k cs h e = ap (shrunk cs) (remove-there bytesOf k p cs h ∙ rw e refl)
 
   -- a removal is one at the end of a path of the page's bytes, where no empty leaf is left there
   pub remove-path : (d k : ℕ) (t : Tree) → hasPath (pathOf bytesOf k p d) t ≡ true →
@@ -176,52 +184,14 @@ module _ (bytesOf : ℕ → List ℕ) (p : ℕ) where
       rw (shift k d) (remove-step k t (i .0) (rw e (replace-filled (remove bytesOf (suc k + d) p (subtree ys (below y t))) ys (below y t) (i .1) g))
       ∙ ap (λ (x : Tree). setBelow y x t) e)
 
-  frees-step : (k : ℕ) (t : Tree) → hasBelow (byteAt bytesOf k p) t ≡ true → filled (remove bytesOf (suc k) p (below (byteAt bytesOf k p) t)) ≡ true →
-      frees bytesOf k p t ≡ frees bytesOf (suc k) p (below (byteAt bytesOf k p) t)
-  unfolding frees hasBelow below
-  frees-step k (leaf ps) h f = absurd (false≢true h)
-  frees-step k (inner cs) h f = frees-there bytesOf k p cs h ∙ rw f refl
-
-  pub frees-path : (d k : ℕ) (t : Tree) → hasPath (pathOf bytesOf k p d) t ≡ true →
-      filled (remove bytesOf (k + d) p (subtree (pathOf bytesOf k p d) t)) ≡ true →
-      frees bytesOf k p t ≡ frees bytesOf (k + d) p (subtree (pathOf bytesOf k p d) t)
-  unfolding pathOf subtree
-  frees-path zero k t h f = ap (λ (i : ℕ). frees bytesOf i p t) (sym (add-zero k))
-  frees-path (suc d) k t h f =
-      let y : ℕ = byteAt bytesOf k p in
-      let ys : List ℕ = pathOf bytesOf (suc k) p d in
-      let i = path-parts y ys t h in
-      let g : filled (remove bytesOf (suc k + d) p (subtree ys (below y t))) ≡ true = rw (shift k d) at f in
-      rw (shift k d)
-      (frees-step k t (i .0) (rw (remove-path d (suc k) (below y t) (i .1) g) (replace-filled (remove bytesOf (suc k + d) p (subtree ys (below y t))) ys (below y t) (i .1) g))
-      ∙ frees-path d (suc k) (below y t) (i .1) g)
-
-  -- a leaf there that keeps a page; an inner node there whose child, a leaf, keeps none
+  -- a leaf there that keeps a page; an inner node there that stays inner
   module _ (d k : ℕ) (t : Tree) (h : hasPath (pathOf bytesOf k p d) t ≡ true) where
-    kept : (ps : List ℕ) → subtree (pathOf bytesOf k p d) t ≡ leaf ps → filled (leaf (without p ps)) ≡ true →
-        filled (remove bytesOf (k + d) p (subtree (pathOf bytesOf k p d) t)) ≡ true
-    unfolding remove
-    kept ps e f = rw e f
-
     pub remove-at-leaf : (ps : List ℕ) → subtree (pathOf bytesOf k p d) t ≡ leaf ps → filled (leaf (without p ps)) ≡ true →
         remove bytesOf k p t ≡ replace (pathOf bytesOf k p d) t (leaf (without p ps))
     unfolding remove
-    remove-at-leaf ps e f = remove-path d k t h (kept ps e f) ∙ rw e refl
+    remove-at-leaf ps e f = remove-path d k t h (rw e f) ∙ rw e refl
 
-    pub frees-at-leaf : (ps : List ℕ) → subtree (pathOf bytesOf k p d) t ≡ leaf ps → filled (leaf (without p ps)) ≡ true → frees bytesOf k p t ≡ false
-    unfolding frees
-    frees-at-leaf ps e f = frees-path d k t h (kept ps e f) ∙ rw e refl
-
-    module _ (cs : Children) (ps : List ℕ) (e : subtree (pathOf bytesOf k p d) t ≡ inner cs) (i : has (byteAt bytesOf (k + d) p) cs ≡ true)
-        (l : childBy (byteAt bytesOf (k + d) p) cs ≡ leaf ps) (f : filled (leaf (without p ps)) ≡ false) where
-      stays : filled (remove bytesOf (k + d) p (subtree (pathOf bytesOf k p d) t)) ≡ true
-      unfolding remove filled
-      stays = rw e refl
-
-      pub remove-at-last : remove bytesOf k p t ≡ replace (pathOf bytesOf k p d) t (inner (dropChild (byteAt bytesOf (k + d) p) cs))
-      unfolding remove pruneChild
-      remove-at-last = remove-path d k t h stays ∙ rw (e, remove-there bytesOf (k + d) p cs i, l, f) refl
-
-      pub frees-at-last : frees bytesOf k p t ≡ true
-      unfolding frees remove
-      frees-at-last = frees-path d k t h stays ∙ rw (e, frees-there bytesOf (k + d) p cs i, l, f) refl
+    pub remove-at-inner : (cs ds : Children) → subtree (pathOf bytesOf k p d) t ≡ inner cs → remove bytesOf (k + d) p (inner cs) ≡ inner ds →
+        remove bytesOf k p t ≡ replace (pathOf bytesOf k p d) t (inner ds)
+    unfolding filled
+    remove-at-inner cs ds e f = remove-path d k t h (rw (e, f) refl) ∙ rw (e, f) refl

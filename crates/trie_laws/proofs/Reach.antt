@@ -10,7 +10,7 @@ use lib.ListN.{length}
 use borrow.Author.Tests.{eqb-true, eq-eqb, ltb-true, ltb-false, ne-eqb}
 use Rattle.meaning.specs.Lists.{all, any, count}
 use Rattle.meaning.specs.Trie.{Tree, leaf, inner, Children, none, child, fresh, byteAt, nodes, nodesIn, pagesIn, pagesAmong}
-use Rattle.trie_laws.specs.Sound.{soundTrie, soundFrom}
+use Rattle.trie_laws.specs.Sound.{filled, soundTrie, soundFrom}
 use Rattle.trie_laws.specs.Path.{has, childBy, hasBelow, below, hasPath, subtree, pathOf, follows, depth, depthIn}
 use Rattle.meaning.proofs.Lists.{and-intro, and-first, and-second, any-append, count-append, all-append, eqb-comm}
 use Rattle.trie_laws.proofs.Lists.{holds, fails, truth, any-count, any-none, all-both, all-true}
@@ -163,6 +163,16 @@ module _ (bytesOf : ℕ → List ℕ) (b n len : ℕ) where
   subtree-sound k (y ∷ ys) t h e =
       let i = path-parts y ys t e in
       rw (shift k (length ys)) (subtree-sound (suc k) ys (below y t) (below-sound k y t h (i .0) .sub) (i .1))
+
+  -- and no empty leaf, unless the trie is one
+  pub subtree-filled : (k : ℕ) (ys : List ℕ) (t : Tree) → soundTrie bytesOf b n len k t ≡ true → hasPath ys t ≡ true → filled t ≡ true →
+      filled (subtree ys t) ≡ true
+  unfolding subtree
+  subtree-filled k [] t h e f = f
+  subtree-filled k (y ∷ ys) t h e f =
+      let i = path-parts y ys t e in
+      let s = below-sound k y t h (i .0) in
+      subtree-filled (suc k) ys (below y t) (s .sub) (i .1) (s .full)
 
   -- each of its pages begins with the path's bytes
   pub subtree-follows : (k : ℕ) (ys : List ℕ) (t : Tree) → soundTrie bytesOf b n len k t ≡ true → hasPath ys t ≡ true →

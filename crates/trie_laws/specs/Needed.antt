@@ -1,6 +1,6 @@
--- How many nodes an insertion makes, counted along the page's path only; and whether a removal frees one.
+-- How many nodes an insertion makes, and how many a removal frees, counted along the page's path only.
 use Prim.Native.Nat.{ℕ, suc, _+_}
-use mathlib.Core.Bool.{Bool, true, false, cond, _&&_, _||_}
+use mathlib.Core.Bool.{Bool, false, cond, _&&_, _||_}
 use mathlib.Core.List.{List, [], _∷_, map}
 use lib.Dec.{ltb, eqb}
 use lib.ListN.{length, getD}
@@ -36,17 +36,17 @@ module _ (bytesOf : ℕ → List ℕ) (len : ℕ) (thresholds : List ℕ) where
         cond (ltb (byteAt bytesOf k p) c) (suc (splitNodes (suc k) (p ∷ [])))
         (cond (eqb (byteAt bytesOf k p) c) (needed (suc k) p t) (neededIn k p cs))
 
--- a removal empties a leaf that is not the root, so that the leaf goes
+-- the nodes that a removal frees: a child that it leaves an empty leaf, and those below
 module _ (bytesOf : ℕ → List ℕ) where
   unfoldable mutual
-    pub frees : ℕ → ℕ → Tree → Bool
-    frees k p (leaf ps) = false
+    pub frees : ℕ → ℕ → Tree → ℕ
+    frees k p (leaf ps) = 0
     frees k p (inner cs) = freesIn k p cs
 
-    pub freesIn : ℕ → ℕ → Children → Bool
-    freesIn k p none = false
+    pub freesIn : ℕ → ℕ → Children → ℕ
+    freesIn k p none = 0
     freesIn k p (child c t cs) =
-        cond (eqb (byteAt bytesOf k p) c) (cond (filled (remove bytesOf (suc k) p t)) (frees (suc k) p t) true) (freesIn k p cs)
+        cond (eqb (byteAt bytesOf k p) c) (cond (filled (remove bytesOf (suc k) p t)) (frees (suc k) p t) (suc (frees (suc k) p t))) (freesIn k p cs)
 
 -- a number for each trie of blocks j, j + 1, .., together
 unfoldable pub sumFrom : (ℕ → Tree → ℕ) → ℕ → List Tree → ℕ

@@ -7,21 +7,23 @@ use mathlib.Core.List.{List, [], _∷_, _++_}
 use borrow.Author.Tests.{eqb-true, not-true}
 use lib.Dec.{eqb, lit<, lit≤}
 use lib.ListN.{getD, replicate}
-use Rattle.meaning.specs.Lists.{all, any, count}
+use Rattle.meaning.specs.Lists.{all, any, count, from, upto}
 use Rattle.meaning.specs.Sketch.{perByte, symbolsAt, packable}
 use Rattle.meaning.specs.Trie.{byteAt, pagesIn}
 use Rattle.layout.specs.States.{kindOf}
 use Rattle.children.specs.Heap.{Cells, hit, nodeClaims, pageClaims, nil, node, page, _⊕_}
+use Rattle.children.specs.Order.{bare}
 use Rattle.children.specs.Places.{placeFrom, findPlace}
 use Rattle.children.specs.Phys.{Phys, noKid, kid, tree, headsFrom, cells, State, leafP, innerP}
 use Rattle.trie_laws.specs.Sound.{filled, soundTrie}
 use Rattle.meaning.proofs.Lists.{and-first, and-second, count-append, eqb-comm}
 use Rattle.trie_laws.proofs.Lists.{holds, fails, truth, any-none}
-use Rattle.trie.specs.Descend.{descend, descendTo}
+use Rattle.trie.specs.Descend.{stepTo, descend, descendTo, passedAt}
 use Rattle.trie.proofs.Arrival.{Leads, sound-leads}
 use Rattle.trie_remove.specs.declared.Removed.the-variants.{Done}
 use Rattle.trie_remove.specs.Take.{takePage}
 use Rattle.trie.specs.Model.{freeChild}
+use Rattle.trie_remove.specs.Prune.{pruneUp}
 use Rattle.trie_remove.specs.Remove.{setFirst, removeAt, removePage, gone}
 use Rattle.trie_remove.proofs.Removal.{RemoveDone, remove-right}
 
@@ -119,10 +121,16 @@ leads = sound-leads bytesOf 8 1 1 (tree t) (2 ∷ []) sound (λ k l. refl) octet
     octets zero = lit< tt
     octets (suc k) = lit< tt
 
--- it is taken out, and its leaf, node 2, is freed
+-- it is taken out, and its leaf, node 2, is freed; the root has another child
 done : RemoveDone 3 2 0 bytesOf 1 N P t [] nil (removePage N P 3 2 0 0 (2 ∷ []) 1 0)
 done = remove-right bytesOf 1 state leads 8 1 1 sound stands
 
 computed : removePage N P 3 2 0 0 (2 ∷ []) 1 0 ≡ gone (0 ∷ 524288 ∷ 0 ∷ 1 ∷ 3 ∷ 0 ∷ 2 ∷ replicate 23 0) P (Done 3)
-unfolding removePage removeAt setFirst freeChild kindOf takePage descendTo descend findPlace placeFrom
+unfolding removePage removeAt setFirst pruneUp bare all upto from freeChild kindOf takePage descendTo descend stepTo passedAt findPlace placeFrom
 computed = refl
+
+-- ---- page 0 alone in node 2, below node 1 and the root: both are freed, and the root is an empty leaf
+chain : removePage (0 ∷ 524288 ∷ 1048576 ∷ 1 ∷ 1 ∷ 3 ∷ 2 ∷ replicate 7 0 ++ 3 ∷ replicate 15 0) (0 ∷ []) 3 1 0 0 (1 ∷ 2 ∷ []) 0 0 ≡
+    gone (0 ∷ 3 ∷ 0 ∷ 2 ∷ replicate 26 0) (0 ∷ []) (Done 2)
+unfolding removePage removeAt setFirst pruneUp bare all upto from freeChild kindOf takePage descendTo descend stepTo passedAt findPlace placeFrom
+chain = refl

@@ -1,7 +1,7 @@
 -- A page out of a leaf that holds it: what `removeAt` comes to, and the state with the leaf that is left.
 use Prim.Native.Nat.{ℕ, _+_, _<_}
 use native.Mathlib.Omega.{arith}
-use mathlib.Core.Path.{_≡_, refl, ap, sym}
+use mathlib.Core.Path.{_≡_, refl, ap, _∙_, sym}
 use mathlib.Core.Bool.{Bool, true, false, cond, false≢true}
 use mathlib.Core.List.{List, [], _∷_}
 use lib.Dec.{eqb}
@@ -19,20 +19,20 @@ use Rattle.trie_remove.specs.declared.Taken.{Taken}
 use Rattle.trie_remove.specs.declared.Taken.the-variants.{First, Inside, Missing, Broken}
 use Rattle.trie_remove.specs.declared.Removed.the-variants.{Done}
 use Rattle.trie_remove.specs.Take.{takePage, took}
-use Rattle.trie.specs.Model.{freeChild}
-use Rattle.trie_remove.specs.Remove.{removeAt, Gone, gone}
-use Rattle.trie_remove.proofs.Steps.{first-some, first-root, first-freed, remove-first, remove-inside}
+use Rattle.trie.specs.Descend.{Passed}
+use Rattle.trie_remove.specs.Prune.{pruneUp}
+use Rattle.trie_remove.specs.Remove.{removeAt, Gone, gone, goneTo}
+use Rattle.trie_remove.proofs.Steps.{first-some, first-none, remove-to, remove-inside}
 use Rattle.trie_remove.proofs.Take.{Tells, TakeDone, take-right}
 
--- what taking page p out of leaf c, at level k, comes to: the leaf stays where it has pages or is the root, and is freed otherwise
-pub record LeafDone (cap pcap base : ℕ) (N P : List ℕ) (free c p s k : ℕ) (ps fs : List ℕ) (G : Cells) (o : Gone) : Type 0 where
+-- what taking page p out of leaf c, at level k, comes to: where the leaf has no pages left, nodes are freed from it on up
+pub record LeafDone (cap pcap base : ℕ) (N P : List ℕ) (free : ℕ) (way : ℕ → Passed) (c p s k : ℕ) (ps fs : List ℕ) (G : Cells) (o : Gone) : Type 0 where
   pub nodesTo : List ℕ
   pub pagesTo : List ℕ
   pub linkTo : ℕ
   pub state : State cap pcap base nodesTo pagesTo free (leafP c (without p ps)) fs (page (base + p) linkTo ⊕ G)
   pub full : 0 < first (without p ps) → o ≡ gone nodesTo pagesTo (Done free)
-  pub root : first (without p ps) ≡ 0 → k ≡ 0 → o ≡ gone nodesTo pagesTo (Done free)
-  pub emptied : first (without p ps) ≡ 0 → (k ≡ 0 → ⊥) → o ≡ gone (freeChild nodesTo cap s c free) pagesTo (Done (c + 1))
+  pub emptied : first (without p ps) ≡ 0 → o ≡ goneTo pagesTo (pruneUp nodesTo cap way k c s free)
   pub nodesLength : length nodesTo ≡ length N
   pub pagesLength : length pagesTo ≡ length P
 
@@ -50,7 +50,7 @@ below-without m p (x ∷ ps) l = go (eqb x p) (below-without m p ps (l .1))
     go true h = h
     go false h = (l .0, h)
 
-module _ {cap pcap base : ℕ} {N P : List ℕ} {free c : ℕ} {ps fs : List ℕ} {G : Cells} (st : State cap pcap base N P free (leafP c ps) fs G) (p s k : ℕ) (m : any (eqb p) ps ≡ true) where
+module _ {cap pcap base : ℕ} {N P : List ℕ} {free c : ℕ} {ps fs : List ℕ} {G : Cells} (st : State cap pcap base N P free (leafP c ps) fs G) (way : ℕ → Passed) (p s k : ℕ) (m : any (eqb p) ps ≡ true) where
   R : Cells
   R = noKids cap c ⊕ freeCells cap fs ⊕ G
 
@@ -84,7 +84,7 @@ module _ {cap pcap base : ℕ} {N P : List ℕ} {free c : ℕ} {ps fs : List ℕ
         below = st .below;
       }
 
-  pub leaf-right : LeafDone cap pcap base N P free c p s k ps fs G (removeAt N P cap pcap base c s k p free)
+  pub leaf-right : LeafDone cap pcap base N P free way c p s k ps fs G (removeAt N P cap pcap base way c s k p free)
   leaf-right = go (done .answer) (done .tells) (sym (done .is))
     where
       qs : List ℕ
@@ -99,18 +99,17 @@ module _ {cap pcap base : ℕ} {N P : List ℕ} {free c : ℕ} {ps fs : List ℕ
       M : List ℕ
       M = set N (stateAt cap c) (leafState (first qs))
 
-      go : (a : Taken) → Tells a ps qs → took (done .pagesTo) a ≡ takePage P pcap base (firstOf (kindOf N cap c)) p → LeafDone cap pcap base N P free c p s k ps fs G (removeAt N P cap pcap base c s k p free)
+      go : (a : Taken) → Tells a ps qs → took (done .pagesTo) a ≡ takePage P pcap base (firstOf (kindOf N cap c)) p → LeafDone cap pcap base N P free way c p s k ps fs G (removeAt N P cap pcap base way c s k p free)
       go (First l) e i =
-          let r = remove-first N P cap pcap base c s k p free (firstOf (kindOf N cap c)) refl (done .pagesTo) (First (first qs)) (rw e at i) (first qs) in
+          let r = remove-to N P cap pcap base way c s k p free (firstOf (kindOf N cap c)) refl (done .pagesTo) (First (first qs)) (rw e at i) (first qs) refl in
           let t = st .nodeTable in
           record {
             nodesTo = M;
             pagesTo = done .pagesTo;
             linkTo = done .linkTo;
             state = left M (done .pagesTo) (done .linkTo) (simp length-set) (done .length) (node-write (leafState (first qs)) h (omega arith));
-            full = λ z. sym (r M free refl (first-some N cap c s k (first qs) free M refl z));
-            root = λ z y. sym (r M free refl (first-root N cap c s k (first qs) free M refl (omega arith) y));
-            emptied = λ z y. sym (r (freeChild M cap s c free) (c + 1) refl (first-freed N cap c s k (first qs) free M refl (omega arith) (freeChild M cap s c free) (c + 1) y refl refl));
+            full = λ z. r ∙ ap (goneTo (done .pagesTo)) (sym (first-some N cap way c s k (first qs) free M refl z));
+            emptied = λ z. r ∙ ap (goneTo (done .pagesTo)) (sym (first-none N cap way c s k (first qs) free M refl (omega arith) (pruneUp M cap way k c s free) refl));
             nodesLength = simp length-set;
             pagesLength = done .length;
           }
@@ -121,9 +120,8 @@ module _ {cap pcap base : ℕ} {N P : List ℕ} {free c : ℕ} {ps fs : List ℕ
             pagesTo = done .pagesTo;
             linkTo = done .linkTo;
             state = left N (done .pagesTo) (done .linkTo) refl (done .length) (rw e at h);
-            full = λ z. sym (remove-inside N P cap pcap base c s k p free (firstOf (kindOf N cap c)) refl (done .pagesTo) Inside i refl);
-            root = λ z y. absurd (omega arith);
-            emptied = λ z y. absurd (omega arith);
+            full = λ z. sym (remove-inside N P cap pcap base way c s k p free (firstOf (kindOf N cap c)) refl (done .pagesTo) Inside i refl);
+            emptied = λ z. absurd (omega arith);
             nodesLength = refl;
             pagesLength = done .length;
           }

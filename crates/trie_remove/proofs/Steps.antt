@@ -1,6 +1,6 @@
 -- The models, one step at a time.
 use Prim.Native.Nat.{ℕ, suc, _+_, _-_, _<_, _≤_}
-use mathlib.Core.Path.{_≡_, refl, ap, _∙_}
+use mathlib.Core.Path.{_≡_, refl, ap, _∙_, sym}
 use mathlib.Core.Bool.{cond}
 use mathlib.Core.List.{List}
 use native.Mathlib.Omega.{arith}
@@ -13,13 +13,14 @@ use Rattle.layout.specs.States.{kindOf, firstOf}
 use Rattle.trie.specs.declared.path.Reach.{Reach}
 use Rattle.trie.specs.declared.path.Reach.the-variants.{Leaf, Gap}
 use Rattle.trie.specs.declared.path.Reach.the-variants as reach
-use Rattle.trie.specs.Descend.{descendTo}
-use Rattle.trie.specs.Model.{freeChild}
+use Rattle.trie.specs.Descend.{descendTo, Passed, passedAt, Noted, levelOf}
 use Rattle.trie_remove.specs.declared.Taken.{Taken}
 use Rattle.trie_remove.specs.declared.Taken.the-variants.{First, Inside, Missing, Broken}
 use Rattle.trie_remove.specs.declared.Removed.the-variants.{Done, Broken as Undone}
 use Rattle.trie_remove.specs.Take.{Took, linkIn, takeFrom, takePage, took}
-use Rattle.trie_remove.specs.Remove.{setFirst, removeAt, removePage, Gone, freed, gone}
+use Rattle.trie_remove.specs.Prune.{Freed, freed, pruneUp}
+use Rattle.trie_remove.specs.Remove.{setFirst, removeTaken, removeAt, removePage, Gone, gone, goneTo}
+use Rattle.trie_remove.proofs.Prunes.{prune-same}
 
 -- `takePage`, where the page is the first, and where it is not
 module _ (P : List ℕ) (pcap base l p : ℕ) where
@@ -69,47 +70,65 @@ module _ (P : List ℕ) (pcap base p l f : ℕ) (R : Took) (inv : takeFrom P pca
         take-on q = rw (ne-eqb _ _ e, le-ltb _ _ w, ne-eqb _ _ q) at take-step
 
 -- `setFirst`, by each way
-module _ (N : List ℕ) (cap n s k l free : ℕ) (M : List ℕ) (w : M ≡ set N (stateAt cap n) (leafState l)) where
-  pub first-some : 0 < l → freed M free ≡ setFirst N cap n s k l free
+module _ (N : List ℕ) (cap : ℕ) (way : ℕ → Passed) (n s k l free : ℕ) (M : List ℕ) (w : M ≡ set N (stateAt cap n) (leafState l)) where
+  pub first-some : 0 < l → freed M free ≡ setFirst N cap way n s k l free
   unfolding setFirst
   first-some h = rw (w, lt-ltb _ _ h) refl
 
-  module _ (h : l ≤ 0) where
-    pub first-root : k ≡ 0 → freed M free ≡ setFirst N cap n s k l free
-    unfolding setFirst
-    first-root e = rw (w, le-ltb _ _ h, eq-eqb _ _ e) refl
-
-    pub first-freed : (ns : List ℕ) (r : ℕ) → (k ≡ 0 → ⊥) → r ≡ n + 1 → ns ≡ freeChild M cap s n free → freed ns r ≡ setFirst N cap n s k l free
-    unfolding setFirst
-    first-freed ns r e z q = rw (← w, le-ltb _ _ h, ne-eqb _ _ e, z, q) refl
+  pub first-none : l ≤ 0 → (R : Freed) → R ≡ pruneUp M cap way k n s free → R ≡ setFirst N cap way n s k l free
+  unfolding setFirst
+  first-none h R e = e ∙ rw (← w, le-ltb _ _ h) refl
 
 -- what a match tells
 pub first-link : (pcap : ℕ) (a : Taken) (l : ℕ) → a ≡ First l → linkIn a ≤ pcap → pcap ≤ mostPages → l ≤ mostPages
 first-link pcap a l e h m = let i : l ≤ pcap = rw e at h in omega arith
 
 -- `removeAt`, by each way
-module _ (N P : List ℕ) (cap pcap base n s k p free first : ℕ) (f : first ≡ firstOf (kindOf N cap n)) (ps : List ℕ) (a : Taken) (e : took ps a ≡ takePage P pcap base first p) where
-  pub remove-first : (l : ℕ) (ns : List ℕ) (r : ℕ) → a ≡ First l → freed ns r ≡ setFirst N cap n s k l free → gone ns ps (Done r) ≡ removeAt N P cap pcap base n s k p free
+module _ (N P : List ℕ) (cap pcap base : ℕ) (way : ℕ → Passed) (n s k p free first : ℕ) (f : first ≡ firstOf (kindOf N cap n)) (ps : List ℕ) (a : Taken) (e : took ps a ≡ takePage P pcap base first p) where
+  pub remove-to : (l : ℕ) → a ≡ First l → removeAt N P cap pcap base way n s k p free ≡ goneTo ps (setFirst N cap way n s k l free)
   unfolding removeAt
-  remove-first l ns r q h = rw (← f, ← e, q, ← h) refl
+  remove-to l q = rw (← f, ← e, q) refl
 
-  pub remove-inside : a ≡ Inside → gone N ps (Done free) ≡ removeAt N P cap pcap base n s k p free
+  pub remove-first : (l : ℕ) (ns : List ℕ) (r : ℕ) → a ≡ First l → freed ns r ≡ setFirst N cap way n s k l free →
+      gone ns ps (Done r) ≡ removeAt N P cap pcap base way n s k p free
+  remove-first l ns r q h = ap (goneTo ps) h ∙ sym (remove-to l q)
+
+  pub remove-inside : a ≡ Inside → gone N ps (Done free) ≡ removeAt N P cap pcap base way n s k p free
   unfolding removeAt
   remove-inside q = rw (← f, ← e, q) refl
 
-  pub remove-missing : a ≡ Missing → gone N ps Undone ≡ removeAt N P cap pcap base n s k p free
+  pub remove-missing : a ≡ Missing → gone N ps Undone ≡ removeAt N P cap pcap base way n s k p free
   unfolding removeAt
   remove-missing q = rw (← f, ← e, q) refl
 
-  pub remove-unlinked : a ≡ Broken → gone N ps Undone ≡ removeAt N P cap pcap base n s k p free
+  pub remove-unlinked : a ≡ Broken → gone N ps Undone ≡ removeAt N P cap pcap base way n s k p free
   unfolding removeAt
   remove-unlinked q = rw (← f, ← e, q) refl
 
+-- only the nodes above level k count
+module _ (N P : List ℕ) (cap pcap base : ℕ) (path way : ℕ → Passed) (n s k p free : ℕ) (h : Noted path way k) where
+  first-same : (l : ℕ) → setFirst N cap path n s k l free ≡ setFirst N cap way n s k l free
+  unfolding setFirst
+  first-same l =
+      let M : List ℕ = set N (stateAt cap n) (leafState l) in
+      ap (cond (ltb 0 l) (freed M free)) (prune-same cap path way k h M n s free)
+
+  at-same : removeAt N P cap pcap base path n s k p free ≡ removeAt N P cap pcap base way n s k p free
+  unfolding removeAt
+  at-same = go (takePage P pcap base (firstOf (kindOf N cap n)) p)
+    where
+      go : (t : Took) → removeTaken N cap path n s k free t ≡ removeTaken N cap way n s k free t
+      go (took ps (First l)) = ap (goneTo ps) (first-same l)
+      go (took ps Inside) = refl
+      go (took ps Missing) = refl
+      go (took ps Broken) = refl
+
 -- `removePage`, by each way
 module _ (N P : List ℕ) (cap pcap base root : ℕ) (Y : List ℕ) (p free : ℕ) (r : Reach) (e : r ≡ descendTo N cap root Y) where
-  pub remove-leaf : (n s k : ℕ) (R : Gone) → r ≡ Leaf n s k → R ≡ removeAt N P cap pcap base n s k p free → R ≡ removePage N P cap pcap base root Y p free
+  pub remove-leaf : (n s k : ℕ) (path : ℕ → Passed) (R : Gone) → r ≡ Leaf n s k → Noted path (passedAt N cap root Y) (levelOf r) →
+      R ≡ removeAt N P cap pcap base path n s k p free → R ≡ removePage N P cap pcap base root Y p free
   unfolding removePage
-  remove-leaf n s k R q h = h ∙ rw (← e, q) refl
+  remove-leaf n s k path R q m h = h ∙ at-same N P cap pcap base path (passedAt N cap root Y) n s k p free (rw q at m) ∙ rw (← e, q) refl
 
   pub remove-gap : (n s k : ℕ) → r ≡ Gap n s k → gone N P Undone ≡ removePage N P cap pcap base root Y p free
   unfolding removePage

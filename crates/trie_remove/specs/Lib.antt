@@ -1,2 +1,3 @@
 pub mod Take
+pub mod Prune
 pub mod Remove

@@ -1,31 +1,27 @@
 -- What `set_first` and `remove_page` compute: N is the node table and P the page table.
-use Prim.Native.Nat.{ℕ, _+_}
+use Prim.Native.Nat.{ℕ}
 use mathlib.Core.Bool.{cond}
 use mathlib.Core.List.{List}
-use lib.Dec.{ltb, eqb}
+use lib.Dec.{ltb}
 use lib.ListN.{set}
 use Rattle.layout.specs.Nodes.{stateAt, leafState}
 use Rattle.layout.specs.States.{kindOf, firstOf}
-use Rattle.trie.specs.Model.{freeChild}
 use Rattle.trie.specs.declared.path.Reach.{Reach}
 use Rattle.trie.specs.declared.path.Reach.the-variants.{Leaf, Gap}
 use Rattle.trie.specs.declared.path.Reach.the-variants as reach
-use Rattle.trie.specs.Descend.{descendTo}
+use Rattle.trie.specs.Descend.{descendTo, Passed, passedAt}
 use Rattle.trie_remove.specs.declared.Taken.the-variants.{First, Inside, Missing}
 use Rattle.trie_remove.specs.declared.Taken.the-variants as taken
 use Rattle.trie_remove.specs.declared.Removed.{Removed}
 use Rattle.trie_remove.specs.declared.Removed.the-variants.{Done, Broken}
 use Rattle.trie_remove.specs.Take.{Took, took, takePage}
+use Rattle.trie_remove.specs.Prune.{Freed, freed, pruneUp}
 
--- the node table and the free link
-pub data Freed : Type 0 where
-  freed : List ℕ → ℕ → Freed
-
--- leaf n at level k, which slot s links to, with link l to its first page; it is freed where it has none and is not the root
-unfoldable pub setFirst : List ℕ → ℕ → ℕ → ℕ → ℕ → ℕ → ℕ → Freed
-setFirst N cap n s k l free =
+-- leaf n at level k, which slot s links to, with link l to its first page; where it has none, nodes are freed from it on up
+unfoldable pub setFirst : List ℕ → ℕ → (ℕ → Passed) → ℕ → ℕ → ℕ → ℕ → ℕ → Freed
+setFirst N cap way n s k l free =
     let N' : List ℕ = set N (stateAt cap n) (leafState l) in
-    cond (ltb 0 l) (freed N' free) (cond (eqb k 0) (freed N' free) (freed (freeChild N' cap s n free) (n + 1)))
+    cond (ltb 0 l) (freed N' free) (pruneUp N' cap way k n s free)
 
 -- both tables and the answer
 pub data Gone : Type 0 where
@@ -34,21 +30,21 @@ pub data Gone : Type 0 where
 abbrev pub goneTo : List ℕ → Freed → Gone
 goneTo P (freed N free) = gone N P (Done free)
 
-abbrev pub removeTaken : List ℕ → ℕ → ℕ → ℕ → ℕ → ℕ → Took → Gone
-removeTaken N cap n s k free (took P (First l)) = goneTo P (setFirst N cap n s k l free)
-removeTaken N cap n s k free (took P Inside) = gone N P (Done free)
-removeTaken N cap n s k free (took P Missing) = gone N P Broken
-removeTaken N cap n s k free (took P taken.Broken) = gone N P Broken
+abbrev pub removeTaken : List ℕ → ℕ → (ℕ → Passed) → ℕ → ℕ → ℕ → ℕ → Took → Gone
+removeTaken N cap way n s k free (took P (First l)) = goneTo P (setFirst N cap way n s k l free)
+removeTaken N cap way n s k free (took P Inside) = gone N P (Done free)
+removeTaken N cap way n s k free (took P Missing) = gone N P Broken
+removeTaken N cap way n s k free (took P taken.Broken) = gone N P Broken
 
 -- page p out of leaf n
-unfoldable pub removeAt : List ℕ → List ℕ → ℕ → ℕ → ℕ → ℕ → ℕ → ℕ → ℕ → ℕ → Gone
-removeAt N P cap pcap base n s k p free = removeTaken N cap n s k free (takePage P pcap base (firstOf (kindOf N cap n)) p)
+unfoldable pub removeAt : List ℕ → List ℕ → ℕ → ℕ → ℕ → (ℕ → Passed) → ℕ → ℕ → ℕ → ℕ → ℕ → Gone
+removeAt N P cap pcap base way n s k p free = removeTaken N cap way n s k free (takePage P pcap base (firstOf (kindOf N cap n)) p)
 
-abbrev pub removeReached : List ℕ → List ℕ → ℕ → ℕ → ℕ → ℕ → ℕ → Reach → Gone
-removeReached N P cap pcap base p free (Leaf n s k) = removeAt N P cap pcap base n s k p free
-removeReached N P cap pcap base p free (Gap n s k) = gone N P Broken
-removeReached N P cap pcap base p free reach.Broken = gone N P Broken
+abbrev pub removeReached : List ℕ → List ℕ → ℕ → ℕ → ℕ → (ℕ → Passed) → ℕ → ℕ → Reach → Gone
+removeReached N P cap pcap base way p free (Leaf n s k) = removeAt N P cap pcap base way n s k p free
+removeReached N P cap pcap base way p free (Gap n s k) = gone N P Broken
+removeReached N P cap pcap base way p free reach.Broken = gone N P Broken
 
 -- page p out of the leaf where its bytes Y lead
 unfoldable pub removePage : List ℕ → List ℕ → ℕ → ℕ → ℕ → ℕ → List ℕ → ℕ → ℕ → Gone
-removePage N P cap pcap base root Y p free = removeReached N P cap pcap base p free (descendTo N cap root Y)
+removePage N P cap pcap base root Y p free = removeReached N P cap pcap base (passedAt N cap root Y) p free (descendTo N cap root Y)

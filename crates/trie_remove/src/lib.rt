@@ -1,17 +1,21 @@
 // A page taken out of one block's trie.
 ghost use mathlib.Core.Path.{_≡_};
 ghost use Prim.Native.Nat.{_≤_, _<_};
+ghost use lib.ListN.{length};
 ghost use Rattle.layout.specs.Pages.{mostPages};
 ghost use Rattle.layout.specs.Nodes.{nodeWords};
 ghost use Rattle.layout.specs.Tables.{NodeTable, PageTable};
+ghost use Rattle.trie.specs.Descend.{noted};
 ghost use Rattle.trie_remove.specs.Take.{takeFrom, takePage, took, linkIn};
-ghost use Rattle.trie_remove.specs.Remove.{setFirst, freed, removeAt, removePage, gone};
+ghost use Rattle.trie_remove.specs.Prune.{freed, pruneUp, InTable};
+ghost use Rattle.trie_remove.specs.Remove.{setFirst, removeAt, removePage, gone};
+use children::order::is_bare;
 use layout::Block;
 use layout::nodes::first_page;
 use layout::nodes::set_leaf;
 use trie::leaf::free_child;
 use trie::path::Reach;
-use trie::path::descend_to;
+use trie::path::trace_to;
 
 // How a page left a chain: it was the first, before a link; or inside. Or why not.
 pub enum Taken {
@@ -67,10 +71,46 @@ pub fn take_page(pages: &mut [u32], pcap: usize, base: usize, first: u32, p: usi
     Taken::First(after)
 }
 
-// Leaf n with another first page; the free link then. Where it has none and is not the root, it is freed.
+// Up from an empty leaf n: where it is not the root it is freed, and the node above is an empty leaf in its turn where it has no child
+// left. The path has the nodes above, and their slots. The free link then.
+fn prune_up(
+    nodes: &mut [u32],
+    cap: usize,
+    above: &[u32; 64],
+    slots: &[u32; 64],
+    n: usize,
+    slot: usize,
+    level: usize,
+    free: u32,
+) -> u32
+    requires { ⌜ NodeTable cap (now nodes) ⌝ }
+    requires { ⌜ (n < cap) × (slot < nodeWords cap) × (level ≤ 64) ⌝ }
+    requires { ⌜ InTable cap (noted (now above) (now slots)) level ⌝ }
+    ensures { λ r. ⌜ freed (now (nodes .exit)) r ≡ pruneUp (now (nodes .entry)) cap (noted (now (above .entry)) (now (slots .entry))) level n slot free ⌝ }
+{
+    let mut leaf = n;
+    let mut at = slot;
+    let mut left = level;
+    let mut link = free;
+    while left > 0 {
+        link = free_child(nodes, cap, at, leaf, link);
+        left -= 1;
+        leaf = above[left] as usize;
+        at = slots[left] as usize;
+        if !is_bare(nodes, cap, leaf) {
+            return link;
+        }
+        set_leaf(nodes, cap, leaf, 0);
+    }
+    link
+}
+
+// Leaf n with another first page; where it has none, nodes are freed from it on up. The free link then.
 pub fn set_first(
     nodes: &mut [u32],
     cap: usize,
+    above: &[u32; 64],
+    slots: &[u32; 64],
     n: usize,
     slot: usize,
     level: usize,
@@ -78,19 +118,16 @@ pub fn set_first(
     free: u32,
 ) -> u32
     requires { ⌜ NodeTable cap (now nodes) ⌝ }
-    requires { ⌜ n < cap ⌝ }
-    requires { ⌜ slot < nodeWords cap ⌝ }
+    requires { ⌜ (n < cap) × (slot < nodeWords cap) × (level ≤ 64) ⌝ }
+    requires { ⌜ InTable cap (noted (now above) (now slots)) level ⌝ }
     requires { ⌜ link ≤ mostPages ⌝ }
-    ensures { λ r. ⌜ freed (now (nodes .exit)) r ≡ setFirst (now (nodes .entry)) cap n slot level link free ⌝ }
+    ensures { λ r. ⌜ freed (now (nodes .exit)) r ≡ setFirst (now (nodes .entry)) cap (noted (now (above .entry)) (now (slots .entry))) n slot level link free ⌝ }
 {
     set_leaf(nodes, cap, n, link);
     if link > 0 {
         return free;
     }
-    if level == 0 {
-        return free;
-    }
-    free_child(nodes, cap, slot, n, free)
+    prune_up(nodes, cap, above, slots, n, slot, level, free)
 }
 
 // The free link after a removal.
@@ -104,6 +141,8 @@ pub fn remove_at(
     nodes: &mut [u32],
     pages: &mut [u32],
     block: Block,
+    above: &[u32; 64],
+    slots: &[u32; 64],
     n: usize,
     slot: usize,
     level: usize,
@@ -112,14 +151,15 @@ pub fn remove_at(
 ) -> Removed
     requires { ⌜ NodeTable (block .nodes) (now nodes) ⌝ }
     requires { ⌜ PageTable (block .pages) (block .base) (now pages) ⌝ }
-    requires { ⌜ (n < block .nodes) × (slot < nodeWords (block .nodes)) × (p < block .pages) ⌝ }
-    ensures { λ r. ⌜ gone (now (nodes .exit)) (now (pages .exit)) r ≡ removeAt (now (nodes .entry)) (now (pages .entry)) (block .nodes) (block .pages) (block .base) n slot level p free ⌝ }
+    requires { ⌜ (n < block .nodes) × (slot < nodeWords (block .nodes)) × (level ≤ 64) × (p < block .pages) ⌝ }
+    requires { ⌜ InTable (block .nodes) (noted (now above) (now slots)) level ⌝ }
+    ensures { λ r. ⌜ gone (now (nodes .exit)) (now (pages .exit)) r ≡ removeAt (now (nodes .entry)) (now (pages .entry)) (block .nodes) (block .pages) (block .base) (noted (now (above .entry)) (now (slots .entry))) n slot level p free ⌝ }
 {
     let first = first_page(nodes, block.nodes, n);
     let taken = take_page(pages, block.pages, block.base, first, p);
     match taken {
         Taken::First(link) => {
-            Removed::Done(set_first(nodes, block.nodes, n, slot, level, link, free))
+            Removed::Done(set_first(nodes, block.nodes, above, slots, n, slot, level, link, free))
         },
         Taken::Inside => Removed::Done(free),
         Taken::Missing => Removed::Broken,
@@ -141,11 +181,16 @@ pub fn remove_page(
     requires { ⌜ PageTable (block .pages) (block .base) (now pages) ⌝ }
     requires { ⌜ root < block .nodes ⌝ }
     requires { ⌜ p < block .pages ⌝ }
+    requires { ⌜ length (now bytes) ≤ 64 ⌝ }
     ensures { λ r. ⌜ gone (now (nodes .exit)) (now (pages .exit)) r ≡ removePage (now (nodes .entry)) (now (pages .entry)) (block .nodes) (block .pages) (block .base) root (now (bytes .entry)) p free ⌝ }
 {
-    let reach = descend_to(nodes, block.nodes, root, bytes);
+    let mut above = [0u32; 64];
+    let mut slots = [0u32; 64];
+    let reach = trace_to(nodes, block.nodes, root, bytes, &mut above, &mut slots);
     match reach {
-        Reach::Leaf(n, slot, level) => { remove_at(nodes, pages, block, n, slot, level, p, free) }
+        Reach::Leaf(n, slot, level) => {
+            remove_at(nodes, pages, block, &above, &slots, n, slot, level, p, free)
+        }
         Reach::Gap(_, _, _) => Removed::Broken,
         Reach::Broken => Removed::Broken,
     }

@@ -11,7 +11,7 @@ use Rattle.blocks.specs.Packed.{rowByte, pageByte, levelAt}
 use Rattle.trie.specs.Model.{spanFrom}
 use Rattle.trie.specs.declared.span.Span.the-variants.{Enough, Short}
 use Rattle.trie_laws.specs.Needed.{distinctFrom}
-use Rattle.trie.specs.Descend.{descend, descendTo}
+use Rattle.trie.specs.Descend.{stepTo, descend, descendTo}
 use Rattle.leaf_bytes.specs.declared.Needed.{Needed}
 use Rattle.leaf_bytes.specs.declared.Needed.the-variants.{Nodes, Broken}
 use Rattle.leaf_bytes.specs.Chains.{chainFrom}
@@ -38,7 +38,7 @@ answer link threshold byte = nodesNeeded (pages link) sketches (threshold ∷ []
 
 -- another byte: two children; the same byte: one; below the threshold: none; a chain that leaves the table, or does not end
 sums : (answer 0 1 180 ≡ Nodes 2) × (answer 0 1 228 ≡ Nodes 1) × (answer 0 2 180 ≡ Nodes 0) × (answer 3 1 180 ≡ Broken) × (answer 1 1 180 ≡ Broken)
-unfolding answer nodes pages sketches settings nodesNeeded kindOf descendTo descend leafNeeds distinctBytes chainFrom spanFrom levelAt rowsOf blockBytes packedLength perByte blockStart blockLength pageByte rowByte distinctFrom
+unfolding answer nodes pages sketches settings nodesNeeded kindOf descendTo descend stepTo leafNeeds distinctBytes chainFrom spanFrom levelAt rowsOf blockBytes packedLength perByte blockStart blockLength pageByte rowByte distinctFrom
 sums = (refl, refl, refl, refl, refl)
 
 -- a new leaf at level 1 splits at once where the threshold there is 0 and there is a byte

@@ -43,6 +43,13 @@ fn met(node: &Node, b: u32, bytes: &[u8], left: u32) -> usize {
     near.map(|(d, child)| met(child, b, &bytes[1..], left - d)).sum()
 }
 
+fn inner_nodes(node: &Node) -> usize {
+    match node {
+        Node::Leaf(_) => 0,
+        Node::Inner(children) => 1 + children.values().map(inner_nodes).sum::<usize>(),
+    }
+}
+
 /// How many pages have the block within r / q of a query's, counted in each block.
 fn near_blocks(plain: &Index, radius: u32, query: &[u8]) -> usize {
     let q = plain.trees.len();
@@ -94,6 +101,7 @@ fn scans_and_hashing_list_what_the_plain_index_lists() {
 #[test]
 fn the_pointer_trie_has_the_plain_trees_and_lists() {
     let random = &mut Random::new(72);
+    let mut pruned = 0;
     for _ in 0..300 {
         let (s, mut plain, open) = index(random);
         let mut trie = Pointers::with_thresholds(s.b, s.m as usize, s.q as usize, s.pages as usize, s.thresholds.clone());
@@ -101,12 +109,15 @@ fn the_pointer_trie_has_the_plain_trees_and_lists() {
         for _ in 0..100 {
             let page = random.below(u64::from(s.pages) + 1) as u32;
             if random.below(3) == 0 {
+                let before = trie.inner_nodes();
                 assert_eq!(trie.drop(page), plain.drop(page) == 0);
+                pruned += before - trie.inner_nodes();
             } else {
                 let (class, x) = (random.below(65) as u32, sketches.near(random, 4));
                 assert_eq!(trie.add(page, class as u8, &x), plain.add(page, class, &x) == 0);
             }
         }
+        assert_eq!(trie.inner_nodes(), plain.trees.iter().map(inner_nodes).sum::<usize>(), "{s:?}");
         for (j, tree) in plain.trees.iter().enumerate() {
             assert_eq!(&trie.tree(j), tree, "block {j} of {s:?}");
         }
@@ -116,4 +127,5 @@ fn the_pointer_trie_has_the_plain_trees_and_lists() {
             assert_eq!(listed(&mut trie, open, radius, &query), (wanted(&plain, radius, &query), met), "{s:?}");
         }
     }
+    assert!(pruned > 500, "{pruned}");
 }

@@ -1,5 +1,5 @@
-//! A pointer trie for each block, by the library's rule of insertion and its thresholds: an inner node is an array of 256 children, a leaf
-//! a contiguous list of pages.
+//! A pointer trie for each block, by the library's rules of insertion and removal and its thresholds: an inner node is an array of 256
+//! children, a leaf a contiguous list of pages. Inner nodes that are given up are used again.
 use super::lists::Lists;
 use super::packed::{bits, shaped, Found, Packed, Test};
 use super::Way;
@@ -28,6 +28,13 @@ impl Masks {
     }
 }
 
+/// Of an inner node: which child of which node it is, and how many children it has.
+struct Above {
+    node: u32,
+    child: u8,
+    children: u16,
+}
+
 pub struct Pointers {
     packed: Packed,
     live: Vec<bool>,
@@ -36,6 +43,9 @@ pub struct Pointers {
     blocks: Vec<(usize, usize)>,
     /// node 0 is no inner node: it has the roots
     nodes: Vec<[u32; 256]>,
+    above: Vec<Above>,
+    /// inner nodes given up, without children
+    free: Vec<u32>,
     lists: Lists,
     masks: Masks,
     found: Found,
@@ -56,6 +66,8 @@ impl Pointers {
             thresholds,
             blocks: (0..q).map(|j| packed.block(q, j)).collect(),
             nodes: vec![roots],
+            above: vec![Above { node: 0, child: 0, children: q as u16 }],
+            free: Vec::new(),
             lists,
             masks: Masks::new(packed.width),
             found: Found::new(pages),
@@ -87,24 +99,53 @@ impl Pointers {
     /// A page is put into a leaf, which may be there or not.
     fn put(&mut self, node: usize, child: usize, page: u16) -> u32 {
         let at = match self.nodes[node][child] {
-            NONE => self.lists.one(page),
+            NONE => {
+                self.above[node].children += 1;
+                self.lists.one(page)
+            }
             leaf => self.lists.push(leaf & !LEAF, page),
         };
         self.nodes[node][child] = LEAF | at;
         at
     }
 
-    /// The leaf's pages go to leaves below a new inner node, by the byte at `start`.
-    fn split(&mut self, at: u32, start: usize, end: usize) -> u32 {
-        let node = self.nodes.len();
+    /// An inner node without children, to be this child of a node.
+    fn inner(&mut self, node: usize, child: usize) -> usize {
+        let above = Above { node: node as u32, child: child as u8, children: 0 };
+        if let Some(inner) = self.free.pop() {
+            self.above[inner as usize] = above;
+            return inner as usize;
+        }
         self.nodes.push([NONE; 256]);
+        self.above.push(above);
+        self.nodes.len() - 1
+    }
+
+    /// The pages of a leaf go to leaves below a new inner node in its place, by the byte at `start`.
+    fn split(&mut self, node: usize, child: usize, at: u32, start: usize, end: usize) {
+        let inner = self.inner(node, child);
+        self.nodes[node][child] = inner as u32;
         for i in 0..self.lists.pages(at).len() {
             let page = self.lists.page(at, i);
             let child = Self::byte(self.packed.row(page.into()), start, end);
-            self.put(node, child, page);
+            self.put(inner, child, page);
         }
         self.lists.give_up(at);
-        node as u32
+    }
+
+    /// A child is no more: so is each inner node above that has lost its last child by this. A root so emptied is a leaf without pages.
+    fn prune(&mut self, mut node: usize, mut child: usize) {
+        while node != 0 {
+            self.nodes[node][child] = NONE;
+            let above = &mut self.above[node];
+            above.children -= 1;
+            if above.children > 0 {
+                return;
+            }
+            self.free.push(node as u32);
+            (node, child) = (above.node as usize, usize::from(above.child));
+        }
+        self.nodes[0][child] = LEAF | self.lists.empty();
     }
 
     pub fn add(&mut self, page: u32, class: u8, sketch: &[u8]) -> bool {
@@ -121,13 +162,13 @@ impl Pointers {
             let at = self.put(node, child, page as u16);
             let (first, end) = self.blocks[j];
             if start < end && self.lists.pages(at).len() > usize::from(self.thresholds[(start - first) / 8]) {
-                self.nodes[node][child] = self.split(at, start, end);
+                self.split(node, child, at, start, end);
             }
         }
         true
     }
 
-    /// An emptied leaf goes, unless it is a root.
+    /// A leaf whose only page this is goes, unless it is a root, and so do the inner nodes above that it leaves without children.
     pub fn drop(&mut self, page: u32) -> bool {
         let p = page as usize;
         if p >= self.live.len() || !self.live[p] {
@@ -135,11 +176,12 @@ impl Pointers {
         }
         for j in 0..self.blocks.len() {
             let (node, child, _) = self.place(j, p);
-            let at = self.lists.remove(self.nodes[node][child] & !LEAF, page as u16);
-            self.nodes[node][child] = LEAF | at;
-            if node != 0 && self.lists.pages(at).is_empty() {
+            let at = self.nodes[node][child] & !LEAF;
+            if node != 0 && self.lists.pages(at).len() == 1 {
                 self.lists.give_up(at);
-                self.nodes[node][child] = NONE;
+                self.prune(node, child);
+            } else {
+                self.nodes[node][child] = LEAF | self.lists.remove(at, page as u16);
             }
         }
         self.live[p] = false;
@@ -153,6 +195,12 @@ impl Pointers {
             walk.visit(self.nodes[0][j], start, end, radius / self.blocks.len() as u32);
         }
         walk.test.tested
+    }
+
+    /// How many inner nodes are in use.
+    #[cfg(test)]
+    pub(super) fn inner_nodes(&self) -> usize {
+        self.nodes.len() - 1 - self.free.len()
     }
 
     #[cfg(test)]

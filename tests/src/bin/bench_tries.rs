@@ -8,6 +8,7 @@ use vetchdawn_tests::tables::{Settings, Tables};
 
 const PAGES: usize = 65_535;
 const ROUNDS: usize = 7;
+const GROUP: usize = 8;
 
 fn opened(s: &Settings) -> Tables {
     let mut t = Tables::filled_with(0, s);
@@ -28,35 +29,38 @@ fn shuffled(random: &mut Random) -> Vec<u32> {
     pages
 }
 
-fn run(name: &str, s: &Settings, sketches: &[Vec<u8>]) {
+/// Of pages that follow each other `group` have one sketch: the drop of the last of them is timed.
+fn run(name: &str, s: &Settings, sketches: &[Vec<u8>], group: u32) {
     let mut random = Random::new(5);
-    let (adds, drops) = (shuffled(&mut random), shuffled(&mut random));
+    let adds = shuffled(&mut random);
+    let (drops, before): (Vec<u32>, Vec<u32>) = shuffled(&mut random).into_iter().partition(|p| p % group == 0);
     let mut times = [const { Vec::new() }; 4];
     for _ in 0..ROUNDS {
         let mut t = opened(s);
         let mut plain = Pointers::new(s.b, s.m as usize, s.q as usize, PAGES, s.thresholds[0]);
         let mut lent = t.lend();
-        let each = |start: Instant| start.elapsed().as_nanos() as f64 / PAGES as f64;
+        let each = |start: Instant, pages: &[u32]| start.elapsed().as_nanos() as f64 / pages.len() as f64;
         let start = Instant::now();
         for &p in &adds {
             assert_eq!(calls::add(&mut lent, p, p % 64, &sketches[p as usize]), 0);
         }
-        times[0].push(each(start));
+        times[0].push(each(start, &adds));
         let start = Instant::now();
         for &p in &adds {
             assert!(plain.add(p, (p % 64) as u8, &sketches[p as usize]));
         }
-        times[1].push(each(start));
+        times[1].push(each(start, &adds));
+        assert!(before.iter().all(|&p| calls::drop(&mut lent, p) == 0 && plain.drop(p)));
         let start = Instant::now();
         for &p in &drops {
             assert_eq!(calls::drop(&mut lent, p), 0);
         }
-        times[2].push(each(start));
+        times[2].push(each(start, &drops));
         let start = Instant::now();
         for &p in &drops {
             assert!(plain.drop(p));
         }
-        times[3].push(each(start));
+        times[3].push(each(start, &drops));
     }
     let [a, b, c, d] = times.map(median);
     println!("add   {name:10} {a:8.0} ns   {b:8.0} ns   {:.2}", a / b);
@@ -64,13 +68,16 @@ fn run(name: &str, s: &Settings, sketches: &[Vec<u8>]) {
 }
 
 fn main() {
-    println!("65,535 pages, b 4, m 32, q 4, threshold 32");
+    println!("65,535 pages, b 4, m 32, q 4, threshold 32; deep: threshold 0, drops that take out a chain of inner nodes in each block");
     println!("call  sketches   this library   pointer trie   ratio");
     let s = Settings { b: 4, m: 32, q: 4, pages: PAGES as u32, nodes: 262_144, thresholds: vec![32; 64] };
     let mut random = Random::new(4);
     let any: Vec<Vec<u8>> = (0..PAGES).map(|_| random.bytes(32, 16)).collect();
-    run("random", &s, &any);
+    run("random", &s, &any, 1);
     let centres = Sketches::new(&mut random, 4, 32, 600);
     let alike: Vec<Vec<u8>> = (0..PAGES).map(|_| centres.near(&mut random, 6)).collect();
-    run("clustered", &s, &alike);
+    run("clustered", &s, &alike, 1);
+    let s = Settings { thresholds: vec![0; 64], ..s };
+    let equal: Vec<Vec<u8>> = (0..PAGES).map(|p| any[p / GROUP].clone()).collect();
+    run("deep", &s, &equal, GROUP as u32);
 }

@@ -15,7 +15,7 @@ enum-known-taken : tie.Need-enum-known-taken
 enum-known-taken c = search needs
 
 set-first-requires : tie.Need-set-first-requires
-set-first-requires c κs = (search needs, (omega arith, (omega arith, search (first-link, arith))))
+set-first-requires c κs = (search needs, ((omega arith, omega arith, omega arith), (search needs, search (first-link, arith))))
 
 enum-told : tie.Need-enum-told
 enum-told c = search needs

@@ -1,19 +1,31 @@
 -- `remove_page` meets its contract.
 use native.Mathlib.Omega.{arith}
-use Rattle.trie.proofs.Inside.{leaf-node, leaf-slot}
+use Rattle.trie.proofs.Inside.{leaf-node, leaf-slot, leaf-level}
+use Rattle.trie_remove.proofs.Prunes.{noted-within}
 use Rattle.trie_remove.proofs.Steps.{remove-leaf, remove-gap, remove-nowhere}
 use borrow.Author.Needs.{needs}
 use Rattle.trie_remove.proofs.remove_page.Statement.{statement}
 use Rattle.trie_remove.proofs.remove_page.Tie as tie
 
-descend-to-requires : tie.Need-descend-to-requires
-descend-to-requires c κs = search needs
+trace-to-requires : tie.Need-trace-to-requires
+trace-to-requires c κs = search needs
 
 enum-known-reach : tie.Need-enum-known-reach
 enum-known-reach c = search needs
 
 remove-at-requires : tie.Need-remove-at-requires
-remove-at-requires c κs = (search needs, (search needs, (search leaf-node, search leaf-slot, omega arith)))
+remove-at-requires c κs =
+    let trace = c .before .before .before .before .before .before .before .trace-to in
+    let reach = c .before .before .before .before .before .reach .given in (
+      search needs,
+      (
+        search needs,
+        (
+          (search leaf-node, search leaf-slot, omega (arith, leaf-level _ _ _ _ _ _ (reach .1) (trace .ensures .1 .0)), omega arith),
+          noted-within _ _ _ _ (omega arith) (λ k. omega (arith, c .before .before .before .before .before .before .before .before .before .before .before .shared-slice-known .given k)) _ _ _ _ (reach .1) _ (trace .ensures .1 .1),
+        ),
+      ),
+    )
 
 enum-told : tie.Need-enum-told
 enum-told c = search needs
@@ -46,7 +58,7 @@ pub remove-page-spec : {M : Type 1} → statement M
 remove-page-spec =
     tie.close
     (tie.spec
-    descend-to-requires
+    trace-to-requires
     enum-known-reach
     remove-at-requires
     enum-told

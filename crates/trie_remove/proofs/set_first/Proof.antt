@@ -1,5 +1,5 @@
 -- `set_first` meets its contract.
-use Rattle.trie_remove.proofs.Steps.{first-some, first-root, first-freed}
+use Rattle.trie_remove.proofs.Steps.{first-some, first-none}
 use borrow.Author.Needs.{needs}
 use Rattle.trie_remove.proofs.set_first.Statement.{statement}
 use Rattle.trie_remove.proofs.set_first.Tie as tie
@@ -13,20 +13,14 @@ same-length c = search needs
 returns : tie.Need-returns
 returns c = search first-some
 
+prune-up-requires : tie.Need-prune-up-requires
+prune-up-requires c κs = search needs
+
 same-length-2 : tie.Need-same-length-2
 same-length-2 c = search needs
 
 returns-2 : tie.Need-returns-2
-returns-2 c = search first-root
-
-free-child-requires : tie.Need-free-child-requires
-free-child-requires c κs = search needs
-
-same-length-3 : tie.Need-same-length-3
-same-length-3 c = search needs
-
-returns-3 : tie.Need-returns-3
-returns-3 c = search first-freed
+returns-2 c = search first-none
 
 pub set-first-spec : {M : Type 1} → statement M
 set-first-spec =
@@ -35,8 +29,6 @@ set-first-spec =
     set-leaf-requires
     same-length
     returns
+    prune-up-requires
     same-length-2
-    returns-2
-    free-child-requires
-    same-length-3
-    returns-3)
+    returns-2)

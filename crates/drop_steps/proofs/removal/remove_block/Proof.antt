@@ -1,7 +1,8 @@
 -- `remove_block` is `removeBlock`.
 use native.Mathlib.Omega.{arith}
-use mathlib.Core.Path.{sym, _∙_}
+use mathlib.Core.Path.{_≡_, sym, _∙_}
 use borrow.Author.Needs.{needs}
+use lib.ListN.{length, take}
 use lib.Seq.{length-take-le}
 use Rattle.blocks.specs.Tables.{InTables}
 use Rattle.blocks.proofs.Tables.{in-tables}
@@ -30,16 +31,18 @@ tables c =
 array-share-prefix-bytes : tie.Need-array-share-prefix-bytes
 array-share-prefix-bytes c = omega (arith, tables (c .before .before) .rows .short)
 
+-- as many bytes as the block has
+all-bytes : (c : tie.After-rows-of) → length (take (c .rows-of .result .bytes) (c .before .before .row-bytes .result)) ≡ c .rows-of .result .bytes
+all-bytes c = length-take-le (c .rows-of .result .bytes) (c .before .before .row-bytes .result) (omega (arith, tables c .rows .short))
+
 slice-aggregate-remove-page : tie.Need-slice-aggregate-remove-page
-slice-aggregate-remove-page c =
-    let r = c .before .before .before in
-    sym (length-take-le (r .rows-of .result .bytes) (r .before .before .row-bytes .result) (omega (arith, tables r .rows .short)))
+slice-aggregate-remove-page c = sym (all-bytes (c .before .before .before))
 
 remove-page-requires : tie.Need-remove-page-requires
 remove-page-requires c κs =
     let r = c .before .before .before in
     let t = tables r in
-    (t .nodes, (t .pages, (t .root, rw (r .before .block-of .ensures) (entry r .pre .1 .0))))
+    (t .nodes, (t .pages, (t .root, (rw (r .before .block-of .ensures) (entry r .pre .1 .0), omega (arith, all-bytes r, t .rows .short)))))
 
 same-length : tie.Need-same-length
 same-length c = search needs

@@ -1,0 +1,23 @@
+-- Of sound stores, what laws of several calls use.
+use Prim.Native.Nat.{ℕ, _<_}
+use mathlib.Core.Path.{_≡_, sym, ap, _∙_}
+use mathlib.Core.Bool.{true}
+use mathlib.Core.List.{List}
+use borrow.Author.Tests.{ltb-true}
+use lib.Dec.{ltb}
+use lib.ListN.{length, length-map}
+use Rattle.meaning.specs.Trie.{Tree}
+use Rattle.meaning.proofs.Lists.{and-first}
+use Rattle.layout.specs.Pages.{isLive}
+use Rattle.children.specs.Phys.{tree}
+use Rattle.promises.specs.Tables.{Tables, given}
+use Rattle.promises.specs.Sound.{livePage, Sound}
+
+-- a live page is below the capacity
+pub live-below : (T : Tables) (p : ℕ) → livePage T p ≡ true → p < given T .pages
+unfolding livePage
+live-below T p e = ltb-true p (given T .pages) (and-first (ltb p (given T .pages)) (isLive (T .pages) p) e)
+
+-- as many tries as blocks
+pub tries-count : (T : Tables) (F : List Tree) → Sound T F → length F ≡ given T .blocks
+tries-count T F sound = ap length (sym (sound .forest)) ∙ length-map (sound .tries) tree ∙ sound .holding .blocks
