@@ -1,6 +1,7 @@
 pub mod Abstract
 pub mod Steps
 pub mod Context
+pub mod Restate
 pub mod Fresh
 pub mod Spans
 pub mod Descends

@@ -6,7 +6,7 @@ use mathlib.Core.Bool.{Bool, true, false, cond, _&&_}
 use native.Mathlib.Omega.{arith}
 use borrow.Author.Tests.{le-leb, lt-leb, ltb-true, ltb-false}
 use lib.Dec.{ltb}
-use lib.ListN.{length, getD, length-set}
+use lib.ListN.{length, getD}
 use Rattle.meaning.specs.Trie.{Tree, leaf, inner, none, byteAt, split, addLeaf, nodes, nodesIn}
 use Rattle.layout.specs.Nodes.{stateAt, innerState, leafState, mostNodes}
 use Rattle.trie.specs.declared.leaf.Got.the-variants.{Node}
@@ -17,8 +17,9 @@ use Rattle.blocks.specs.Tables.{RowTable}
 use Rattle.blocks.specs.Packed.{pageByte, levelAt}
 use Rattle.trie.specs.Model.{spanFrom}
 use Rattle.children.specs.Phys.{Phys, noKid, root, tree, first, pageCells, noKids, freeCells, cells, Below, State, leafP, innerP}
-use Rattle.children.proofs.Frame.{Less, less, node-write, nodes-kept}
+use Rattle.children.proofs.Frame.{Less}
 use Rattle.trie.proofs.Context.{below}
+use Rattle.trie.proofs.Restate.{restate}
 use Rattle.blocks.proofs.Bytes.{level-table, byte-small}
 use Rattle.trie.proofs.Spans.{Linked, spanOf, span-right, pages-linked, leaf-most}
 use Rattle.trie_insert.specs.Pages.{pushNodes, pushPages, pushPage, After, pushed, after}
@@ -50,17 +51,7 @@ module _ {cap pcap base : ℕ} {N P : List ℕ} {free n : ℕ} {ps fs : List ℕ
   together = record { holds = λ N P h. ((h .0, (h .1 .0, tt)), h .1 .1); nodes = λ a. omega arith; pages = λ a. omega arith }
 
   pub open-state : State cap pcap base (openLeaf N cap n) P free (innerP n noKid) fs (pageCells base ps ⊕ G)
-  open-state =
-      let t = st .nodeTable in
-      let l : n < cap = st .sound .0 in
-      record {
-        nodeTable = nodes-kept (simp length-set) t;
-        pageTable = st .pageTable;
-        heap = less together (node-write innerState (less apart (st .heap)) (omega arith));
-        sound = (l, tt);
-        chain = st .chain;
-        below = st .below;
-      }
+  open-state = restate innerState st (st .sound .0) (st .sound .0, tt) apart together
 
 module _ (bytesOf : ℕ → List ℕ) (S τ : List ℕ) (r : Rows) (cap pcap base k : ℕ) (rows : RowTable pcap r S)
     (are : k < r .bytes → (p : ℕ) → p < pcap → byteAt bytesOf k p ≡ pageByte S (levelAt r k) p) where

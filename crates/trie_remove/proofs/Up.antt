@@ -11,7 +11,7 @@ use Rattle.layout.specs.Nodes.{stateAt, innerState, leafState, mostNodes}
 use Rattle.children.specs.Heap.{Cells, node, _⊕_}
 use Rattle.children.specs.Order.{bare}
 use Rattle.children.specs.Phys.{Phys, Kids, noKid, kid, root, tree, childrenOf, noKids, freeCells, cells, State, leafP, innerP}
-use Rattle.children.proofs.Frame.{Less, less, node-write, nodes-kept}
+use Rattle.children.proofs.Frame.{Less}
 use Rattle.children.proofs.Held.{Held, gap, held}
 use Rattle.children.proofs.Kids.{root-below}
 use Rattle.children.proofs.Bare.{held-bare, bare-none}
@@ -23,6 +23,7 @@ use Rattle.trie_laws.proofs.Path.{remove-emptied, remove-at-inner, replace-node
 use Rattle.trie.specs.Model.{freeChild}
 use Rattle.trie.specs.Descend.{Passed, passed}
 use Rattle.trie.proofs.Context.{enter}
+use Rattle.trie.proofs.Restate.{restate}
 use Rattle.trie.proofs.Way.{Way, go-out}
 use Rattle.trie.proofs.Arrival.{Linked, wayTo, put-below}
 use Rattle.trie.proofs.Free.{free-state}
@@ -31,29 +32,18 @@ use Rattle.trie_remove.proofs.Prunes.{up-stop, up-on}
 
 -- an inner node without children is made an empty leaf
 module _ {cap pcap base : ℕ} {N P : List ℕ} {free n : ℕ} {fs : List ℕ} {G : Cells} (st : State cap pcap base N P free (innerP n noKid) fs G) where
-  R : Cells
-  R = noKids cap n ⊕ freeCells cap fs ⊕ G
-
-  apart : Less (cells cap base (innerP n noKid) ⊕ freeCells cap fs ⊕ G) (node (stateAt cap n) innerState ⊕ R)
-  unfolding R
-  apart = record { holds = λ N P h. search; nodes = λ a. omega arith; pages = λ a. omega arith }
-
-  together : Less (node (stateAt cap n) (leafState 0) ⊕ R) (cells cap base (leafP n []) ⊕ freeCells cap fs ⊕ G)
-  unfolding R
-  together = record { holds = λ N P h. search; nodes = λ a. omega arith; pages = λ a. omega arith }
-
   leaf-state : State cap pcap base (set N (stateAt cap n) (leafState 0)) P free (leafP n []) fs G
   leaf-state =
-      let t = st .nodeTable in
-      let l : n < cap = st .sound .0 in
-      record {
-        nodeTable = nodes-kept (simp length-set) t;
-        pageTable = st .pageTable;
-        heap = less together (node-write (leafState 0) (less apart (st .heap)) (omega (arith, t .long)));
-        sound = (l, tt);
-        chain = st .chain;
-        below = st .below;
-      }
+      restate (leafState 0) st (st .sound .0) (st .sound .0, tt) apart together
+    where
+      R : Cells
+      R = noKids cap n ⊕ freeCells cap fs ⊕ G
+
+      apart : Less (cells cap base (innerP n noKid) ⊕ freeCells cap fs ⊕ G) (node (stateAt cap n) innerState ⊕ R)
+      apart = record { holds = λ N P h. search; nodes = λ a. omega arith; pages = λ a. omega arith }
+
+      together : Less (node (stateAt cap n) (leafState 0) ⊕ R) (cells cap base (leafP n []) ⊕ freeCells cap fs ⊕ G)
+      together = record { holds = λ N P h. search; nodes = λ a. omega arith; pages = λ a. omega arith }
 
 -- ---- nodes counted
 module _ (cap pcap base : ℕ) (small : cap ≤ mostNodes) where

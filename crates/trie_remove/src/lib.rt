@@ -71,63 +71,66 @@ pub fn take_page(pages: &mut [u32], pcap: usize, base: usize, first: u32, p: usi
     Taken::First(after)
 }
 
-// Up from an empty leaf n: where it is not the root it is freed, and the node above is an empty leaf in its turn where it has no child
+// A leaf that a way down has reached: the slot that links to it, 0 at the root, and its level.
+pub struct Reached {
+    pub node: usize,
+    pub slot: usize,
+    pub level: usize,
+}
+
+// Up from an empty leaf: where it is not the root it is freed, and the node above is an empty leaf in its turn where it has no child
 // left. The path has the nodes above, and their slots. The free link then.
 fn prune_up(
     nodes: &mut [u32],
     cap: usize,
     above: &[u32; 64],
     slots: &[u32; 64],
-    n: usize,
-    slot: usize,
-    level: usize,
+    leaf: Reached,
     free: u32,
 ) -> u32
     requires { ⌜ NodeTable cap (now nodes) ⌝ }
-    requires { ⌜ (n < cap) × (slot < nodeWords cap) × (level ≤ 64) ⌝ }
-    requires { ⌜ InTable cap (noted (now above) (now slots)) level ⌝ }
-    ensures { λ r. ⌜ freed (now (nodes .exit)) r ≡ pruneUp (now (nodes .entry)) cap (noted (now (above .entry)) (now (slots .entry))) level n slot free ⌝ }
+    requires { ⌜ (leaf .node < cap) × (leaf .slot < nodeWords cap) × (leaf .level ≤ 64) ⌝ }
+    requires { ⌜ InTable cap (noted (now above) (now slots)) (leaf .level) ⌝ }
+    ensures { λ r. ⌜ freed (now (nodes .exit)) r ≡ pruneUp (now (nodes .entry)) cap (noted (now (above .entry)) (now (slots .entry))) (leaf .level) (leaf .node) (leaf .slot) free ⌝ }
 {
-    let mut leaf = n;
-    let mut at = slot;
-    let mut left = level;
+    let mut n = leaf.node;
+    let mut slot = leaf.slot;
+    let mut level = leaf.level;
     let mut link = free;
-    while left > 0 {
-        link = free_child(nodes, cap, at, leaf, link);
-        left -= 1;
-        leaf = above[left] as usize;
-        at = slots[left] as usize;
-        if !is_bare(nodes, cap, leaf) {
+    while level > 0 {
+        link = free_child(nodes, cap, slot, n, link);
+        level -= 1;
+        n = above[level] as usize;
+        slot = slots[level] as usize;
+        if !is_bare(nodes, cap, n) {
             return link;
         }
-        set_leaf(nodes, cap, leaf, 0);
+        set_leaf(nodes, cap, n, 0);
     }
     link
 }
 
-// Leaf n with another first page; where it has none, nodes are freed from it on up. The free link then.
+// A leaf with another first page; where it has none, nodes are freed from it on up. The free link then.
 pub fn set_first(
     nodes: &mut [u32],
     cap: usize,
     above: &[u32; 64],
     slots: &[u32; 64],
-    n: usize,
-    slot: usize,
-    level: usize,
+    leaf: Reached,
     link: u32,
     free: u32,
 ) -> u32
     requires { ⌜ NodeTable cap (now nodes) ⌝ }
-    requires { ⌜ (n < cap) × (slot < nodeWords cap) × (level ≤ 64) ⌝ }
-    requires { ⌜ InTable cap (noted (now above) (now slots)) level ⌝ }
+    requires { ⌜ (leaf .node < cap) × (leaf .slot < nodeWords cap) × (leaf .level ≤ 64) ⌝ }
+    requires { ⌜ InTable cap (noted (now above) (now slots)) (leaf .level) ⌝ }
     requires { ⌜ link ≤ mostPages ⌝ }
-    ensures { λ r. ⌜ freed (now (nodes .exit)) r ≡ setFirst (now (nodes .entry)) cap (noted (now (above .entry)) (now (slots .entry))) n slot level link free ⌝ }
+    ensures { λ r. ⌜ freed (now (nodes .exit)) r ≡ setFirst (now (nodes .entry)) cap (noted (now (above .entry)) (now (slots .entry))) (leaf .node) (leaf .slot) (leaf .level) link free ⌝ }
 {
-    set_leaf(nodes, cap, n, link);
+    set_leaf(nodes, cap, leaf.node, link);
     if link > 0 {
         return free;
     }
-    prune_up(nodes, cap, above, slots, n, slot, level, free)
+    prune_up(nodes, cap, above, slots, leaf, free)
 }
 
 // The free link after a removal.
@@ -136,30 +139,28 @@ pub enum Removed {
     Broken,
 }
 
-// Page p out of leaf n.
+// Page p out of a leaf.
 pub fn remove_at(
     nodes: &mut [u32],
     pages: &mut [u32],
     block: Block,
     above: &[u32; 64],
     slots: &[u32; 64],
-    n: usize,
-    slot: usize,
-    level: usize,
+    leaf: Reached,
     p: usize,
     free: u32,
 ) -> Removed
     requires { ⌜ NodeTable (block .nodes) (now nodes) ⌝ }
     requires { ⌜ PageTable (block .pages) (block .base) (now pages) ⌝ }
-    requires { ⌜ (n < block .nodes) × (slot < nodeWords (block .nodes)) × (level ≤ 64) × (p < block .pages) ⌝ }
-    requires { ⌜ InTable (block .nodes) (noted (now above) (now slots)) level ⌝ }
-    ensures { λ r. ⌜ gone (now (nodes .exit)) (now (pages .exit)) r ≡ removeAt (now (nodes .entry)) (now (pages .entry)) (block .nodes) (block .pages) (block .base) (noted (now (above .entry)) (now (slots .entry))) n slot level p free ⌝ }
+    requires { ⌜ (leaf .node < block .nodes) × (leaf .slot < nodeWords (block .nodes)) × (leaf .level ≤ 64) × (p < block .pages) ⌝ }
+    requires { ⌜ InTable (block .nodes) (noted (now above) (now slots)) (leaf .level) ⌝ }
+    ensures { λ r. ⌜ gone (now (nodes .exit)) (now (pages .exit)) r ≡ removeAt (now (nodes .entry)) (now (pages .entry)) (block .nodes) (block .pages) (block .base) (noted (now (above .entry)) (now (slots .entry))) (leaf .node) (leaf .slot) (leaf .level) p free ⌝ }
 {
-    let first = first_page(nodes, block.nodes, n);
+    let first = first_page(nodes, block.nodes, leaf.node);
     let taken = take_page(pages, block.pages, block.base, first, p);
     match taken {
         Taken::First(link) => {
-            Removed::Done(set_first(nodes, block.nodes, above, slots, n, slot, level, link, free))
+            Removed::Done(set_first(nodes, block.nodes, above, slots, leaf, link, free))
         },
         Taken::Inside => Removed::Done(free),
         Taken::Missing => Removed::Broken,
@@ -189,7 +190,12 @@ pub fn remove_page(
     let reach = trace_to(nodes, block.nodes, root, bytes, &mut above, &mut slots);
     match reach {
         Reach::Leaf(n, slot, level) => {
-            remove_at(nodes, pages, block, &above, &slots, n, slot, level, p, free)
+            let leaf = Reached {
+                node: n,
+                slot: slot,
+                level: level,
+            };
+            remove_at(nodes, pages, block, &above, &slots, leaf, p, free)
         }
         Reach::Gap(_, _, _) => Removed::Broken,
         Reach::Broken => Removed::Broken,

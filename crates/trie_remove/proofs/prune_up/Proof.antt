@@ -13,12 +13,12 @@ use Rattle.trie_remove.proofs.prune_up.Statement.{statement}
 use Rattle.trie_remove.proofs.prune_up.Tie as tie
 
 abbrev Inv-loop : tie.InvT-loop
-Inv-loop nodes₀ cap above slots n slot level free leaf₀ at₀ left₀ link₀ nodes leaf at left link =
-    (pruneUp nodes cap (noted above slots) left leaf at link ≡ pruneUp nodes₀ cap (noted above slots) level n slot free)
-    × (leaf < cap) × (at < nodeWords cap) × (left ≤ level) × (length nodes ≡ length nodes₀)
+Inv-loop nodes₀ cap above slots free n₀ slot₀ level₀ link₀ nodes n slot level link =
+    (pruneUp nodes cap (noted above slots) level n slot link ≡ pruneUp nodes₀ cap (noted above slots) level₀ n₀ slot₀ free)
+    × (n < cap) × (slot < nodeWords cap) × (level ≤ level₀) × (length nodes ≡ length nodes₀)
 
 abbrev μ-loop : tie.MeasureT-loop
-μ-loop nodes₀ cap above slots n slot level free leaf₀ at₀ left₀ link₀ nodes leaf at left link = left
+μ-loop nodes₀ cap above slots free n₀ slot₀ level₀ link₀ nodes n slot level link = level
 
 loop-holds : tie.Need-loop-holds Inv-loop μ-loop
 loop-holds c = (refl, omega arith, omega arith, omega arith, refl)
@@ -26,40 +26,40 @@ loop-holds c = (refl, omega arith, omega arith, omega arith, refl)
 free-child-requires : tie.Need-free-child-requires Inv-loop μ-loop
 free-child-requires c κs = search needs
 
-sub-left : tie.Need-sub-left Inv-loop μ-loop
-sub-left c = search needs
+sub-level : tie.Need-sub-level Inv-loop μ-loop
+sub-level c = search needs
 
-mul-leaf : tie.Need-mul-leaf Inv-loop μ-loop
-mul-leaf c = search needs
+mul-n : tie.Need-mul-n Inv-loop μ-loop
+mul-n c = search needs
 
-element-copy-out-leaf : tie.Need-element-copy-out-leaf Inv-loop μ-loop
-element-copy-out-leaf c = search needs
+element-copy-out-n : tie.Need-element-copy-out-n Inv-loop μ-loop
+element-copy-out-n c = search needs
 
-cast-leaf : tie.Need-cast-leaf Inv-loop μ-loop
-cast-leaf c =
+cast-n : tie.Need-cast-n Inv-loop μ-loop
+cast-n c =
     let at = c .before .before .before .before .before .before .loop in
     let pre = c .before .before .before .before .before .before .before .before .pre in
-    let inside = pre .1 .1 (at .left - 1) (omega (arith, at .inv .3)) in
+    let inside = pre .1 .1 (at .level - 1) (omega (arith, at .inv .3)) in
     record { fits = omega (arith, inside .0, pre .0 .small) }
 
-mul-at : tie.Need-mul-at Inv-loop μ-loop
-mul-at c = search needs
+mul-slot : tie.Need-mul-slot Inv-loop μ-loop
+mul-slot c = search needs
 
-element-copy-out-at : tie.Need-element-copy-out-at Inv-loop μ-loop
-element-copy-out-at c = search needs
+element-copy-out-slot : tie.Need-element-copy-out-slot Inv-loop μ-loop
+element-copy-out-slot c = search needs
 
-cast-at : tie.Need-cast-at Inv-loop μ-loop
-cast-at c =
+cast-slot : tie.Need-cast-slot Inv-loop μ-loop
+cast-slot c =
     let at = c .before .before .before .before .before .before .before .loop in
     let pre = c .before .before .before .before .before .before .before .before .before .pre in
-    let inside = pre .1 .1 (at .left - 1) (omega (arith, at .inv .3)) in
+    let inside = pre .1 .1 (at .level - 1) (omega (arith, at .inv .3)) in
     record { fits = omega (arith, inside .1, pre .0 .small) }
 
 is-bare-requires : tie.Need-is-bare-requires Inv-loop μ-loop
 is-bare-requires c κs =
     let at = c .before .before .before .before .before .before .before .before .loop in
     let pre = c .before .before .before .before .before .before .before .before .before .before .pre in
-    let inside = pre .1 .1 (at .left - 1) (omega (arith, at .inv .3)) in
+    let inside = pre .1 .1 (at .level - 1) (omega (arith, at .inv .3)) in
     (search needs, inside .0)
 
 same-length : tie.Need-same-length Inv-loop μ-loop
@@ -69,13 +69,13 @@ returns : tie.Need-returns Inv-loop μ-loop
 returns c =
     let at = c .before .before .before .before .before .before .before .before .before .before .loop in
     let f = c .before .before .before .before .before .before .before .free-child in
-    prune-stop (at .nodes) _ _ (at .left) (at .leaf) (at .at) (at .link) _ (at .inv .0) (omega arith) (f .last .0) (search needs) (f .result) (search needs) _ (c .before .is-bare .ensures) (not-true _ (c .if1 .taken))
+    prune-stop (at .nodes) _ _ (at .level) (at .n) (at .slot) (at .link) _ (at .inv .0) (omega arith) (f .last .0) (search needs) (f .result) (search needs) _ (c .before .is-bare .ensures) (not-true _ (c .if1 .taken))
 
 set-leaf-requires : tie.Need-set-leaf-requires Inv-loop μ-loop
 set-leaf-requires c κs =
     let at = c .before .before .before .before .before .before .before .before .before .before .before .loop in
     let pre = c .before .before .before .before .before .before .before .before .before .before .before .before .before .pre in
-    let inside = pre .1 .1 (at .left - 1) (omega (arith, at .inv .3)) in
+    let inside = pre .1 .1 (at .level - 1) (omega (arith, at .inv .3)) in
     (search needs, (inside .0, omega arith))
 
 loop-less : tie.Need-loop-less Inv-loop μ-loop
@@ -85,10 +85,10 @@ loop-again : tie.Need-loop-again Inv-loop μ-loop
 loop-again c =
     let at = c .before .before .before .before .before .before .before .before .before .before .before .before .before .before .loop in
     let pre = c .before .before .before .before .before .before .before .before .before .before .before .before .before .before .before .before .pre in
-    let inside = pre .1 .1 (at .left - 1) (omega (arith, at .inv .3)) in
+    let inside = pre .1 .1 (at .level - 1) (omega (arith, at .inv .3)) in
     let f = c .before .before .before .before .before .before .before .before .before .before .before .free-child in
     let step =
-    prune-on (at .nodes) _ _ (at .left) (at .leaf) (at .at) (at .link) _ (at .inv .0) (omega arith) (f .last .0) (search needs) (f .result) (search needs) _ (c .before .before .before .before .before .is-bare .ensures) (not-false _ (c .before .before .before .before .if1 .left))
+    prune-on (at .nodes) _ _ (at .level) (at .n) (at .slot) (at .link) _ (at .inv .0) (omega arith) (f .last .0) (search needs) (f .result) (search needs) _ (c .before .before .before .before .before .is-bare .ensures) (not-false _ (c .before .before .before .before .if1 .left))
     (c .before .before .set-leaf .last .0) (search needs) in
     (step, inside .0, inside .1, omega (arith, at .inv .3), search needs)
 
@@ -106,13 +106,13 @@ prune-up-spec =
     μ-loop
     loop-holds
     free-child-requires
-    sub-left
-    mul-leaf
-    element-copy-out-leaf
-    cast-leaf
-    mul-at
-    element-copy-out-at
-    cast-at
+    sub-level
+    mul-n
+    element-copy-out-n
+    cast-n
+    mul-slot
+    element-copy-out-slot
+    cast-slot
     is-bare-requires
     same-length
     returns
