@@ -97,7 +97,9 @@ uint32_t vetch_add(uint32_t *settings, size_t settings_len, uint32_t *nodes,
 
 /* Drops a page. A leaf that loses its last page by this, and then each inner
  * node that loses its last child, is free for later adds; a root becomes an
- * empty leaf instead. Tables from before this rule need no change. */
+ * empty leaf instead. Tables from before this rule need no change: inner nodes
+ * without children that they hold stay, and count for 12, until an add gives
+ * them a child. */
 uint32_t vetch_drop(uint32_t *settings, size_t settings_len, uint32_t *nodes,
                     size_t nodes_len, uint32_t *pages, size_t pages_len,
                     const uint8_t *sketches, size_t sketches_len,

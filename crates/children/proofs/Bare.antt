@@ -2,7 +2,7 @@
 use Prim.Native.Nat.{ℕ, _+_, _/_, _≤_, _<_}
 use native.Mathlib.Omega.{arith}
 use mathlib.Core.Path.{_≡_, refl}
-use mathlib.Core.Bool.{true}
+use mathlib.Core.Bool.{Bool, true, false}
 use mathlib.Core.List.{List}
 use borrow.Author.Tests.{eq-eqb, eqb-true}
 use lib.Dec.{eqb}
@@ -11,7 +11,7 @@ use Rattle.meaning.specs.Lists.{all, from, upto}
 use Rattle.layout.specs.Nodes.{headAt, headsAt, nodeWords}
 use Rattle.meaning.proofs.Lists.{upto-all}
 use Rattle.children.specs.Heap.{Holds}
-use Rattle.children.specs.Phys.{Kids, noKid, kid, root, firstIn, heads, noKids, SoundK}
+use Rattle.children.specs.Phys.{Phys, Kids, kid, root, firstIn, heads, noKids, SoundK}
 use Rattle.children.specs.Order.{bare}
 use Rattle.children.proofs.Kids.{head-held, held-heads}
 
@@ -39,12 +39,15 @@ module _ (N P : List ℕ) (cap x : ℕ) where
       refl
 
   -- a node that has children is not bare
-  pub bare-none : (pcap : ℕ) (ks : Kids) → SoundK cap pcap ks 0 → Holds (heads cap x (firstIn ks)) N P → bare N cap x ≡ true → ks ≡ noKid
-  bare-none pcap noKid g h e = refl
-  bare-none pcap (kid b t ks) g h e =
-      let at = head-held cap x N P (firstIn (kid b t ks)) 8 0 (b / 32) (omega arith) (omega arith) h in
-      let z : getD N (headAt cap x (b / 32)) 0 ≡ root t + 1 = rw (eq-eqb (b / 32) (b / 32) refl) at at in
-      absurd (omega (arith, z, head-held cap x N P (λ g. 0) 8 0 (b / 32) (omega arith) (omega arith) (bare-holds e)))
+  pub not-bare : (pcap b : ℕ) (t : Phys) (ks : Kids) → SoundK cap pcap (kid b t ks) 0 → Holds (heads cap x (firstIn (kid b t ks))) N P → bare N cap x ≡ false
+  not-bare pcap b t ks s h = go (bare N cap x) refl
+    where
+      at : getD N (headAt cap x (b / 32)) 0 ≡ root t + 1
+      at = rw (eq-eqb (b / 32) (b / 32) refl) at (head-held cap x N P (firstIn (kid b t ks)) 8 0 (b / 32) (omega arith) (omega (arith, s .1)) h)
+
+      go : (q : Bool) → bare N cap x ≡ q → q ≡ false
+      go false e = refl
+      go true e = absurd (omega (arith, at, head-held cap x N P (λ g. 0) 8 0 (b / 32) (omega arith) (omega (arith, s .1)) (bare-holds e)))
 
   -- where all heads are 0
   pub zeros-bare : x < cap → ((a : ℕ) → headsAt cap ≤ a → a < nodeWords cap → getD N a 0 ≡ 0) → Holds (noKids cap x) N P

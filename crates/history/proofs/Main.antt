@@ -76,7 +76,7 @@ theorem {es} {T} h = record {
   checked = λ a T′ p. p .0 .working-left ∙ zeros-left T L F W check;
   none-blank = unblank h;
   all-pruned = forest-pruned es;
-  few-nodes = few T L F W (forest-pruned es);
+  few-nodes = λ j l. omega (arith, few T L F W (forest-pruned es) j l);
   emptied = without-pages T L F W (forest-pruned es);
   sound = W .store;
 }

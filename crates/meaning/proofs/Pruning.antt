@@ -24,12 +24,15 @@ pub record Pruning : Type 0 where
   -- the leaf and the two nodes above it go; a node that has another child stays
   pub three-levels : remove bytes 0 123 (deep none other) ≡ inner other
   pub sibling : remove bytes 0 123 (deep other other) ≡ inner (child 1 (inner other) other)
+  -- a leaf that keeps a page stays
+  pub page-left : remove bytes 0 123 (inner (child 1 (leaf (123 ∷ 124 ∷ [])) childless)) ≡ inner (child 1 (leaf (124 ∷ [])) childless)
   -- a root that loses its last child is a leaf without pages
   pub root : remove bytes 0 123 (deep none none) ≡ leaf []
   pub leaf-root : remove bytes 0 123 (leaf (123 ∷ [])) ≡ leaf []
-  -- a childless sibling is a child, and stays: behind the page's byte, at the root, and before the page's byte
+  -- a childless sibling is a child, and stays: behind the page's byte, at the root, beside a node that stays, and before the page's byte
   pub childless-sibling : remove bytes 0 123 (deep childless none) ≡ inner (child 1 (inner childless) none)
   pub childless-above : remove bytes 0 123 (deep none childless) ≡ inner childless
+  pub childless-beside : remove bytes 0 123 (deep other childless) ≡ inner (child 1 (inner other) childless)
   pub childless-before : remove bytes 0 512 (inner (child 4 (inner none) (child 5 (leaf (512 ∷ [])) none))) ≡ inner childless
   -- so does a childless node where a page's bytes lead
   pub childless-there : remove bytes 0 440 (inner childless) ≡ inner childless
@@ -44,10 +47,12 @@ unfolding remove shrunk prune without byteAt pruned hasChild
 pruning = record {
   three-levels = refl;
   sibling = refl;
+  page-left = refl;
   root = refl;
   leaf-root = refl;
   childless-sibling = refl;
   childless-above = refl;
+  childless-beside = refl;
   childless-before = refl;
   childless-there = refl;
   childless-root = refl;

@@ -18,7 +18,6 @@ use Rattle.blocks.specs.Packed.{pageByte, levelAt}
 use Rattle.trie.specs.Model.{spanFrom}
 use Rattle.children.specs.Phys.{Phys, noKid, root, tree, first, pageCells, noKids, freeCells, cells, Below, State, leafP, innerP}
 use Rattle.children.proofs.Frame.{Less}
-use Rattle.trie.proofs.Context.{below}
 use Rattle.trie.proofs.Restate.{restate}
 use Rattle.blocks.proofs.Bytes.{level-table, byte-small}
 use Rattle.trie.proofs.Spans.{Linked, spanOf, span-right, pages-linked, leaf-most}

@@ -9,7 +9,7 @@ use lib.Dec.{eqb}
 use lib.ListN.{length}
 use borrow.Author.Tests.{eq-eqb, eqb-true}
 use Rattle.meaning.specs.Lists.{all, any, count}
-use Rattle.meaning.specs.Trie.{Tree, leaf, inner, Children, none, child, without, putLeaf, prune, shrunk, byteAt, split, remove, addLeaf, insert, pagesIn, pruned}
+use Rattle.meaning.specs.Trie.{Tree, leaf, inner, Children, none, child, without, putLeaf, prune, shrunk, byteAt, split, remove, addLeaf, insert, pagesIn}
 use Rattle.trie_laws.specs.Sound.{filled, packs, soundTrie, Stands, withoutPage}
 use Rattle.trie_laws.specs.Needed.{splits}
 use Rattle.trie_laws.specs.Path.{putChild, hasBelow, hasPath, subtree, replace, pathOf, depth}
@@ -21,7 +21,6 @@ use Rattle.trie_laws.proofs.Keeps.{insert-sound}
 use Rattle.trie_laws.proofs.Children.{has-put, child-put, drop-put, insert-gap, shrunk-some}
 use Rattle.trie_laws.proofs.Path.{path-replace, subtree-replace, replace-replace, replace-same, insert-path, remove-emptied, remove-path}
 use Rattle.trie_laws.proofs.Reach.{depth-path, depth-end, subtree-filled, path-any}
-use Rattle.trie_laws.proofs.Pruned.{insert-pruned, remove-pruned}
 
 without-absent : (p : ℕ) (xs : List ℕ) → any (eqb p) xs ≡ false → without p xs ≡ xs
 unfolding without any
@@ -118,7 +117,3 @@ module _ (bytesOf : ℕ → List ℕ) (b n len : ℕ) (thresholds : List ℕ) (p
         | holds z ↦ rw (z, ap live (eqb-true x p z) ∙ a) refl
         | fails z ↦ rw z refl
       ]
-
-  -- and every inner node has a child
-  pub again-pruned : (k : ℕ) (t : Tree) → pruned t ≡ true → pruned (insert bytesOf len thresholds k p (remove bytesOf k p t)) ≡ true
-  again-pruned k t q = insert-pruned bytesOf len thresholds k p (remove bytesOf k p t) (remove-pruned bytesOf k p t q)

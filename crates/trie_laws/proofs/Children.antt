@@ -114,32 +114,6 @@ module _ (b : ℕ) (u : Tree) where
     | fails e ↦ simp e (omega arith)
   ]
 
-  pub put-nodes : (cs : Children) → nodesIn (putChild b u cs) ≡ nodesIn cs + nodes u
-  unfolding putChild nodes
-  put-nodes none = omega arith
-  put-nodes (child c t cs) = elim (truth (ltb c b)) [
-    | holds e ↦ simp e (omega (arith, put-nodes cs))
-    | fails e ↦ simp e (omega arith)
-  ]
-
-  module _ (q : ℕ → Bool) where
-    pub set-count : (cs : Children) → has b cs ≡ true →
-        count q (pagesAmong (setChild b u cs)) + count q (pagesIn (childBy b cs)) ≡ count q (pagesAmong cs) + count q (pagesIn u)
-    unfolding has childBy setChild pagesIn
-    set-count none h = absurd (false≢true h)
-    set-count (child c t cs) h = elim (truth (ltb c b)) [
-      | holds e ↦ simp (e, count-append q) (omega (arith, set-count cs (rw e at h)))
-      | fails e ↦ simp (e, count-append q) (omega arith)
-    ]
-
-    pub put-count : (cs : Children) → count q (pagesAmong (putChild b u cs)) ≡ count q (pagesAmong cs) + count q (pagesIn u)
-    unfolding putChild pagesIn
-    put-count none = simp (count-append q) (omega arith)
-    put-count (child c t cs) = elim (truth (ltb c b)) [
-      | holds e ↦ simp (e, count-append q) (omega (arith, put-count cs))
-      | fails e ↦ simp (e, count-append q) (omega arith)
-    ]
-
 module _ (b : ℕ) where
   pub drop-nodes : (cs : Children) → has b cs ≡ true → nodesIn (dropChild b cs) + nodes (childBy b cs) ≡ nodesIn cs
   unfolding has childBy dropChild nodes

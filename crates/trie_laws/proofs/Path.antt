@@ -3,15 +3,14 @@ use Prim.Native.Nat.{ℕ, zero, suc, _+_}
 use native.Mathlib.Omega.{arith}
 use native.Mathlib.Nat.{add-zero}
 use mathlib.Core.Path.{_≡_, refl, sym, ap, _∙_}
-use mathlib.Core.Bool.{Bool, true, false, false≢true}
+use mathlib.Core.Bool.{true, false, false≢true}
 use mathlib.Core.List.{List, [], _∷_}
-use Rattle.meaning.specs.Lists.{count}
-use Rattle.meaning.specs.Trie.{Tree, leaf, inner, Children, without, shrunk, byteAt, remove, insert, nodes, pagesIn}
+use Rattle.meaning.specs.Trie.{Tree, leaf, inner, Children, without, shrunk, byteAt, remove, insert, nodes}
 use Rattle.trie_laws.specs.Sound.{filled}
 use Rattle.trie_laws.specs.Needed.{splitNodes, needed}
 use Rattle.trie_laws.specs.Path.{has, childBy, dropChild, pruneChild, hasBelow, below, setBelow, hasPath, subtree, replace, pathOf}
 use Rattle.meaning.proofs.Lists.{and-first, and-second}
-use Rattle.trie_laws.proofs.Children.{has-set, child-set, set-set, set-same, set-nodes, set-count, insert-there, needed-there, needed-gap, remove-there, shrunk-set}
+use Rattle.trie_laws.proofs.Children.{has-set, child-set, set-set, set-same, set-nodes, insert-there, needed-there, needed-gap, remove-there, shrunk-set}
 
 -- ---- one step
 module _ (y : ℕ) (u : Tree) where
@@ -34,12 +33,6 @@ module _ (y : ℕ) (u : Tree) where
   unfolding hasBelow below setBelow nodes
   below-nodes (leaf ps) h = absurd (false≢true h)
   below-nodes (inner cs) h = omega (arith, set-nodes y u cs h)
-
-  below-count : (q : ℕ → Bool) (t : Tree) → hasBelow y t ≡ true →
-      count q (pagesIn (setBelow y u t)) + count q (pagesIn (below y t)) ≡ count q (pagesIn t) + count q (pagesIn u)
-  unfolding hasBelow below setBelow pagesIn
-  below-count q (leaf ps) h = absurd (false≢true h)
-  below-count q (inner cs) h = set-count y u q cs h
 
   below-filled : (t : Tree) → hasBelow y t ≡ true → filled (setBelow y u t) ≡ true
   unfolding hasBelow setBelow filled
@@ -87,14 +80,6 @@ module _ (u : Tree) where
   replace-nodes (y ∷ ys) t h =
       let i = path-parts y ys t h in
       omega (arith, below-nodes y (replace ys (below y t) u) t (i .0), replace-nodes ys (below y t) (i .1))
-
-  pub replace-count : (q : ℕ → Bool) (ys : List ℕ) (t : Tree) → hasPath ys t ≡ true →
-      count q (pagesIn (replace ys t u)) + count q (pagesIn (subtree ys t)) ≡ count q (pagesIn t) + count q (pagesIn u)
-  unfolding hasPath subtree replace
-  replace-count q [] t h = omega arith
-  replace-count q (y ∷ ys) t h =
-      let i = path-parts y ys t h in
-      omega (arith, below-count y (replace ys (below y t) u) q t (i .0), replace-count q ys (below y t) (i .1))
 
   -- an inner node stays inner
   pub replace-filled : (ys : List ℕ) (t : Tree) → hasPath ys t ≡ true → filled u ≡ true → filled (replace ys t u) ≡ true

@@ -12,13 +12,13 @@ use Rattle.children.specs.Heap.{Cells, node, _⊕_}
 use Rattle.children.specs.Order.{bare}
 use Rattle.children.specs.Phys.{Phys, Kids, noKid, kid, root, tree, childrenOf, noKids, freeCells, cells, State, leafP, innerP}
 use Rattle.children.proofs.Frame.{Less}
-use Rattle.children.proofs.Held.{Held, gap, held}
+use Rattle.children.proofs.Held.{gap, held}
 use Rattle.children.proofs.Kids.{root-below}
-use Rattle.children.proofs.Bare.{held-bare, bare-none}
+use Rattle.children.proofs.Bare.{held-bare, not-bare}
 use Rattle.children.proofs.Spot.{SpotK}
 use Rattle.children.proofs.Spots.{spot-has, spot-child, spot-drop}
-use Rattle.trie_laws.specs.Path.{has, subtree, replace, pathOf}
-use Rattle.trie_laws.proofs.Children.{shrunk-some, shrunk-last}
+use Rattle.trie_laws.specs.Path.{subtree, replace, pathOf}
+use Rattle.trie_laws.proofs.Children.{drop-nodes, shrunk-some, shrunk-last}
 use Rattle.trie_laws.proofs.Path.{remove-emptied, remove-at-inner, replace-nodes}
 use Rattle.trie.specs.Model.{freeChild}
 use Rattle.trie.specs.Descend.{Passed, passed}
@@ -49,10 +49,13 @@ module _ {cap pcap base : ℕ} {N P : List ℕ} {free n : ℕ} {fs : List ℕ} {
 module _ (cap pcap base : ℕ) (small : cap ≤ mostNodes) where
   kids-count : {ks : Kids} {n b : ℕ} (s : SpotK cap pcap base small ks n b) (u : Phys) → s .there ≡ held u →
       nodesIn (childrenOf ks) ≡ nodesIn (childrenOf (s .put gap)) + nodes (tree u)
-  unfolding nodes
   kids-count {ks} {b = b} s u e =
-      let whole : childrenOf (s .put (held u)) ≡ childrenOf ks = ap (λ (x : Held). childrenOf (s .put x)) (sym e) ∙ ap childrenOf (s .whole) in
-      omega (arith, ap nodesIn whole, ap nodesIn (s .children (held u)), ap nodesIn (s .children gap), s .count (child b (tree u) (s .later)) (s .later))
+      omega (
+        arith,
+        drop-nodes b (childrenOf ks) (spot-has cap pcap base small s u e),
+        ap nodesIn (spot-drop cap pcap base small s u e),
+        ap nodes (spot-child cap pcap base small s u e),
+      )
 
   pub way-count : (bytesOf : ℕ → List ℕ) (p : ℕ) {t : Phys} {k : ℕ} {u : Phys} (w : Way cap pcap base small bytesOf p t k u) (v : Phys) →
       nodes (tree (w .context .put v)) + nodes (tree u) ≡ nodes (tree t) + nodes (tree v)
@@ -136,15 +139,9 @@ module _ {cap pcap base : ℕ} (small : cap ≤ mostNodes) (bytesOf : ℕ → Li
       abbrev rest : Phys
       rest = innerP (a .node) (a .spot .put gap)
 
-      not-bare : bare M cap (a .node) ≡ false
-      not-bare = go (bare M cap (a .node)) refl
-        where
-          go : (q : Bool) → bare M cap (a .node) ≡ q → q ≡ false
-          go false e = refl
-          go true e =
-              let x : kid b v ks ≡ noKid = sym z ∙ bare-none M P cap (a .node) pcap (a .spot .put gap) (a .spot .sound gap tt) (freed-state .heap .holds .0 .1 .0) e in
-              let i : _≡_ {A = ℕ} 0 1 = cc in
-              absurd (omega arith)
+      other : bare M cap (a .node) ≡ false
+      other =
+          not-bare M P cap (a .node) pcap b v ks (rw z at (a .spot .sound gap tt)) (rw z at (freed-state .heap .holds .0 .1 .0))
 
       stops : UpDone cap pcap base bytesOf p N P t u fs G (pruneUp N cap way (suc j) (root u) s free)
       unfolding nodes freeChild
@@ -155,7 +152,7 @@ module _ {cap pcap base : ℕ} (small : cap ≤ mostNodes) (bytesOf : ℕ → Li
             freeTo = root u + 1;
             trieTo = w .context .put rest;
             freesTo = root u ∷ fs;
-            is = up-stop N cap way j (root u) s free (ap (λ (y : Passed). bare M cap (y .node)) here ∙ not-bare);
+            is = up-stop N cap way j (root u) s free (ap (λ (y : Passed). bare M cap (y .node)) here ∙ other);
             state = go-out cap pcap base small bytesOf p w rest refl freed-state;
             root = w .context .roots rest refl;
             removed = w .rep rest ∙ sym (remove-at-inner bytesOf p j 0 (tree t) (w .path) (childrenOf (a .kids)) (childrenOf (a .spot .put gap)) (w .sub) (rw (zero-add j) x));

@@ -7,7 +7,7 @@ use borrow.Author.Tests.{not-true, not-false}
 use lib.ListN.{length}
 use Rattle.layout.specs.Nodes.{nodeWords}
 use Rattle.trie.specs.Descend.{noted}
-use Rattle.trie_remove.specs.Prune.{pruneUp}
+use Rattle.trie_remove.specs.Prune.{pruneUp, InTable}
 use Rattle.trie_remove.proofs.Prunes.{prune-done, prune-stop, prune-on}
 use Rattle.trie_remove.proofs.prune_up.Statement.{statement}
 use Rattle.trie_remove.proofs.prune_up.Tie as tie
@@ -15,13 +15,13 @@ use Rattle.trie_remove.proofs.prune_up.Tie as tie
 abbrev Inv-loop : tie.InvT-loop
 Inv-loop nodes₀ cap above slots free n₀ slot₀ level₀ link₀ nodes n slot level link =
     (pruneUp nodes cap (noted above slots) level n slot link ≡ pruneUp nodes₀ cap (noted above slots) level₀ n₀ slot₀ free)
-    × (n < cap) × (slot < nodeWords cap) × (level ≤ level₀) × (length nodes ≡ length nodes₀)
+    × (n < cap) × (slot < nodeWords cap) × (level ≤ 64) × InTable cap (noted above slots) level × (length nodes ≡ length nodes₀)
 
 abbrev μ-loop : tie.MeasureT-loop
 μ-loop nodes₀ cap above slots free n₀ slot₀ level₀ link₀ nodes n slot level link = level
 
 loop-holds : tie.Need-loop-holds Inv-loop μ-loop
-loop-holds c = (refl, omega arith, omega arith, omega arith, refl)
+loop-holds c = (refl, omega arith, omega arith, omega arith, search needs, refl)
 
 free-child-requires : tie.Need-free-child-requires Inv-loop μ-loop
 free-child-requires c κs = search needs
@@ -39,8 +39,7 @@ cast-n : tie.Need-cast-n Inv-loop μ-loop
 cast-n c =
     let at = c .before .before .before .before .before .before .loop in
     let pre = c .before .before .before .before .before .before .before .before .pre in
-    let inside = pre .1 .1 (at .level - 1) (omega (arith, at .inv .3)) in
-    record { fits = omega (arith, inside .0, pre .0 .small) }
+    record { fits = omega (arith, at .inv .4 (at .level - 1) (omega arith) .0, pre .0 .small) }
 
 mul-slot : tie.Need-mul-slot Inv-loop μ-loop
 mul-slot c = search needs
@@ -52,15 +51,12 @@ cast-slot : tie.Need-cast-slot Inv-loop μ-loop
 cast-slot c =
     let at = c .before .before .before .before .before .before .before .loop in
     let pre = c .before .before .before .before .before .before .before .before .before .pre in
-    let inside = pre .1 .1 (at .level - 1) (omega (arith, at .inv .3)) in
-    record { fits = omega (arith, inside .1, pre .0 .small) }
+    record { fits = omega (arith, at .inv .4 (at .level - 1) (omega arith) .1, pre .0 .small) }
 
 is-bare-requires : tie.Need-is-bare-requires Inv-loop μ-loop
 is-bare-requires c κs =
     let at = c .before .before .before .before .before .before .before .before .loop in
-    let pre = c .before .before .before .before .before .before .before .before .before .before .pre in
-    let inside = pre .1 .1 (at .level - 1) (omega (arith, at .inv .3)) in
-    (search needs, inside .0)
+    (search needs, at .inv .4 (at .level - 1) (omega arith) .0)
 
 same-length : tie.Need-same-length Inv-loop μ-loop
 same-length c = search needs
@@ -74,9 +70,7 @@ returns c =
 set-leaf-requires : tie.Need-set-leaf-requires Inv-loop μ-loop
 set-leaf-requires c κs =
     let at = c .before .before .before .before .before .before .before .before .before .before .before .loop in
-    let pre = c .before .before .before .before .before .before .before .before .before .before .before .before .before .pre in
-    let inside = pre .1 .1 (at .level - 1) (omega (arith, at .inv .3)) in
-    (search needs, (inside .0, omega arith))
+    (search needs, (at .inv .4 (at .level - 1) (omega arith) .0, omega arith))
 
 loop-less : tie.Need-loop-less Inv-loop μ-loop
 loop-less c = search needs
@@ -84,13 +78,12 @@ loop-less c = search needs
 loop-again : tie.Need-loop-again Inv-loop μ-loop
 loop-again c =
     let at = c .before .before .before .before .before .before .before .before .before .before .before .before .before .before .loop in
-    let pre = c .before .before .before .before .before .before .before .before .before .before .before .before .before .before .before .before .pre in
-    let inside = pre .1 .1 (at .level - 1) (omega (arith, at .inv .3)) in
+    let inside = at .inv .4 (at .level - 1) (omega arith) in
     let f = c .before .before .before .before .before .before .before .before .before .before .before .free-child in
     let step =
     prune-on (at .nodes) _ _ (at .level) (at .n) (at .slot) (at .link) _ (at .inv .0) (omega arith) (f .last .0) (search needs) (f .result) (search needs) _ (c .before .before .before .before .before .is-bare .ensures) (not-false _ (c .before .before .before .before .if1 .left))
     (c .before .before .set-leaf .last .0) (search needs) in
-    (step, inside .0, inside .1, omega (arith, at .inv .3), search needs)
+    (step, inside .0, inside .1, omega (arith, at .inv .3), (λ j l. at .inv .4 j (omega arith)), search needs)
 
 same-length-2 : tie.Need-same-length-2 Inv-loop μ-loop
 same-length-2 c = search needs

@@ -30,15 +30,19 @@ step-to-requires c κs = search needs
 enum-known-step : tie.Need-enum-known-step Inv-loop μ-loop
 enum-known-step c = search needs
 
+-- a step to a child takes a byte
+deeper : (c : tie.After-known-told Inv-loop μ-loop) → c .before .before .before .before .loop .level < length (c .before .before .before .before .before .before .before .args .bytes .now)
+deeper c = child-level _ _ _ _ (c .before .before .before .step-to .ensures .1) _ _ (c .before .step .given .1)
+
 add-level : tie.Need-add-level Inv-loop μ-loop
-add-level c = record { fits = omega (arith, child-level _ _ _ _ (c .before .before .before .step-to .ensures .1) _ _ (c .before .step .given .1)) }
+add-level c = record { fits = omega (arith, deeper c) }
 
 loop-less : tie.Need-loop-less Inv-loop μ-loop
-loop-less c = omega (arith, child-level _ _ _ _ (c .before .before .before .step-to .ensures .1) _ _ (c .before .step .given .1))
+loop-less c = omega (arith, deeper c)
 
 loop-again : tie.Need-loop-again Inv-loop μ-loop
 loop-again c =
-    let l = child-level _ _ _ _ (c .before .before .before .step-to .ensures .1) _ _ (c .before .step .given .1) in
+    let l = deeper c in
     (search (desc-child, l), search child-node, search child-slot, omega (arith, l))
 
 enum-told : tie.Need-enum-told Inv-loop μ-loop

@@ -33,34 +33,38 @@ step-to-requires c κs = search needs
 enum-known-step : tie.Need-enum-known-step Inv-loop μ-loop
 enum-known-step c = search needs
 
+-- a step to a child takes a byte
+deeper : (c : tie.After-known-told Inv-loop μ-loop) → c .before .before .before .before .loop .level < length (c .before .before .before .before .before .before .before .args .bytes .now)
+deeper c = child-level _ _ _ _ (c .before .before .before .step-to .ensures .1) _ _ (c .before .step .given .1)
+
 cast-above : tie.Need-cast-above Inv-loop μ-loop
 cast-above c = search needs
 
 mul-above : tie.Need-mul-above Inv-loop μ-loop
-mul-above c = record { fits = omega (arith, child-level _ _ _ _ (c .before .before .before .step-to .ensures .1) _ _ (c .before .step .given .1)) }
+mul-above c = record { fits = omega (arith, deeper c) }
 
 element-write-above : tie.Need-element-write-above Inv-loop μ-loop
-element-write-above c = omega (arith, child-level _ _ _ _ (c .before .before .before .step-to .ensures .1) _ _ (c .before .step .given .1))
+element-write-above c = omega (arith, deeper c)
 
 cast-slots : tie.Need-cast-slots Inv-loop μ-loop
 cast-slots c = search needs
 
 mul-slots : tie.Need-mul-slots Inv-loop μ-loop
-mul-slots c = record { fits = omega (arith, child-level _ _ _ _ (c .before .before .before .step-to .ensures .1) _ _ (c .before .step .given .1)) }
+mul-slots c = record { fits = omega (arith, deeper c) }
 
 element-write-slots : tie.Need-element-write-slots Inv-loop μ-loop
-element-write-slots c = omega (arith, child-level _ _ _ _ (c .before .before .before .step-to .ensures .1) _ _ (c .before .step .given .1))
+element-write-slots c = omega (arith, deeper c)
 
 add-level : tie.Need-add-level Inv-loop μ-loop
-add-level c = record { fits = omega (arith, child-level _ _ _ _ (c .before .before .before .step-to .ensures .1) _ _ (c .before .step .given .1)) }
+add-level c = record { fits = omega (arith, deeper c) }
 
 loop-less : tie.Need-loop-less Inv-loop μ-loop
-loop-less c = omega (arith, child-level _ _ _ _ (c .before .before .before .step-to .ensures .1) _ _ (c .before .step .given .1))
+loop-less c = omega (arith, deeper c)
 
 loop-again : tie.Need-loop-again Inv-loop μ-loop
 loop-again c =
     let at = c .before .before .before .before .loop in
-    let l = child-level _ _ _ _ (c .before .before .before .step-to .ensures .1) _ _ (c .before .step .given .1) in
+    let l = deeper c in
     let noted = note-on (at .above) (at .slots) _ (at .level) (at .n) (at .slot) (at .inv .5) (at .inv .4) (omega (arith, l)) (omega (arith, l)) in
     (search (desc-child, l), search child-node, search child-slot, omega (arith, l), search passed-on, noted, search needs, search needs)
 
