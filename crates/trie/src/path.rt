@@ -78,7 +78,8 @@ pub fn descend_to(nodes: &[u32], cap: usize, root: usize, bytes: &[u8]) -> Reach
     }
 }
 
-// The same way; each inner node passed is noted at its level, with the slot that links to it.
+// The same way; each inner node passed is noted at its level, with the slot that links to it. (The prover is told that the arrays have
+// 64 places.)
 pub fn trace_to(
     nodes: &[u32],
     cap: usize,

@@ -8,7 +8,6 @@ use vetchdawn_tests::tables::{Settings, Tables};
 
 const PAGES: usize = 65_535;
 const ROUNDS: usize = 7;
-const GROUP: usize = 8;
 
 fn opened(s: &Settings) -> Tables {
     let mut t = Tables::filled_with(0, s);
@@ -21,33 +20,34 @@ fn median(mut times: Vec<f64>) -> f64 {
     times[times.len() / 2]
 }
 
-fn shuffled(random: &mut Random) -> Vec<u32> {
-    let mut pages: Vec<u32> = (0..PAGES as u32).collect();
+fn shuffled(random: &mut Random, pages: u32) -> Vec<u32> {
+    let mut pages: Vec<u32> = (0..pages).collect();
     for i in (1..pages.len()).rev() {
         pages.swap(i, random.below(i as u64 + 1) as usize);
     }
     pages
 }
 
-/// Of pages that follow each other `group` have one sketch: the drop of the last of them is timed.
+/// Each sketch is that of `group` pages in a row: the drop of the last of them is timed.
 fn run(name: &str, s: &Settings, sketches: &[Vec<u8>], group: u32) {
     let mut random = Random::new(5);
-    let adds = shuffled(&mut random);
-    let (drops, before): (Vec<u32>, Vec<u32>) = shuffled(&mut random).into_iter().partition(|p| p % group == 0);
+    let sketch = |p: u32| &sketches[(p / group) as usize];
+    let adds = shuffled(&mut random, s.pages);
+    let (drops, before): (Vec<u32>, Vec<u32>) = shuffled(&mut random, s.pages).into_iter().partition(|p| p % group == 0);
     let mut times = [const { Vec::new() }; 4];
     for _ in 0..ROUNDS {
         let mut t = opened(s);
-        let mut plain = Pointers::new(s.b, s.m as usize, s.q as usize, PAGES, s.thresholds[0]);
+        let mut plain = Pointers::new(s.b, s.m as usize, s.q as usize, s.pages as usize, s.thresholds[0]);
         let mut lent = t.lend();
         let each = |start: Instant, pages: &[u32]| start.elapsed().as_nanos() as f64 / pages.len() as f64;
         let start = Instant::now();
         for &p in &adds {
-            assert_eq!(calls::add(&mut lent, p, p % 64, &sketches[p as usize]), 0);
+            assert_eq!(calls::add(&mut lent, p, p % 64, sketch(p)), 0);
         }
         times[0].push(each(start, &adds));
         let start = Instant::now();
         for &p in &adds {
-            assert!(plain.add(p, (p % 64) as u8, &sketches[p as usize]));
+            assert!(plain.add(p, (p % 64) as u8, sketch(p)));
         }
         times[1].push(each(start, &adds));
         assert!(before.iter().all(|&p| calls::drop(&mut lent, p) == 0 && plain.drop(p)));
@@ -68,7 +68,8 @@ fn run(name: &str, s: &Settings, sketches: &[Vec<u8>], group: u32) {
 }
 
 fn main() {
-    println!("65,535 pages, b 4, m 32, q 4, threshold 32; deep: threshold 0, drops that take out a chain of inner nodes in each block");
+    println!("65,535 pages, b 4, m 32, q 4, threshold 32");
+    println!("deep: threshold 0, drops that take out a chain of inner nodes in each block; chain: 32,000 pages, b 8, m 64, q 1, chains of 63");
     println!("call  sketches   this library   pointer trie   ratio");
     let s = Settings { b: 4, m: 32, q: 4, pages: PAGES as u32, nodes: 262_144, thresholds: vec![32; 64] };
     let mut random = Random::new(4);
@@ -78,6 +79,8 @@ fn main() {
     let alike: Vec<Vec<u8>> = (0..PAGES).map(|_| centres.near(&mut random, 6)).collect();
     run("clustered", &s, &alike, 1);
     let s = Settings { thresholds: vec![0; 64], ..s };
-    let equal: Vec<Vec<u8>> = (0..PAGES).map(|p| any[p / GROUP].clone()).collect();
-    run("deep", &s, &equal, GROUP as u32);
+    run("deep", &s, &any, 8);
+    let s = Settings { b: 8, m: 64, q: 1, pages: 32_000, ..s };
+    let long: Vec<Vec<u8>> = (0..500).map(|_| random.bytes(64, 256)).collect();
+    run("chain", &s, &long, 64);
 }
