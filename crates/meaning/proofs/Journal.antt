@@ -4,8 +4,9 @@ use mathlib.Core.Path.{_≡_, refl}
 use mathlib.Core.List.{List, [], _∷_}
 use Rattle.meaning.specs.Lists.{any}
 use Rattle.meaning.specs.Refusal.{firstNo}
+use Rattle.meaning.specs.Output.{output}
 use Rattle.meaning.specs.Rights.{join, grant, revoke}
-use Rattle.meaning.specs.Journal.{opens, adds, changes, searches, entries, known, operandBytes, inPlace, form, wordAt, command, taken, ended, command-to, markAt, formAt, next, digits, decimal, fields, searchLine, refusalLine, lastLine}
+use Rattle.meaning.specs.Journal.{opens, adds, changes, searches, entries, known, operandBytes, inPlace, form, wordAt, command, taken, ended, command-to, markAt, formAt, next, digits, decimal, fields, hits, searchLine, refusalLine, lastLine}
 
 -- its 61 bytes
 abbrev journal : List ℕ
@@ -33,9 +34,9 @@ pub record WorkedJournal : Type 0 where
   pub at-46 : next 4 journal 46 ≡ command-to (searches 5 2 query) 53
   pub at-53 : next 4 journal 53 ≡ command-to (adds 600 3 zeros) 61
   pub at-61 : next 4 journal 61 ≡ ended
-  -- its output: S 5 2 2 7, S 5 0, E 53 8, Z 61
-  pub found : searchLine 5 (2 ∷ 7 ∷ []) ≡ 83 ∷ 32 ∷ 53 ∷ 32 ∷ 50 ∷ 32 ∷ 50 ∷ 32 ∷ 55 ∷ 10 ∷ []
-  pub none : searchLine 5 [] ≡ 83 ∷ 32 ∷ 53 ∷ 32 ∷ 48 ∷ 10 ∷ []
+  -- its output: S 5 2 7:0 2:2, S 5 0, E 53 8, Z 61
+  pub found : searchLine 5 (output (7 ∷ 2 ∷ []) (0 ∷ 2 ∷ [])) ≡ 83 ∷ 32 ∷ 53 ∷ 32 ∷ 50 ∷ 32 ∷ 55 ∷ 58 ∷ 48 ∷ 32 ∷ 50 ∷ 58 ∷ 50 ∷ 10 ∷ []
+  pub none : searchLine 5 (output [] []) ≡ 83 ∷ 32 ∷ 53 ∷ 32 ∷ 48 ∷ 10 ∷ []
   pub too-high : refusalLine 53 8 ≡ 69 ∷ 32 ∷ 53 ∷ 51 ∷ 32 ∷ 56 ∷ 10 ∷ []
   pub last : lastLine 61 ≡ 90 ∷ 32 ∷ 54 ∷ 49 ∷ 10 ∷ []
   pub empty : lastLine 0 ≡ 90 ∷ 32 ∷ 48 ∷ 10 ∷ []
@@ -48,7 +49,7 @@ pub record WorkedJournal : Type 0 where
   pub whole : form 4 0 (68 ∷ 7 ∷ 0 ∷ 1 ∷ []) ≡ 0
 
 pub worked-journal : WorkedJournal
-unfolding any firstNo entries known operandBytes inPlace form wordAt command taken markAt formAt next digits decimal fields searchLine refusalLine lastLine
+unfolding any firstNo entries known operandBytes inPlace form wordAt command taken markAt formAt next digits decimal fields hits searchLine refusalLine lastLine
 worked-journal = record {
   at-0 = refl;
   at-6 = refl;

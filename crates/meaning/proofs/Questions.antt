@@ -9,6 +9,7 @@ use borrow.Author.Tests.{eqb-true}
 use Rattle.meaning.specs.Lists.{all}
 use Rattle.meaning.specs.Refusal.{firstNo}
 use Rattle.meaning.specs.Sketch.{inRange, blank}
+use Rattle.meaning.specs.Output.{Output, output, hasRoom}
 use Rattle.meaning.specs.Ledger.{search, Call, add, reading}
 use Rattle.meaning.specs.Questions.{View, asked}
 use Rattle.meaning.proofs.Lists.{and-first, and-second}
@@ -31,7 +32,7 @@ pub of-add : (v : View) (p c : ℕ) (x : List ℕ) → map (λ q. q .number) (as
 unfolding asked
 of-add v p c x = refl
 
-pub of-search : (v : View) (r d : ℕ) (x o : List ℕ) → map (λ q. q .number) (asked v (reading (search r d x o))) ≡ 7 ∷ 10 ∷ 11 ∷ 13 ∷ []
+pub of-search : (v : View) (r d : ℕ) (x : List ℕ) (o : Output) → map (λ q. q .number) (asked v (reading (search r d x o))) ≡ 7 ∷ 10 ∷ 11 ∷ 13 ∷ []
 unfolding asked
 of-search v r d x o = refl
 
@@ -69,10 +70,10 @@ pub record BlankPages : Type 0 where
   pub short : given true (add 0 3 (0 ∷ 0 ∷ 0 ∷ [])) ≡ 10
   pub high-symbol : given true (add 0 3 (0 ∷ 0 ∷ 0 ∷ 4 ∷ [])) ≡ 11
   -- a query of zeros is legal
-  pub query : given true (reading (search 5 2 zeros [])) ≡ 0
+  pub query : given true (reading (search 5 2 zeros (output [] []))) ≡ 0
 
 pub blank-pages : BlankPages
-unfolding asked firstNo all inRange blank
+unfolding asked firstNo all inRange blank hasRoom
 blank-pages = record {
   refused = refl;
   before-12 = refl;

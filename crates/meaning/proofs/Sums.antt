@@ -7,10 +7,11 @@ use native.Mathlib.Omega.{arith}
 use lib.Dec.{ltb, leb, eqb}
 use lib.ListN.{length}
 use borrow.Author.Tests.{le-leb}
-use Rattle.meaning.specs.Lists.{all, any, keep, count, onto, from, upto, sum}
+use Rattle.meaning.specs.Lists.{all, any, keep, count, grouped, onto, from, upto, sum}
 use Rattle.meaning.specs.Refusal.{firstNo}
 use Rattle.meaning.specs.Sketch.{distance, inRange, perByte, packedLength, packByte, packBytes, pack, group, symbolsAt, packable, allPackable, unpack, byteDistance, blockLength, blockStart, block}
 use Rattle.meaning.specs.SketchCalls.{sketchLimits, packNumber, unpackNumber}
+use Rattle.meaning.specs.Output.{nearest, listing}
 use Rattle.meaning.specs.Rights.{openTo, stands, samePair, write, changed}
 use Rattle.meaning.specs.Trie.{fresh, push, putLeaf, byteAt, split, addLeaf, insert, nodes, met}
 use Rattle.meaning.specs.Ledger.{Row, calledFor, listed, ledger, step, accept, withRows, withRegister, putRow}
@@ -41,9 +42,9 @@ too-far false n = refl
 
 pub marked-sums : MarkedSums
 unfolding
-    all any keep count onto from upto sum firstNo distance inRange perByte packedLength packByte packBytes pack group symbolsAt packable allPackable
+    all any keep count grouped onto from upto sum firstNo distance inRange perByte packedLength packByte packBytes pack group symbolsAt packable allPackable
     unpack byteDistance blockLength blockStart block sketchLimits packNumber unpackNumber openTo stands samePair write changed fresh push putLeaf byteAt split
-    addLeaf insert nodes met calledFor listed ledger step accept withRows withRegister putRow blockBytes bytesOfSketch bytesIn eachFrom
+    addLeaf insert nodes met nearest listing calledFor listed ledger step accept withRows withRegister putRow blockBytes bytesOfSketch bytesIn eachFrom
     forestAfter forest totalNodes metFrom asked adds nodesOfAdds twoPages
 marked-sums = record {
   first-packs = refl;

@@ -6,6 +6,7 @@ use lib.Dec.{ltb, leb, eqb}
 use lib.ListN.{length, getD, take, replicate, drop as skip}
 use Rattle.meaning.specs.Lists.{any}
 use Rattle.meaning.specs.Refusal.{ask, firstNo}
+use Rattle.meaning.specs.Output.{Output}
 use Rattle.meaning.specs.Rights.{Change, join, leave, grant, revoke}
 use Rattle.meaning.specs.Ledger.{settingsGiven, search, Call, opening, add, drop, change, reading}
 
@@ -24,8 +25,8 @@ pub data Command : Type 0 where
   -- S: reader, radius, query
   searches : ℕ → ℕ → List ℕ → Command
 
--- the call that a command makes, on tables for so many pages and nodes and with this output: a threshold is used at all levels
-unfoldable pub callOf : (pages nodes : ℕ) → List ℕ → Command → Call
+-- the call that a command makes, on tables for so many pages and nodes and with these lists for what a search finds: a threshold is used at all levels
+unfoldable pub callOf : (pages nodes : ℕ) → Output → Command → Call
 callOf pages nodes output (opens b m q t) = opening (settingsGiven b m q pages nodes (replicate 64 t))
 callOf pages nodes output (adds p c x) = add p c x
 callOf pages nodes output (drops p) = drop p
@@ -173,14 +174,24 @@ digits (suc places) n = cond (ltb n 10) ((48 + n) ∷ []) (digits places (n / 10
 unfoldable pub decimal : ℕ → List ℕ
 decimal n = digits (suc n) n
 
--- numbers, a blank before each, and the end of the line
+-- a number, with a blank before it
+abbrev pub field : ℕ → List ℕ
+field n = 32 ∷ decimal n
+
+-- numbers, and the end of the line
 unfoldable pub fields : List ℕ → List ℕ
 fields [] = 10 ∷ []
-fields (n ∷ ns) = 32 ∷ (decimal n ++ fields ns)
+fields (n ∷ ns) = field n ++ fields ns
 
--- S, reader, count, then the pages
-unfoldable pub searchLine : ℕ → List ℕ → List ℕ
-searchLine reader pages = 83 ∷ fields (reader ∷ length pages ∷ pages)
+-- hits, a blank before each, and the end of the line: page, colon, distance
+unfoldable pub hits : List ℕ → List ℕ → List ℕ
+hits [] ds = 10 ∷ []
+hits (p ∷ ps) [] = 10 ∷ []
+hits (p ∷ ps) (d ∷ ds) = field p ++ (58 ∷ (decimal d ++ hits ps ds))
+
+-- S, reader, count, then the hits
+unfoldable pub searchLine : ℕ → Output → List ℕ
+searchLine reader o = 83 ∷ (field reader ++ (field (length (o .pages)) ++ hits (o .pages) (o .distances)))
 
 -- E, the offset of the refused command, the number
 unfoldable pub refusalLine : ℕ → ℕ → List ℕ

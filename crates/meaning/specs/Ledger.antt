@@ -1,10 +1,11 @@
 -- The ledger of document 01: what a history of calls has left, told by their arguments and refusals alone.
 use Prim.Native.Nat.{ℕ}
 use mathlib.Core.Bool.{Bool, cond, _&&_, not}
-use mathlib.Core.List.{List, [], _∷_, map}
+use mathlib.Core.List.{List, [], _∷_}
 use lib.Dec.{ltb, leb, eqb}
 use Rattle.meaning.specs.Lists.{keep}
 use Rattle.meaning.specs.Sketch.{distance}
+use Rattle.meaning.specs.Output.{Output, listing}
 use Rattle.meaning.specs.Rights.{Register, noRights, openTo, Change, changed}
 
 -- what an opening is given: b, m, q, the capacities, and the thresholds by level
@@ -39,8 +40,8 @@ pub record Ledger : Type 0 where
 
 -- a call that changes nothing in the ledger
 pub data Reading : Type 0 where
-  -- reader, radius, query, output
-  search : ℕ → ℕ → List ℕ → List ℕ → Reading
+  -- reader, radius, query, the two lists lent for what is found
+  search : ℕ → ℕ → List ℕ → Output → Reading
   -- reader, page; the call beside show counts as a show
   show : ℕ → ℕ → Reading
   check : Reading
@@ -105,11 +106,15 @@ unfoldable pub ledger : List Event → Ledger
 ledger [] = unopened
 ledger (e ∷ es) = step e (ledger es)
 
--- the rows that a search calls for
+-- how far a row is from a query
+abbrev pub far : List ℕ → Row → ℕ
+far x r = distance (r .sketch) x
+
+-- the rows that a search calls for, rising by page
 unfoldable pub calledFor : Ledger → ℕ → ℕ → List ℕ → List Row
 calledFor L reader radius x =
-    keep (λ r. openTo (L .register) reader (r .class) && leb (distance (r .sketch) x) radius) (L .rows)
+    keep (λ r. openTo (L .register) reader (r .class) && leb (far x r) radius) (L .rows)
 
--- their page numbers
-unfoldable pub listed : Ledger → ℕ → ℕ → List ℕ → List ℕ
-listed L reader radius x = map (λ r. r .page) (calledFor L reader radius x)
+-- what it lists: their page numbers and distances, by distance, then by page
+unfoldable pub listed : Ledger → ℕ → ℕ → List ℕ → Output
+listed L reader radius x = listing (λ r. r .page) (far x) radius (calledFor L reader radius x)

@@ -2,6 +2,7 @@ pub mod Lists
 pub mod Refusal
 pub mod Sketch
 pub mod SketchCalls
+pub mod Output
 pub mod Trie
 pub mod Rights
 pub mod Ledger

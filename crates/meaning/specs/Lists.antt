@@ -2,6 +2,7 @@
 use Prim.Native.Nat.{ℕ, zero, suc, _+_}
 use mathlib.Core.Bool.{Bool, true, false, cond, _&&_, _||_}
 use mathlib.Core.List.{List, [], _∷_, _++_}
+use lib.Dec.{eqb}
 use lib.ListN.{length, drop}
 
 module _ {A : Type 0} where
@@ -24,6 +25,11 @@ module _ {A : Type 0} where
   unfoldable pub count : (A → Bool) → List A → ℕ
   count p [] = 0
   count p (x ∷ xs) = cond (p x) 1 0 + count p xs
+
+  -- for each number in turn the elements that have it, in their order
+  unfoldable pub grouped : (A → ℕ) → List ℕ → List A → List A
+  grouped f [] xs = []
+  grouped f (n ∷ ns) xs = keep (λ x. eqb (f x) n) xs ++ grouped f ns xs
 
   -- a table with a list written over its beginning: the rest stays as it was
   unfoldable pub onto : List A → List A → List A

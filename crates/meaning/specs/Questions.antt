@@ -8,6 +8,7 @@ use Rattle.meaning.specs.Lists.{all, any}
 use Rattle.meaning.specs.Refusal.{Question, ask}
 use Rattle.meaning.specs.Sketch.{inRange, blank}
 use Rattle.meaning.specs.SketchCalls.{sketchLimits}
+use Rattle.meaning.specs.Output.{hasRoom}
 use Rattle.meaning.specs.Rights.{openTo, changeInRange}
 use Rattle.meaning.specs.Trie.{Tree}
 use Rattle.meaning.specs.Ledger.{Settings, Ledger, Reading, search, show, check, Call, opening, add, drop, change, reading, calledFor}
@@ -44,7 +45,7 @@ askedOf v (search r d x o) =
     ask 7 (ltb r 256 && leb d 64)
     ∷ ask 10 (eqb (length x) (v .symbols))
     ∷ ask 11 (inRange (v .bits) x)
-    ∷ ask 13 (leb (v .found r d x) (length o))
+    ∷ ask 13 (hasRoom (v .found r d x) o)
     ∷ []
 askedOf v (show r p) = ask 7 (ltb r 256) ∷ ask 8 (ltb p (v .pages)) ∷ ask 9 (v .shown r p) ∷ []
 askedOf v check = []

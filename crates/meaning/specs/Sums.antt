@@ -8,6 +8,7 @@ use Rattle.meaning.specs.Lists.{keep, upto}
 use Rattle.meaning.specs.Refusal.{firstNo}
 use Rattle.meaning.specs.Sketch.{distance, pack, blockLength}
 use Rattle.meaning.specs.SketchCalls.{packNumber, unpackNumber}
+use Rattle.meaning.specs.Output.{Output, output}
 use Rattle.meaning.specs.Rights.{openTo, join, grant}
 use Rattle.meaning.specs.Trie.{Tree}
 use Rattle.meaning.specs.Ledger.{Settings, settingsGiven, Ledger, Event, search, Call, opening, add, change, reading, ledger, calledFor, listed}
@@ -62,8 +63,8 @@ pub record MarkedSums : Type 0 where
   pub equal-pages : nodesOfAdds 1 1 ((0 ∷ 1 ∷ 2 ∷ 3 ∷ []) ∷ (0 ∷ 1 ∷ 2 ∷ 3 ∷ []) ∷ []) ≡ 2
   -- q 2, radius 3: block distances 1 and 2 are found, 2 and 2 are not listed
   pub found : metFrom (settings 2 0) 3 query 0 (forest twoPages) ≡ 0 ∷ []
-  pub not-listed : listed (ledger twoPages) 5 3 query ≡ 0 ∷ []
+  pub not-listed : listed (ledger twoPages) 5 3 query ≡ output (0 ∷ []) (3 ∷ [])
   -- radius m lists every open page; radius 65 gives 7
   pub radius-m : (L : Ledger) (reader : ℕ) (x : List ℕ)
       → calledFor L reader (length x) x ≡ keep (λ r. openTo (L .register) reader (r .class)) (L .rows)
-  pub radius-65 : (L : Ledger) (F : List Tree) (reader : ℕ) (x output : List ℕ) → firstNo (asked (byLedger L F) (reading (search reader 65 x output))) ≡ 7
+  pub radius-65 : (L : Ledger) (F : List Tree) (reader : ℕ) (x : List ℕ) (o : Output) → firstNo (asked (byLedger L F) (reading (search reader 65 x o))) ≡ 7

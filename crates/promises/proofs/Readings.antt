@@ -12,15 +12,16 @@ use Rattle.meaning.specs.Lists.{all}
 use Rattle.meaning.specs.Refusal.{firstNo}
 use Rattle.meaning.specs.Sketch.{inRange}
 use Rattle.meaning.specs.SketchCalls.{lengthGiven, outputLeft}
+use Rattle.meaning.specs.Output.{Output, hasRoom, listing, bothLeft}
 use Rattle.meaning.specs.Trie.{Tree}
 use Rattle.meaning.specs.Ledger.{Reading, search, show, check, reading}
 use Rattle.meaning.specs.Questions.{asked}
 use Rattle.layout.specs.Settings.{showsOpening}
-use Rattle.promises.specs.Tables.{Tables, takesOf, given, pageClass, isShown, scan, byTables}
+use Rattle.promises.specs.Tables.{Tables, takesOf, given, pageClass, pageDistance, isShown, scan, byTables}
 use Rattle.promises.specs.Answers.{longFor, longSettings, longPages, shown56, entered, number}
-use Rattle.promises.specs.Readings.{rowShown, Lists, SearchPromise, CheckPromise, earlyNumber, workingLeft, listedOf}
+use Rattle.promises.specs.Readings.{rowShown, Lists, SearchPromise, CheckPromise, roomy, earlyNumber, workingLeft, listedOf}
 use Rattle.promises.specs.Sound.{Sound}
-use Rattle.promises.specs.Relation.{Answer, withList, withVerdict, toShow, Reads}
+use Rattle.promises.specs.Relation.{Answer, withLists, withRow, withVerdict, toShow, Reads}
 use Rattle.promises.proofs.Numbers.{number-in, number-behind}
 
 -- the working table that a reading leaves: as it was where it is not taken
@@ -70,27 +71,27 @@ either : (t : Bool) (k : ℕ) → cond (eqb (cond t 0 13) 0 || eqb (cond t 0 13)
 either true k = refl
 either false k = refl
 
-module _ (T : Tables) (r d : ℕ) (x o : List ℕ) where
+module _ (T : Tables) (r d : ℕ) (x : List ℕ) (o : Output) where
   abbrev early : ℕ
   early = earlyNumber T r d x
 
-  number-search : (F : List Tree) → number T F (reading (search r d x o)) ≡ cond (eqb early 0) (cond (leb (length (scan T r d x)) (length o)) 0 13) early
-  unfolding number entered shown56 longFor asked byTables firstNo
+  number-search : (F : List Tree) → number T F (reading (search r d x o)) ≡ cond (eqb early 0) (cond (hasRoom (length (scan T r d x)) o) 0 13) early
+  unfolding number entered shown56 longFor asked byTables firstNo hasRoom
   number-search F =
       rw (le-leb (length (scan T r d x)) (length (scan T r d x)) (omega arith))
       (asked-last (longSettings T) (showsOpening (T .settings) && longFor (given T) T (reading (search r d x o))) (ltb r 256 && leb d 64)
-      (eqb (length x) (given T .symbols)) (inRange (given T .bits) x) (cond (leb (length (scan T r d x)) (length o)) 0 13))
+      (eqb (length x) (given T .symbols)) (inRange (given T .bits) x) (cond (hasRoom (length (scan T r d x)) o) 0 13))
 
   early-later : firstNo (entered T (reading (search r d x o))) ≡ 0 → later early ≡ true
   unfolding number entered shown56 longFor asked later all
   early-later e =
-      number-behind later (shown56 T (reading (search r d x o))) (asked (byTables T []) (reading (search r d x (scan T r d x)))) refl e
-      (number-in later (asked (byTables T []) (reading (search r d x (scan T r d x)))) refl refl)
+      number-behind later (shown56 T (reading (search r d x o))) (asked (byTables T []) (reading (search r d x (roomy T r d x)))) refl e
+      (number-in later (asked (byTables T []) (reading (search r d x (roomy T r d x)))) refl refl)
 
-  module _ (n count : ℕ) (after working : List ℕ) (p : SearchPromise T r d x o n count after working) where
-    lists-later : (found : List ℕ) → Lists found o n count after → later n ≡ true
+  module _ (n count : ℕ) (after : Output) (working : List ℕ) (p : SearchPromise T r d x o n count after working) where
+    lists-later : (found : List ℕ) → Lists (pageDistance T x) d found o n count after → later n ≡ true
     unfolding later
-    lists-later found l = rw (l .refusal) (go (leb (length found) (length o)))
+    lists-later found l = rw (l .refusal) (go (hasRoom (length found) o))
       where
         go : (t : Bool) → later (cond t 0 13) ≡ true
         go true = refl
@@ -100,7 +101,7 @@ module _ (T : Tables) (r d : ℕ) (x o : List ℕ) where
     search-later : firstNo (entered T (reading (search r d x o))) ≡ 0 → later n ≡ true
     search-later e = go (eqb early 0) refl
       where
-        open-later : (n ≡ 14) ⊎ ((met : ℕ → Bool) × Lists (listedOf met T r d x) o n count after) → later n ≡ true
+        open-later : (n ≡ 14) ⊎ ((met : ℕ → Bool) × Lists (pageDistance T x) d (listedOf met T r d x) o n count after) → later n ≡ true
         open-later (inl z) = unfold later in rw z
         open-later (inr l) = lists-later _ (l .1)
 
@@ -112,31 +113,34 @@ module _ (T : Tables) (r d : ℕ) (x o : List ℕ) where
     unfolding workingLeft
     search-kept l m = p .working-left ∙ rw (ne-eqb (firstNo (entered T (reading (search r d x o)))) 0 (λ e. not-later n l m (search-later e)))
 
-    search-number : (F : List Tree) → Sound T F → n ≡ cond (eqb early 0) (cond (leb (length (scan T r d x)) (length o)) 0 13) early
+    search-number : (F : List Tree) → Sound T F → n ≡ cond (eqb early 0) (cond (hasRoom (length (scan T r d x)) o) 0 13) early
     search-number F s = go (eqb early 0) refl
       where
-        go : (t : Bool) → eqb early 0 ≡ t → n ≡ cond t (cond (leb (length (scan T r d x)) (length o)) 0 13) early
+        go : (t : Bool) → eqb early 0 ≡ t → n ≡ cond t (cond (hasRoom (length (scan T r d x)) o) 0 13) early
         go true e = p .sound F s (eqb-true early 0 e) .refusal
         go false e = p .early (eqb-false early 0 e)
 
   -- the plain scan keeps its promise
   scanned : ℕ
-  scanned = cond (eqb early 0) (cond (leb (length (scan T r d x)) (length o)) 0 13) early
+  scanned = cond (eqb early 0) (cond (hasRoom (length (scan T r d x)) o) 0 13) early
 
-  lists : early ≡ 0 → Lists (scan T r d x) o scanned (lengthGiven scanned (length (scan T r d x))) (outputLeft scanned (scan T r d x) o)
+  abbrev left : Output
+  left = bothLeft scanned (listing (λ p. p) (pageDistance T x) d (scan T r d x)) o
+
+  lists : early ≡ 0 → Lists (pageDistance T x) d (scan T r d x) o scanned (lengthGiven scanned (length (scan T r d x))) left
   unfolding scanned lengthGiven
   lists e = record {
     refusal = rw (eq-eqb early 0 e);
-    counted = rw (eq-eqb early 0 e) (either (leb (length (scan T r d x)) (length o)) (length (scan T r d x)));
+    counted = rw (eq-eqb early 0 e) (either (hasRoom (length (scan T r d x)) o) (length (scan T r d x)));
     output = refl;
   }
 
-  scan-promise : SearchPromise T r d x o scanned (lengthGiven scanned (length (scan T r d x))) (outputLeft scanned (scan T r d x) o) (workingLeft T (search r d x o))
+  scan-promise : SearchPromise T r d x o scanned (lengthGiven scanned (length (scan T r d x))) left (workingLeft T (search r d x o))
   scan-promise = record {
     early = λ e. unfold scanned in rw (ne-eqb early 0 e);
     sound = λ F s e. lists e;
     open-list = λ e. inr ((λ p. true), unfold listedOf scan in lists e);
-    refused = λ z w. unfold lengthGiven outputLeft in rw (ne-eqb scanned 0 z, ne-eqb scanned 13 w) (refl, refl);
+    refused = λ z w. unfold lengthGiven bothLeft outputLeft in rw (ne-eqb scanned 0 z, ne-eqb scanned 13 w) (refl, refl);
     working-left = refl;
   }
 
@@ -145,11 +149,11 @@ module _ (T : Tables) (r d : ℕ) (x o : List ℕ) where
   search-law = record {
     read = λ a working p. record {
       left = p .working-left;
-      kept = search-kept (a .number) (a .count) (a .list) working p;
-      numbered = λ F s. search-number (a .number) (a .count) (a .list) working p F s ∙ sym (number-search F);
+      kept = search-kept (a .number) (a .count) (a .output) working p;
+      numbered = λ F s. search-number (a .number) (a .count) (a .output) working p F s ∙ sym (number-search F);
     };
     possible = λ F s. record {
-      answer = withList scanned (lengthGiven scanned (length (scan T r d x))) (outputLeft scanned (scan T r d x) o);
+      answer = withLists scanned (lengthGiven scanned (length (scan T r d x))) left;
       working = workingLeft T (search r d x o);
       reads = scan-promise;
     };
@@ -166,7 +170,7 @@ module _ (T : Tables) (r p : ℕ) where
   show-law = record {
     read = λ a working h. record { left = h .2; kept = λ l m. h .2; numbered = λ F s. h .0 ∙ number-show F };
     possible = λ F s. record {
-      answer = withList (number (toShow T) [] (reading (show r p))) 0 (rowShown (toShow T) r p);
+      answer = withRow (number (toShow T) [] (reading (show r p))) (rowShown (toShow T) r p);
       working = T .working;
       reads = (refl, refl, refl);
     };

@@ -4,6 +4,7 @@ use Prim.Native.Nat.{ℕ}
 use mathlib.Core.Path.{_≡_}
 use mathlib.Core.Bool.{Bool, false}
 use mathlib.Core.List.{List, []}
+use Rattle.meaning.specs.Output.{Output, output}
 use Rattle.meaning.specs.Rights.{Change}
 use Rattle.meaning.specs.Ledger.{Reading, search, show, check, Call, opening, add, drop, change, reading}
 use Rattle.promises.specs.Tables.{Tables, tables, withSettings}
@@ -18,20 +19,25 @@ pub record Answer : Type 0 where
   pub number : ℕ
   -- a search: the count given
   pub count : ℕ
-  -- a search: its output afterwards; a show: the row
-  pub list : List ℕ
+  -- a search: its two lists afterwards
+  pub output : Output
+  -- a show
+  pub row : List ℕ
   -- a check
   pub yes : Bool
 
--- an answer of a number alone, with a count and a list, and with a yes or no
+-- an answer of a number alone; with a count and two lists; with a row; and with a yes or no
 abbrev pub numberAlone : ℕ → Answer
-numberAlone n = record { number = n; count = 0; list = []; yes = false }
+numberAlone n = record { number = n; count = 0; output = output [] []; row = []; yes = false }
 
-abbrev pub withList : ℕ → ℕ → List ℕ → Answer
-withList n count list = record { number = n; count = count; list = list; yes = false }
+abbrev pub withLists : ℕ → ℕ → Output → Answer
+withLists n count o = record { number = n; count = count; output = o; row = []; yes = false }
+
+abbrev pub withRow : ℕ → List ℕ → Answer
+withRow n row = record { number = n; count = 0; output = output [] []; row = row; yes = false }
 
 abbrev pub withVerdict : ℕ → Bool → Answer
-withVerdict n t = record { number = n; count = 0; list = []; yes = t }
+withVerdict n t = record { number = n; count = 0; output = output [] []; row = []; yes = t }
 
 -- the tables that an add or a drop takes, and those that a show takes; a table that is not taken stands as []
 abbrev pub toStore : Tables → Tables
@@ -49,9 +55,9 @@ withWorking T ws = record { settings = T .settings; nodes = T .nodes; pages = T 
 
 -- a reading, lent the tables T, gives this answer and leaves this working table
 abbrev pub Reads : Reading → Tables → Answer → List ℕ → Type 0
-Reads (search r d x o) T a working = SearchPromise T r d x o (a .number) (a .count) (a .list) working
+Reads (search r d x o) T a working = SearchPromise T r d x o (a .number) (a .count) (a .output) working
 Reads (show r p) T a working =
-    (a .number ≡ number (toShow T) [] (reading (show r p))) × (a .list ≡ rowShown (toShow T) r p) × (working ≡ T .working)
+    (a .number ≡ number (toShow T) [] (reading (show r p))) × (a .row ≡ rowShown (toShow T) r p) × (working ≡ T .working)
 Reads check T a working = CheckPromise T (a .number) (a .yes) working
 
 -- the call, lent the tables T, gives this answer and leaves the tables T′
@@ -79,4 +85,4 @@ OnStore c T n T′ = (working : List ℕ) → Promised c (withWorking T working)
 abbrev pub OnShow : ℕ → ℕ → Tables → ℕ → List ℕ → Type 0
 OnShow reader page T n row =
     (nodes working : List ℕ)
-    → let U = tables (T .settings) nodes (T .pages) (T .sketches) working in Promised (reading (show reader page)) U (withList n 0 row) U
+    → let U = tables (T .settings) nodes (T .pages) (T .sketches) working in Promised (reading (show reader page)) U (withRow n row) U

@@ -82,13 +82,17 @@ pageClass T p = classOf (T .pages) p
 unfoldable pub pageRow : Tables → ℕ → List ℕ
 pageRow T p = rowOf (given T .symbols) (T .sketches) p
 
+-- how far a page's row is from a query
+abbrev pub pageDistance : Tables → List ℕ → ℕ → ℕ
+pageDistance T x p = distance (pageRow T p) x
+
 -- a page is live, and its class is open to the reader
 unfoldable pub isShown : Tables → ℕ → ℕ → Bool
 isShown T reader p = isLive (T .pages) p && opens (T .settings) reader (pageClass T p)
 
--- the pages that a search is to list: those shown to the reader whose rows are within the radius of the query, rising
+-- the pages that a search is to list: those shown to the reader whose rows are within the radius of the query, here rising
 unfoldable pub scan : Tables → ℕ → ℕ → List ℕ → List ℕ
-scan T reader radius x = keep (λ p. isShown T reader p && leb (distance (pageRow T p) x) radius) (upto (given T .pages))
+scan T reader radius x = keep (λ p. isShown T reader p && leb (pageDistance T x p) radius) (upto (given T .pages))
 
 -- the rows of the live pages among n from page k on
 unfoldable pub rowsFrom : (ℕ → Bool) → (ℕ → Row) → ℕ → ℕ → List Row
