@@ -5,9 +5,9 @@ use borrow.Author.Tests.{le-leb, lt-leb}
 use Rattle.comparison.specs.Verdicts.{verdictOf}
 use Rattle.comparison.specs.declared.Verdict.the-variants.{Within, Beyond}
 
-pub within : (d radius : ℕ) → d ≤ radius → Within ≡ verdictOf d radius
+pub within : (d n radius : ℕ) → n ≡ d → d ≤ radius → Within n ≡ verdictOf d radius
 unfolding verdictOf
-within d radius h = rw (le-leb d radius h)
+within d n radius e h = rw (le-leb d radius h, e)
 
 pub beyond : (d radius : ℕ) → radius < d → Beyond ≡ verdictOf d radius
 unfolding verdictOf

@@ -6,4 +6,4 @@ use Rattle.comparison.specs.declared.Verdict.the-variants.{Within, Beyon
 use Rattle.comparison.specs.declared.Verdict.{Verdict}
 
 unfoldable pub verdictOf : ℕ → ℕ → Verdict
-verdictOf d radius = cond (leb d radius) Within Beyond
+verdictOf d radius = cond (leb d radius) (Within d) Beyond

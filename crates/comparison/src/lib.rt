@@ -10,9 +10,9 @@ ghost use Rattle.sketch.specs.Settings.{Bits};
 ghost use Rattle.comparison.specs.Shapes.{shapeOf, Shaped};
 ghost use Rattle.comparison.specs.Verdicts.{verdictOf};
 
-// Whether a distance is within a radius.
+// Whether a distance is within a radius; if so, the distance.
 pub enum Verdict {
-    Within,
+    Within(u32),
     Beyond,
 }
 
@@ -49,7 +49,7 @@ pub fn compare(shape: Shape, row: &[u8], query: &[u8], radius: u32) -> Verdict
     let mut k = 0;
     'bytes: loop {
         if k == shape.bytes {
-            break 'bytes Verdict::Within;
+            break 'bytes Verdict::Within(radius - left);
         }
         k += 1;
         let mut groups = if k == shape.bytes {

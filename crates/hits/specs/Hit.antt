@@ -1,7 +1,7 @@
 -- The test that a page must pass to be listed: live, of an open class, and within the radius of the query.
 use Prim.Native.Nat.{ℕ, _≤_}
 use mathlib.Core.Path.{_≡_}
-use mathlib.Core.Bool.{Bool, _&&_}
+use mathlib.Core.Bool.{Bool, cond, _&&_}
 use mathlib.Core.List.{List}
 use lib.Dec.{ltb, leb}
 use lib.ListN.{length}
@@ -14,6 +14,8 @@ use Rattle.layout.specs.Pages.{isLive, classOf, signatureAt, rowOf}
 use Rattle.layout.specs.Signature.{signature}
 use Rattle.rights.specs.declared.Classes.{Classes}
 use Rattle.rights.specs.Open.{isOpen, openClasses}
+use Rattle.comparison.specs.declared.Verdict.{Verdict}
+use Rattle.comparison.specs.declared.Verdict.the-variants.{Within, Beyond}
 use Rattle.promises.specs.Tables.{Tables, given}
 use Rattle.signature.specs.Distance.{signatureDistance}
 
@@ -41,13 +43,20 @@ pub record Fitting (t : Test) : Type 0 where
   pub sketches : sketchesLength (bare (t .header)) ≤ length (t .sketches)
   pub query : length (t .query) ≡ t .header .m
 
+-- how far the row of page p is from a query: m, the rows, the query
+abbrev pub rowDistance : ℕ → List ℕ → List ℕ → ℕ → ℕ
+rowDistance m sketches query p = distance (rowOf m sketches p) query
+
+abbrev pub far : Test → ℕ → ℕ
+far t p = rowDistance (t .header .m) (t .sketches) (t .query) p
+
 -- no number at or above the capacity passes
 unfoldable pub isHit : Test → ℕ → Bool
 isHit t p =
     ltb p (t .header .pages)
     && isLive (t .pages) p
     && isOpen (t .classes) (classOf (t .pages) p)
-    && leb (distance (rowOf (t .header .m) (t .sketches) p) (t .query)) (t .radius)
+    && leb (far t p) (t .radius)
 
 -- the signature stored for page p is within the radius of a signature s
 unfoldable pub isNear : Header → List ℕ → ℕ → ℕ → ℕ → Bool
@@ -60,3 +69,7 @@ nearQuery t p = isNear (t .header) (t .pages) (signature (t .header .b) (t .quer
 -- the test that a search makes of a page that it meets; it is `isHit` where the signature stored is that of the row
 unfoldable pub passes : Test → ℕ → Bool
 passes t p = isHit t p && nearQuery t p
+
+-- what it says: the distance of a page that passes
+unfoldable pub verdict : Test → ℕ → Verdict
+verdict t p = cond (passes t p) (Within (far t p)) Beyond

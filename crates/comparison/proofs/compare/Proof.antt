@@ -30,6 +30,9 @@ bytes-holds c =
     let all : c .args .radius - c .args .radius ≡ 0 = omega arith in
     (placed-start _ _ (c .pre .0), omega arith, rw all (counted-none (c .args .row .now) (c .args .query .now)))
 
+sub-t12 : tie.Need-sub-t12 Inv-loop μ-loop Inv-bytes μ-bytes
+sub-t12 c = c .before .before .bytes .inv .1
+
 add-k : tie.Need-add-k Inv-loop μ-loop Inv-bytes μ-bytes
 add-k c = omega (arith, c .before .before .bytes .inv .0 .most)
 
@@ -105,7 +108,8 @@ loop-again c =
 returns : tie.Need-returns Inv-loop μ-loop Inv-bytes μ-bytes
 returns c =
     let at = c .before .before in
-    within _ _ (omega (arith, counted-all _ _ _ _ (omega (arith, at .bytes .inv .0 .ends (c .if1 .taken))) (at .bytes .inv .2)))
+    let all = counted-all _ _ _ _ (omega (arith, at .bytes .inv .0 .ends (c .if1 .taken))) (at .bytes .inv .2) in
+    within _ _ _ (omega (arith, all)) (omega (arith, all))
 
 returns-2 : tie.Need-returns-2 Inv-loop μ-loop Inv-bytes μ-bytes
 returns-2 c = beyond _ _ (omega (arith, turned (c .before .before .before) .1))
@@ -119,6 +123,7 @@ compare-spec =
     Inv-bytes
     μ-bytes
     bytes-holds
+    sub-t12
     add-k
     loop-holds
     bytes-less

@@ -1,4 +1,4 @@
--- `passes` is `passes` of the specs.
+-- `judge` is `verdict`.
 use mathlib.Core.Path.{_≡_, sym, ap, _∙_}
 use mathlib.Core.Logic.{_≢_}
 use Prim.Native.Nat.{_-_}
@@ -7,14 +7,12 @@ use lib.ListN.{length, getD}
 use borrow.Author.Needs.{needs}
 use borrow.Author.Tests.{not-true, not-false}
 use Rattle.rights.specs.Open.{isOpen}
-use Rattle.comparison.specs.declared.Verdict.{Verdict}
-use Rattle.comparison.specs.declared.Verdict.the-variants.{Within, Beyond}
 use Rattle.comparison.specs.Shapes.{shapeOf}
-use Rattle.hits.specs.Hit.{Test, isNear, nearQuery, passes}
+use Rattle.hits.specs.Hit.{Test, isNear, nearQuery}
 use Rattle.hits.specs.Probes.{testBy}
-use Rattle.hits.proofs.Hit.{says, dead, closed, far, judged, page-inside, row-fits, row-long}
-use Rattle.hits.proofs.passes.Statement.{statement}
-use Rattle.hits.proofs.passes.Tie as tie
+use Rattle.hits.proofs.Hit.{dead, closed, hidden, judged, page-inside, row-fits, row-long}
+use Rattle.hits.proofs.judge.Statement.{statement}
+use Rattle.hits.proofs.judge.Tie as tie
 
 -- what is asked
 abbrev asked : tie.Start → Test
@@ -72,7 +70,7 @@ returns-3 : tie.Need-returns-3
 returns-3 c =
     let passed = c .before .before in
     let first = passed .before .before in
-    far (asked (start first)) _ (start first .pre .1 .1 .1) (sym (near-answer (c .before)) ∙ not-true _ (c .if3 .taken))
+    hidden (asked (start first)) _ (start first .pre .1 .1 .1) (sym (near-answer (c .before)) ∙ not-true _ (c .if3 .taken))
 
 row-requires : tie.Need-row-requires
 row-requires c κs =
@@ -93,32 +91,18 @@ compare-requires c κs =
       long ∙ sym (fit .query),
     )
 
-enum-told : tie.Need-enum-told
-enum-told c = search needs
-
-enum-told-2 : tie.Need-enum-told-2
-enum-told-2 c = search needs
-
--- the answer after the comparison
-told : (c : tie.After-compare) (v : Verdict) → c .compare .result ≡ v →
-    let begun = start (c .before .before .before .before .before .before) in
-    says v ≡ passes (asked begun) (begun .args .p)
-told c v e =
-    let near = c .before .before in
+returns-4 : tie.Need-returns-4
+returns-4 c =
+    let row = c .before in
+    let near = row .before in
     let passed = near .before .before in
     let first = passed .before .before in
-    judged (asked (start first)) _ (start first .pre .1 .1 .1) (alive first) (sym (class-answer (passed .before)) ∙ not-false _ (passed .if2 .left))
-    (sym (near-answer (near .before)) ∙ not-false _ (near .if3 .left))
-    _ (c .before .row .ensures .0) v (sym (c .compare .ensures) ∙ e)
+    c .compare .ensures
+    ∙ judged (asked (start first)) _ (start first .pre .1 .1 .1) (alive first) (sym (class-answer (passed .before)) ∙ not-false _ (passed .if2 .left))
+    (sym (near-answer (near .before)) ∙ not-false _ (near .if3 .left)) _ (row .row .ensures .0)
 
-returns-4 : tie.Need-returns-4
-returns-4 c = told (c .before .before) Within (c .enum-told .given .1)
-
-returns-5 : tie.Need-returns-5
-returns-5 c = told (c .before .before) Beyond (c .enum-told2 .given .1)
-
-pub passes-spec : {M : Type 1} → statement M
-passes-spec =
+pub judge-spec : {M : Type 1} → statement M
+judge-spec =
     tie.close
     (tie.spec
     page-word-requires
@@ -130,7 +114,4 @@ passes-spec =
     returns-3
     row-requires
     compare-requires
-    enum-told
-    enum-told-2
-    returns-4
-    returns-5)
+    returns-4)
