@@ -1,16 +1,15 @@
 -- Laws of `keep`, `grouped` and `nearest`: they rearrange what they are given, nearer elements above, and go by the distances alone.
 use Prim.Native.Nat.{ℕ, zero, suc, _+_, _≤_, _<_}
 use native.Mathlib.Omega.{arith}
-use native.Mathlib.Nat.{zero-add}
 use mathlib.Core.Path.{_≡_, refl, sym, ap, _∙_}
 use mathlib.Core.Bool.{Bool, true, false, cond, _&&_, _||_}
 use mathlib.Core.Logic.{_≢_}
 use mathlib.Core.List.{List, [], _∷_, _++_, map}
 use lib.Dec.{ltb, leb, eqb}
-use lib.ListN.{length, length-map}
+use lib.ListN.{length}
 use borrow.Author.Tests.{eqb-true, eqb-false, ltb-true, leb-true, eq-eqb, ne-eqb, lt-ltb}
 use Rattle.meaning.specs.Lists.{all, keep, count, grouped, from, upto}
-use Rattle.meaning.specs.Output.{Output, output, nearest, listing}
+use Rattle.meaning.specs.Output.{nearest, listing}
 use Rattle.meaning.proofs.Lists.{and-intro, and-first, and-second, or-first, or-second, all-append, count-append}
 use Rattle.history.specs.History.{ordered}
 
@@ -133,7 +132,7 @@ module _ {A : Type 0} where
 
 module _ {A : Type 0} (f : A → ℕ) (over : A → A → Bool) where
   -- nearer, or as far and over it
-  abbrev pub nearer : A → A → Bool
+  abbrev nearer : A → A → Bool
   nearer x y = ltb (f x) (f y) || (eqb (f x) (f y) && over x y)
 
   -- those of one distance stay in their order
@@ -222,9 +221,10 @@ module _ {A : Type 0} (f g : A → ℕ) where
   listing-same : (page : A → ℕ) (radius : ℕ) (xs : List A) → all (λ x. eqb (f x) (g x)) xs ≡ true → listing page f radius xs ≡ listing page g radius xs
   unfolding listing nearest
   listing-same page radius xs h =
-      let e : map f (nearest f radius xs) ≡ map g (nearest g radius xs) = 
-            map-same (nearest f radius xs) (all-grouped (λ x. eqb (f x) (g x)) (upto (suc radius)) xs h) ∙ ap (map g) (grouped-same (upto (suc radius)) xs h) in
-      rw (e, grouped-same (upto (suc radius)) xs h)
+      rw (
+        map-same (nearest f radius xs) (all-grouped (λ x. eqb (f x) (g x)) (upto (suc radius)) xs h),
+        grouped-same (upto (suc radius)) xs h,
+      )
 
 module _ {A B : Type 0} (h : A → B) where
   map-append : (xs ys : List A) → map h (xs ++ ys) ≡ map h xs ++ map h ys
@@ -262,9 +262,9 @@ module _ {A B : Type 0} (h : A → B) where
   map-map f [] = refl
   map-map f (x ∷ xs) = rw (map-map f xs)
 
-map-same-number : (xs : List ℕ) → map (λ x. x) xs ≡ xs
-map-same-number [] = refl
-map-same-number (x ∷ xs) = rw (map-same-number xs)
+map-itself : (xs : List ℕ) → map (λ x. x) xs ≡ xs
+map-itself [] = refl
+map-itself (x ∷ xs) = rw (map-itself xs)
 
 -- elements that are as far as their page numbers say are listed as these numbers would be
 pub listing-pages : {A : Type 0} (page far : A → ℕ) (h : ℕ → ℕ) (radius : ℕ) (xs : List A) → all (λ x. eqb (far x) (h (page x))) xs ≡ true
@@ -275,5 +275,5 @@ listing-pages page far h radius xs e =
     ∙ rw (
       map-map page h (grouped (λ x. h (page x)) (upto (suc radius)) xs),
       map-grouped page h (upto (suc radius)) xs,
-      map-same-number (grouped h (upto (suc radius)) (map page xs)),
+      map-itself (grouped h (upto (suc radius)) (map page xs)),
     )

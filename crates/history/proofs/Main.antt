@@ -110,9 +110,10 @@ counted : (L : Ledger) (reader radius : ℕ) (x : List ℕ) → let k = length (
     (length (listed L reader radius x .pages) ≡ k) × (length (listed L reader radius x .distances) ≡ k)
 unfolding listed listing
 counted L reader radius x =
-    let l = length-nearest (far x) radius (calledFor L reader radius x) (all-near L reader radius x) in
-    (length-map (nearest (far x) radius (calledFor L reader radius x)) (λ r. r .page) ∙ l,
-    length-map (nearest (far x) radius (calledFor L reader radius x)) (far x) ∙ l)
+    let l = length-nearest (far x) radius (calledFor L reader radius x) (all-near L reader radius x) in (
+      length-map (nearest (far x) radius (calledFor L reader radius x)) (λ r. r .page) ∙ l,
+      length-map (nearest (far x) radius (calledFor L reader radius x)) (far x) ∙ l,
+    )
 
 -- the two lists that an accepted search gave
 gave : (L : Ledger) (reader radius : ℕ) (x : List ℕ) (o : Output) (n count : ℕ) (after : Output) → Found L reader radius x o n count after → n ≡ 0
@@ -120,9 +121,10 @@ gave : (L : Ledger) (reader radius : ℕ) (x : List ℕ) (o : Output) (n count :
 unfolding bothLeft outputLeft onto
 gave L reader radius x o n count after f e =
     let l = counted L reader radius x in
-    let found = listed L reader radius x in
-    (rw (f .output, e, f .rows) (take-at (found .pages) _ (length (calledFor L reader radius x)) (l .0)),
-    rw (f .output, e, f .rows) (take-at (found .distances) _ (length (calledFor L reader radius x)) (l .1)))
+    let found = listed L reader radius x in (
+      rw (f .output, e, f .rows) (take-at (found .pages) _ (length (calledFor L reader radius x)) (l .0)),
+      rw (f .output, e, f .rows) (take-at (found .distances) _ (length (calledFor L reader radius x)) (l .1)),
+    )
 
 -- a search rightly put after each
 module _ {es fs : List Event} {T U : Tables} (h : History es T) (k : History fs U) (reader radius : ℕ) (x : List ℕ)

@@ -82,9 +82,9 @@ pub record Claim (T : Tables) (L : Ledger) (F : List Tree) : Type 0 where
   pub searches : (reader radius : ℕ) (x : List ℕ) (o : Output) (a : Answer) (T′ : Tables) → Promised (reading (search reader radius x o)) T a T′
       → RightlyPut L reader radius x → Found L reader radius x o (a .number) (a .count) (a .output)
   -- what is listed is, by definition, the pages and the distances of these rows: nearer rows above, and rows that are as far in rising
-  -- pages, so that none stands there twice
+  -- pages, none twice
   pub once : (reader radius : ℕ) (x : List ℕ) → ordered (above x) (nearest (far x) radius (calledFor L reader radius x)) ≡ true
-  -- and every row called for stands there: of those that pass a test as many, whatever the test
+  -- every row called for stands there: as many pass a test as of those called for, whatever the test
   pub all-listed : (reader radius : ℕ) (x : List ℕ) (q : Row → Bool)
       → count q (nearest (far x) radius (calledFor L reader radius x)) ≡ count q (calledFor L reader radius x)
   -- a show gives the page's row, and nothing where it is refused
