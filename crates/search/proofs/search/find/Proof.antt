@@ -1,17 +1,18 @@
 -- `find` walks, then lists.
 use mathlib.Core.Path.{_∙_}
 use borrow.Author.Needs.{needs}
-use Rattle.hits.proofs.Filter.{passes-below}
 use Rattle.meeting.proofs.Maps.{kept-room, kept-cleared}
-use Rattle.search.proofs.Finds.{answers-stopped, found-summary, found-count, answers-found}
+use Rattle.search.proofs.Finds.{tallied-none, answers-stopped, found-count, found-listable, answers-found}
 use Rattle.search.proofs.search.find.Statement.{statement}
 use Rattle.search.proofs.search.find.Tie as tie
 
 abbrev start : tie.After-meet-blocks → tie.Start
-start m = m .before .before .before .before .before .before .before .before
+start m = m .before .before .before .before .before .before .before .before .before .before
 
 meet-blocks-requires : tie.Need-meet-blocks-requires
-meet-blocks-requires c κs = let pre = c .before .before .before .before .before .before .before .pre in (pre .0, pre .1 .0)
+meet-blocks-requires c κs =
+    let pre = c .before .before .before .before .before .before .before .before .before .pre in
+    (pre .0, tallied-none _ _ _ (pre .1 .0))
 
 enum-known-met : tie.Need-enum-known-met
 enum-known-met c = search needs
@@ -30,16 +31,16 @@ same-length c = search needs
 returns : tie.Need-returns
 returns c =
     let m = c .before .before .before .before .before .before .before .before in (
-      answers-stopped _ _ _ _ (m .meet-blocks .ensures .none (c .before .before .before .before .enum-told .given .1)),
+      answers-stopped _ _ _ (m .meet-blocks .ensures .none (c .before .before .before .before .enum-told .given .1)),
       c .before .before .clear-marks .ensures ∙ kept-cleared (m .meet-blocks .ensures .kept),
     )
 
 list-marks-requires : tie.Need-list-marks-requires
 list-marks-requires c κs =
-    let m = c .before .before .before .before .before .before .before in
+    let m = c .before .before .before .before .before .before .before .before .before in
     let pre = start m .pre in
-    let told = c .before .before .before .met .given .1 in
-    (kept-room (m .meet-blocks .ensures .kept) (pre .0 .ready .room), (found-summary (m .meet-blocks .ensures) _ told (pre .1 .1), found-count (m .meet-blocks .ensures) _ told))
+    let told = c .before .before .before .before .before .met .given .1 in
+    (found-listable (pre .0 .ready) (m .meet-blocks .ensures) _ told (pre .1 .0) (pre .1 .1), found-count (m .meet-blocks .ensures) _ told)
 
 same-length-2 : tie.Need-same-length-2
 same-length-2 c = search needs
@@ -47,13 +48,16 @@ same-length-2 c = search needs
 same-length-3 : tie.Need-same-length-3
 same-length-3 c = search needs
 
+same-length-4 : tie.Need-same-length-4
+same-length-4 c = search needs
+
 returns-2 : tie.Need-returns-2
 returns-2 c =
-    let l = c .before .before .before .before in
-    let m = l .before .before .before .before .before .before .before .before in
+    let l = c .before .before .before .before .before .before in
+    let m = l .before .before .before .before .before .before .before .before .before .before in
     let pre = start m .pre in
-    let told = l .before .before .before .before .met .given .1 in (
-      answers-found (m .meet-blocks .ensures) _ told (pre .1 .0) _ (pre .0 .ready .bits) (passes-below _) _ _ _ _ (l .list-marks .ensures .0),
+    let told = l .before .before .before .before .before .before .met .given .1 in (
+      answers-found (m .meet-blocks .ensures) _ told (pre .1 .0) (pre .0 .ready .bits) _ _ _ _ (l .list-marks .ensures .0),
       l .list-marks .ensures .1 ∙ kept-cleared (m .meet-blocks .ensures .kept),
     )
 
@@ -70,4 +74,5 @@ find-spec =
     list-marks-requires
     same-length-2
     same-length-3
+    same-length-4
     returns-2)

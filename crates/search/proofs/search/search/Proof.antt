@@ -36,7 +36,7 @@ enum-known-h c = search needs
 
 -- the tables at entry, and the header that they show
 abbrev start : tie.After-known-told2 → tie.Start
-start k = k .before .before .before .before .before .before .before .before .before .before .before .before
+start k = k .before .before .before .before .before .before .before .before .before .before .before .before .before
 
 abbrev lent : tie.After-known-told2 → Tables
 lent k =
@@ -92,7 +92,7 @@ probe-of-requires c κs = (opened (known (c .before)) .limits, passed (c .before
 
 find-requires : tie.Need-find-requires
 find-requires c κs =
-    let p = c .before .before in
+    let p = c .before .before .before in
     let e = p .before .before in
     let o = opened (known e) in
     let words = marks e .before .before .map-words .ensures in
@@ -105,10 +105,13 @@ same-length-3 c = search needs
 same-length-4 : tie.Need-same-length-4
 same-length-4 c = search needs
 
+same-length-5 : tie.Need-same-length-5
+same-length-5 c = search needs
+
 returns-3 : tie.Need-returns-3
 returns-3 c =
-    let f = c .before .before .before .before in
-    let p = f .before .before .before in
+    let f = c .before .before .before .before .before .before in
+    let p = f .before .before .before .before in
     let e = p .before .before in
     promise-found _ _ _ _ _ _ (shows (known e)) _ (marks e .before .before .map-words .ensures) _ (marks e .clear-marks .ensures) (none e) _ (p .before .open-classes .ensures) _ (p .probe-of .ensures)
     _ _ _ _ (f .find .ensures .0) (f .find .ensures .1)
@@ -132,4 +135,5 @@ search-spec =
     find-requires
     same-length-3
     same-length-4
+    same-length-5
     returns-3)
