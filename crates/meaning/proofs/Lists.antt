@@ -67,6 +67,11 @@ module _ {A : Type 0} (p : A → Bool) where
       go true h = omega arith
       go false h = omega arith
 
+pub count-every : (xs : List ℕ) → count (λ x. true) xs ≡ length xs
+unfolding count
+count-every [] = refl
+count-every (x ∷ xs) = omega (arith, count-every xs)
+
 pub length-onto : (xs table : List ℕ) → length xs ≤ length table → length (onto xs table) ≡ length table
 unfolding onto
 length-onto xs table h = omega (arith, length-append xs (drop (length xs) table), length-drop (length xs) table)

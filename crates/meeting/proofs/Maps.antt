@@ -6,15 +6,18 @@ use mathlib.Core.Path.{_≡_, refl, sym, ap, subst, _∙_}
 use mathlib.Core.Bool.{Bool, true, false, false≢true, _&&_, _||_, or-false}
 use mathlib.Core.List.{List, [], _∷_, _++_}
 use lib.Dec.{eqb}
-use lib.ListN.{length}
+use lib.ListN.{length, getD, set}
 use borrow.Author.Tests.{eqb-true}
 use Rattle.meaning.specs.Lists.{any, keep, upto}
 use Rattle.meaning.proofs.Lists.{any-append}
 use Rattle.words.specs.Bits.{flag, zeroed}
 use Rattle.words.proofs.Rising.{rising-same}
-use Rattle.marks.specs.Marks.{summaryOf, Room, marked, fresh, listOf}
-use Rattle.marks.proofs.Marked.{marked-length, marked-behind, marked-flag, marked-count, marked-summarised}
+use Rattle.marks.specs.Marks.{summaryOf, Room, marked, fresh, listOf, Counts}
+use Rattle.marks.proofs.Marked.{marked-length, marked-behind, marked-flag, marked-count, marked-counts, marked-summarised}
 use Rattle.marks.proofs.Pages.{rising-over, rising-keep}
+use Rattle.comparison.specs.declared.Verdict.the-variants.{Within, Beyond}
+use Rattle.hits.specs.Hit.{Test, far, passes, verdict}
+use Rattle.hits.proofs.Hit.{verdict-within, verdict-beyond}
 use Rattle.meeting.specs.Mets.{Kept, Met}
 use Rattle.meeting.specs.Turns.{Turned}
 
@@ -108,19 +111,6 @@ module _ (hit : ℕ → Bool) (words : ℕ) where
         there false true t e = absurd (false≢true (e refl))
         there false false t e = refl
 
-    -- as the code has it
-    pub turned-again : flag map 0 p ≡ true → Turned hit words map p map 0
-    turned-again e = record { met = again e; new = sym (add-zero (length (listOf map words))) }
-
-    pub turned-out : hit p ≡ false → Turned hit words map p map 0
-    turned-out e = record { met = left-out e; new = sym (add-zero (length (listOf map words))) }
-
-    pub turned-in : (after : List ℕ) (r : ℕ) → hit p ≡ true → after ≡ marked map words p → r ≡ fresh map p → Turned hit words map p after r
-    turned-in after r e f g = record {
-      met = subst (Met hit words map (p ∷ [])) (sym f) (put-in e);
-      new = ap (λ l. length (listOf l words)) f ∙ marked-count map words p inside room ∙ ap (λ d. length (listOf map words) + d) (sym g);
-    }
-
   -- ---- what is listed then
   -- from a map without marks: the pages met that are hits, all below the capacity, once each and rising
   module _ (cap : ℕ) (fits : cap ≤ words * 32) (below : (p : ℕ) → cap ≤ p → hit p ≡ false)
@@ -136,3 +126,24 @@ module _ (hit : ℕ → Bool) (words : ℕ) where
         none : (t : Bool) → t && false ≡ false
         none true = refl
         none false = refl
+
+-- ---- one page, as the code has it
+module _ (t : Test) (words : ℕ) (map : List ℕ) (p : ℕ) (inside : p / 32 < words) (room : Room map words) (counts : List ℕ) (c : Counts (far t) map words counts) where
+  pub turned-again : flag map 0 p ≡ true → Turned t words map p map counts 0
+  turned-again e = record { met = again (passes t) words map p inside room e; new = sym (add-zero (length (listOf map words))); counted = c }
+
+  pub turned-out : verdict t p ≡ Beyond → Turned t words map p map counts 0
+  turned-out e =
+      record { met = left-out (passes t) words map p inside room (verdict-beyond t p e); new = sym (add-zero (length (listOf map words))); counted = c }
+
+  module _ (d : ℕ) (within : verdict t p ≡ Within d) where
+    hit : (passes t p ≡ true) × (d ≡ far t p)
+    hit = verdict-within t p d within
+
+    pub turned-in : flag map 0 p ≡ false → far t p < 65 → (after : List ℕ) (r : ℕ) → after ≡ marked map words p → r ≡ fresh map p
+        → Turned t words map p after (set counts d (getD counts d 0 + 1)) r
+    turned-in new most after r f g = record {
+      met = subst (Met (passes t) words map (p ∷ [])) (sym f) (put-in (passes t) words map p inside room (hit .0));
+      new = ap (λ l. length (listOf l words)) f ∙ marked-count map words p inside room ∙ ap (λ n. length (listOf map words) + n) (sym g);
+      counted = rw (f, hit .1) (marked-counts map words p inside room (far t) counts c new most);
+    }

@@ -7,8 +7,8 @@ use lib.Dec.{eqb}
 use lib.ListN.{length, getD, drop}
 use Rattle.meaning.specs.Lists.{any}
 use Rattle.words.specs.Bits.{flag}
-use Rattle.marks.specs.Marks.{summaryOf, Room, Summarised, listOf}
-use Rattle.hits.specs.Hit.{Fitting}
+use Rattle.marks.specs.Marks.{summaryOf, Room, Summarised, listOf, Counts}
+use Rattle.hits.specs.Hit.{Test, Fitting, far, passes}
 use Rattle.hits.specs.Probes.{Prepared, testBy}
 use Rattle.meeting.specs.declared.Chain.{Chain}
 use Rattle.meeting.specs.declared.Scope.{Scope}
@@ -28,10 +28,15 @@ pub record Met (hit : ℕ → Bool) (words : ℕ) (before ps after : List ℕ) :
   pub flags : (k : ℕ) → k < words * 32 → flag after 0 k ≡ flag before 0 k || (any (eqb k) ps && hit k)
   pub summarised : Summarised before words → Summarised after words
 
--- the answer to chains whose pages are m, and the maps before and after
-pub record Meeting (hit : ℕ → Bool) (words : ℕ) (m : Meets) (before after : List ℕ) (r : Tallies) : Type 0 where
+-- the marked pages counted, all together and by distance
+pub record Tallied (t : Test) (words : ℕ) (map counts : List ℕ) (n : ℕ) : Type 0 where
+  pub all : n ≡ length (listOf map words)
+  pub each : Counts (far t) map words counts
+
+-- the answer to chains whose pages are m, the maps before and after, and the counts then
+pub record Meeting (t : Test) (words : ℕ) (m : Meets) (before after counts : List ℕ) (r : Tallies) : Type 0 where
   pub kept : Kept words before after
-  pub some : (t : Tally) → r ≡ Some t → (ps : List ℕ) × (m ≡ met ps (t .left)) × Met hit words before ps after × (t .count ≡ length (listOf after words))
+  pub some : (n : Tally) → r ≡ Some n → (ps : List ℕ) × (m ≡ met ps (n .left)) × Met (passes t) words before ps after × Tallied t words after counts (n .count)
   pub none : r ≡ Broken → m ≡ broken
 
 -- the tables and the map are long enough for the pages, and the probe was made for the query
