@@ -4,8 +4,9 @@ use mathlib.Core.Bool.{true}
 use mathlib.Core.List.{List, [], _∷_}
 use Prim.Native.Nat.{ℕ}
 use lib.ListN.{getD, set, replicate}
-use Rattle.meaning.specs.Lists.{all, any, keep, onto, from, upto, sum}
+use Rattle.meaning.specs.Lists.{all, any, keep, grouped, onto, from, upto, sum}
 use Rattle.meaning.specs.Refusal.{firstNo}
+use Rattle.meaning.specs.Output.{output, nearest, listing}
 use Rattle.meaning.specs.Ledger.{Settings, settingsGiven, Event, opening, add, change, accept, step, ledger, withRows, withRegister, putRow, calledFor, listed}
 use Rattle.meaning.specs.Forest.{blockBytes, forest, forestAfter, eachFrom, totalNodes}
 use Rattle.meaning.specs.Sketch.{distance, inRange, blank, perByte, packedLength, packByte, packBytes, pack, blockLength}
@@ -118,6 +119,10 @@ shown-page : Represents added-tables (ledger (event (add 1 3 x) 0 ∷ events))
 unfolding ledger step opened-tables added-tables first opened
 shown-page = adds opened-tables (ledger events) shown added-tables same-rest refl (forest events) 1 3 x added accepts
 
-lists : listed (ledger (event (add 1 3 x) 0 ∷ events)) 5 0 x ≡ 1 ∷ []
-unfolding x events ledger step accept withRows withRegister changed putRow write listed calledFor keep openTo stands any samePair upto from distance
+-- a second page that is nearer to its own sketch: it stands above the first
+y : List ℕ
+y = 0 ∷ 1 ∷ 2 ∷ 2 ∷ []
+
+lists : listed (ledger (event (add 2 3 y) 0 ∷ event (add 1 3 x) 0 ∷ events)) 5 1 y ≡ output (2 ∷ 1 ∷ []) (0 ∷ 1 ∷ [])
+unfolding x y events ledger step accept withRows withRegister changed putRow write listed listing nearest grouped calledFor keep openTo stands any samePair upto from distance
 lists = refl

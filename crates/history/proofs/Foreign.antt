@@ -1,9 +1,10 @@
--- A call that is refused by 4, 5 or 6 leaves all tables as they were, and its output, whatever it was lent.
+-- A call that is refused by 4, 5 or 6 leaves all tables as they were, and its two lists, whatever it was lent.
 use Prim.Native.Nat.{ℕ, _≤_}
 use native.Mathlib.Omega.{arith}
 use mathlib.Core.Path.{_≡_, _∙_}
 use mathlib.Core.List.{List}
 use borrow.Author.Tests.{ne-eqb}
+use Rattle.meaning.specs.Output.{Output}
 use Rattle.meaning.specs.Ledger.{search, Call, opening, add, drop, change, reading}
 use Rattle.promises.specs.Tables.{Tables}
 use Rattle.promises.specs.Relation.{Answer, Promised}
@@ -19,6 +20,6 @@ module _ (T : Tables) (a : Answer) (T′ : Tables) (l : 4 ≤ a .number) (m : a 
   untouched (change c) p = p .1 ∙ rw (p .0 .settings-left, ← p .0 .answers, ne-eqb (a .number) 0 (omega arith))
   untouched (reading q) p = p .1 ∙ rw (law q T .read a (T′ .working) (p .0) .kept l m)
 
-  -- the output
-  pub output-kept : (r d : ℕ) (x o : List ℕ) → Promised (reading (search r d x o)) T a T′ → a .list ≡ o
+  -- the two lists of a search
+  pub output-kept : (r d : ℕ) (x : List ℕ) (o : Output) → Promised (reading (search r d x o)) T a T′ → a .output ≡ o
   output-kept r d x o p = p .0 .refused (omega arith) (omega arith) .1

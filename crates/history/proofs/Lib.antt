@@ -1,3 +1,4 @@
+pub mod Grouped
 pub mod Lists
 pub mod Pages
 pub mod Represents

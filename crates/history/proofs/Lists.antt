@@ -10,9 +10,9 @@ use lib.ListN.{length}
 use borrow.Author.Tests.{ltb-true, lt-ltb, le-ltb, eqb-true, eqb-false, eq-eqb, ne-eqb}
 use Rattle.meaning.specs.Lists.{all, any, count, keep, from}
 use Rattle.meaning.specs.Ledger.{Row, putRow}
-use Rattle.meaning.proofs.Lists.{and-first, and-second}
+use Rattle.meaning.proofs.Lists.{and-intro, and-first, and-second}
 use Rattle.promises.specs.Tables.{rowsFrom}
-use Rattle.history.specs.History.{rising, sketchIn}
+use Rattle.history.specs.History.{sketchIn, ordered}
 
 -- ---- tests
 
@@ -37,28 +37,28 @@ passed n t x p = not-by n t x 0 (λ z. absurd (omega arith))
 
 -- ---- numbers in a row
 
-above : (g : ℕ → Bool) (x k n : ℕ) → x < k → all (λ y. ltb x y) (keep g (from k n)) ≡ true
+below : (g : ℕ → Bool) (x k n : ℕ) → x < k → all (ltb x) (keep g (from k n)) ≡ true
 unfolding all keep from
-above g x k zero h = refl
-above g x k (suc n) h = go (g k) (above g x (suc k) n (omega arith))
+below g x k zero h = refl
+below g x k (suc n) h = go (g k) (below g x (suc k) n (omega arith))
   where
     rest : List ℕ
     rest = keep g (from (suc k) n)
 
-    go : (t : Bool) → all (λ y. ltb x y) rest ≡ true → all (λ y. ltb x y) (cond t (k ∷ rest) rest) ≡ true
+    go : (t : Bool) → all (ltb x) rest ≡ true → all (ltb x) (cond t (k ∷ rest) rest) ≡ true
     go true r = rw (lt-ltb x k h) r
     go false r = r
 
-pub rising-keep : (g : ℕ → Bool) (k n : ℕ) → rising (keep g (from k n)) ≡ true
-unfolding rising keep from
+pub rising-keep : (g : ℕ → Bool) (k n : ℕ) → ordered ltb (keep g (from k n)) ≡ true
+unfolding ordered keep from
 rising-keep g k zero = refl
 rising-keep g k (suc n) = go (g k) (rising-keep g (suc k) n)
   where
     rest : List ℕ
     rest = keep g (from (suc k) n)
 
-    go : (t : Bool) → rising rest ≡ true → rising (cond t (k ∷ rest) rest) ≡ true
-    go true r = rw (above g k (suc k) n (omega arith)) r
+    go : (t : Bool) → ordered ltb rest ≡ true → ordered ltb (cond t (k ∷ rest) rest) ≡ true
+    go true r = rw (below g k (suc k) n (omega arith)) r
     go false r = r
 
 -- ---- the rows of the live pages among n from k on
@@ -171,6 +171,19 @@ module _ (l : ℕ → Bool) (h : ℕ → Row) (own : (i : ℕ) → h i .page ≡
       go true false e ih = rw e ih
       go false t e ih = ih
 
+  -- what each row passes
+  pub rows-all : (f : Row → Bool) → ((i : ℕ) → f (h i) ≡ true) → (k n : ℕ) → all f (rowsFrom l h k n) ≡ true
+  unfolding all rowsFrom
+  rows-all f e k zero = refl
+  rows-all f e k (suc n) = go (l k) (rows-all f e (suc k) n)
+    where
+      rest : List Row
+      rest = rowsFrom l h (suc k) n
+
+      go : (s : Bool) → all f rest ≡ true → all f (cond s (h k ∷ rest) rest) ≡ true
+      go true ih = and-intro (f (h k)) (all f rest) (e k) ih
+      go false ih = ih
+
   -- a row struck out: as where that page is not live
   pub rows-strike : (p k n : ℕ) → keep (λ r. not (eqb (r .page) p)) (rowsFrom l h k n) ≡ rowsFrom (λ i. cond (eqb i p) false (l i)) h k n
   unfolding keep rowsFrom
@@ -237,16 +250,16 @@ module _ (l : ℕ → Bool) (h : ℕ → Row) (own : (i : ℕ) → h i .page ≡
 -- ---- rising lists with the same members are equal
 
 -- a member of a list that is all above x is above x
-all-above : (x p : ℕ) (ys : List ℕ) → all (λ y. ltb x y) ys ≡ true → any (λ y. eqb y p) ys ≡ true → x < p
+all-above : (x p : ℕ) (ys : List ℕ) → all (ltb x) ys ≡ true → any (λ y. eqb y p) ys ≡ true → x < p
 unfolding all any
 all-above x p [] a m = absurd (true≢false (sym m))
-all-above x p (y ∷ ys) a m = go (eqb y p) refl (all-above x p ys (and-second (ltb x y) (all (λ z. ltb x z) ys) a))
+all-above x p (y ∷ ys) a m = go (eqb y p) refl (all-above x p ys (and-second (ltb x y) (all (ltb x) ys) a))
   where
     go : (t : Bool) → eqb y p ≡ t → (any (λ z. eqb z p) ys ≡ true → x < p) → x < p
-    go true e ih = omega (arith, eqb-true y p e, ltb-true x y (and-first (ltb x y) (all (λ z. ltb x z) ys) a))
+    go true e ih = omega (arith, eqb-true y p e, ltb-true x y (and-first (ltb x y) (all (ltb x) ys) a))
     go false e ih = ih (rw e at m)
 
-absent : (x : ℕ) (ys : List ℕ) → all (λ y. ltb x y) ys ≡ true → any (λ y. eqb y x) ys ≡ false
+absent : (x : ℕ) (ys : List ℕ) → all (ltb x) ys ≡ true → any (λ y. eqb y x) ys ≡ false
 absent x ys a = go (any (λ y. eqb y x) ys) refl
   where
     go : (t : Bool) → any (λ y. eqb y x) ys ≡ t → t ≡ false
@@ -254,7 +267,7 @@ absent x ys a = go (any (λ y. eqb y x) ys) refl
     go false e = refl
 
 -- no member is below the first
-first : (x p : ℕ) (xs : List ℕ) → all (λ y. ltb x y) xs ≡ true → any (λ y. eqb y p) (x ∷ xs) ≡ true → x ≤ p
+first : (x p : ℕ) (xs : List ℕ) → all (ltb x) xs ≡ true → any (λ y. eqb y p) (x ∷ xs) ≡ true → x ≤ p
 unfolding any
 first x p xs a m = go (eqb x p) refl
   where
@@ -266,9 +279,9 @@ head-in : (x : ℕ) (xs : List ℕ) → any (λ y. eqb y x) (x ∷ xs) ≡ true
 unfolding any
 head-in x xs = rw (eq-eqb x x refl)
 
-pub rising-ext : (xs ys : List ℕ) → rising xs ≡ true → rising ys ≡ true
+pub rising-ext : (xs ys : List ℕ) → ordered ltb xs ≡ true → ordered ltb ys ≡ true
     → ((p : ℕ) → any (λ y. eqb y p) xs ≡ any (λ y. eqb y p) ys) → xs ≡ ys
-unfolding rising any
+unfolding ordered any
 rising-ext [] [] a b h = refl
 rising-ext [] (y ∷ ys) a b h = absurd (true≢false (sym (h y ∙ head-in y ys)))
 rising-ext (x ∷ xs) [] a b h = absurd (true≢false (sym (head-in x xs) ∙ h x))
@@ -276,14 +289,14 @@ rising-ext (x ∷ xs) (y ∷ ys) a b h =
     let l : x ≤ y = first x y xs above-x (h y ∙ head-in y ys) in
     let m : y ≤ x = first y x ys above-y (sym (h x) ∙ head-in x xs) in
     let e : x ≡ y = omega arith in
-    let t : xs ≡ ys = rising-ext xs ys (and-second (all (λ z. ltb x z) xs) (rising xs) a) (and-second (all (λ z. ltb y z) ys) (rising ys) b) (λ p. tails e p (eqb x p) refl) in
+    let t : xs ≡ ys = rising-ext xs ys (and-second (all (ltb x) xs) (ordered ltb xs) a) (and-second (all (ltb y) ys) (ordered ltb ys) b) (λ p. tails e p (eqb x p) refl) in
     cc
   where
-    above-x : all (λ z. ltb x z) xs ≡ true
-    above-x = and-first (all (λ z. ltb x z) xs) (rising xs) a
+    above-x : all (ltb x) xs ≡ true
+    above-x = and-first (all (ltb x) xs) (ordered ltb xs) a
 
-    above-y : all (λ z. ltb y z) ys ≡ true
-    above-y = and-first (all (λ z. ltb y z) ys) (rising ys) b
+    above-y : all (ltb y) ys ≡ true
+    above-y = and-first (all (ltb y) ys) (ordered ltb ys) b
 
     tails : x ≡ y → (p : ℕ) (t : Bool) → eqb x p ≡ t → any (λ z. eqb z p) xs ≡ any (λ z. eqb z p) ys
     tails e p true q = rw (← eqb-true x p q, absent x xs above-x) (rw e (sym (absent y ys above-y)))
@@ -293,3 +306,24 @@ pub any-map : (rs : List Row) (p : ℕ) → any (λ r. eqb (r .page) p) rs ≡ a
 unfolding any
 any-map [] p = refl
 any-map (r ∷ rs) p = rw (any-map rs p)
+
+-- ---- in rows of rising pages each row's sketch is the one found by its page
+module _ (d : List ℕ → ℕ) where
+  abbrev same : List Row → Row → Bool
+  same rs r = eqb (d (r .sketch)) (d (sketchIn rs (r .page)))
+
+  past-first : (r : Row) (rs ss : List Row) → all (ltb (r .page)) (map (λ s. s .page) ss) ≡ true → all (same rs) ss ≡ true → all (same (r ∷ rs)) ss ≡ true
+  unfolding all sketchIn
+  past-first r rs [] a h = refl
+  past-first r rs (s ∷ ss) a h =
+      let l : r .page < s .page = ltb-true (r .page) (s .page) (and-first (ltb (r .page) (s .page)) _ a) in
+      and-intro (same (r ∷ rs) s) (all (same (r ∷ rs)) ss) (rw (ne-eqb (r .page) (s .page) (omega arith)) (and-first (same rs s) (all (same rs) ss) h))
+      (past-first r rs ss (and-second (ltb (r .page) (s .page)) _ a) (and-second (same rs s) (all (same rs) ss) h))
+
+  pub own-sketch : (rs : List Row) → ordered ltb (map (λ r. r .page) rs) ≡ true → all (λ r. eqb (d (r .sketch)) (d (sketchIn rs (r .page)))) rs ≡ true
+  unfolding all ordered sketchIn
+  own-sketch [] h = refl
+  own-sketch (r ∷ rs) h =
+      let t = all (ltb (r .page)) (map (λ s. s .page) rs) in
+      and-intro (same (r ∷ rs) r) (all (same (r ∷ rs)) rs) (rw (eq-eqb (r .page) (r .page) refl) (eq-eqb (d (r .sketch)) (d (r .sketch)) refl))
+      (past-first r rs rs (and-first t _ h) (own-sketch rs (and-second t _ h)))

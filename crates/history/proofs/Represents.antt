@@ -1,19 +1,20 @@
 -- The tables show the ledger: the invariant of a history, and what the questions read under it.
 use mathlib.Core.Path.{_≡_, refl, sym, ap, _∙_}
 use mathlib.Core.Bool.{Bool, true, false, cond, _&&_, and-assoc}
-use mathlib.Core.List.{List, _++_}
+use mathlib.Core.List.{List, _++_, map}
 use Prim.Native.Nat.{ℕ, _+_, _*_, _≤_, _<_}
 use native.Mathlib.Nat.{mul-le-mul-right}
 use native.Mathlib.Omega.{arith}
 use lib.Dec.{ltb, leb, eqb}
 use lib.ListN.{length, take, take-append-drop, length-map, drop as skip}
-use borrow.Author.Tests.{ltb-true, leb-true}
-use Rattle.meaning.specs.Lists.{any, upto}
+use borrow.Author.Tests.{ltb-true, leb-true, eq-eqb}
+use Rattle.meaning.specs.Lists.{all, any, upto}
 use Rattle.meaning.specs.Refusal.{firstNo}
 use Rattle.meaning.specs.Sketch.{distance}
+use Rattle.meaning.specs.Output.{listing}
 use Rattle.meaning.specs.Rights.{openTo}
 use Rattle.meaning.specs.Trie.{Tree}
-use Rattle.meaning.specs.Ledger.{Settings, Row, Ledger, Reading, search, show, check, Call, opening, add, drop, change, reading, calledFor, listed}
+use Rattle.meaning.specs.Ledger.{Settings, Row, Ledger, Reading, search, show, check, Call, opening, add, drop, change, reading, far, calledFor, listed}
 use Rattle.meaning.specs.Questions.{inLimits, askedOf, asked, byLedger}
 use Rattle.meaning.proofs.Lists.{and-first, and-second, and-intro, keep-from}
 use Rattle.layout.specs.Settings.{membersAt, header, settingsOf, showsOpening}
@@ -23,10 +24,11 @@ use Rattle.layout.proofs.Limits.{bounds}
 use Rattle.layout.proofs.Written.{settings-header, shows-header}
 use Rattle.rights.specs.Register.{opens}
 use Rattle.rights.proofs.Pairs.{Holds, holds-opens}
-use Rattle.promises.specs.Tables.{Tables, takes, given, pageClass, pageRow, isShown, scan, rowsOf, byTables}
+use Rattle.promises.specs.Tables.{Tables, takes, given, pageClass, pageRow, pageDistance, isShown, scan, rowsOf, byTables}
 use Rattle.promises.specs.Answers.{longFor, longSettings, longNodes, longPages, longWorking, shown56, entered, number}
 use Rattle.history.specs.History.{admitted, judged}
-use Rattle.history.proofs.Lists.{and-then, asks, rows-live, rows-any, rows-keep}
+use Rattle.history.proofs.Grouped.{all-keep, listing-pages}
+use Rattle.history.proofs.Lists.{and-then, asks, rows-live, rows-any, rows-keep, rows-all}
 use Rattle.history.proofs.Pages.{rowAt, rowsIn}
 
 pub record Represents (T : Tables) (L : Ledger) : Type 0 where
@@ -154,8 +156,9 @@ module _ (T : Tables) (L : Ledger) (R : Represents T L) where
       (shown-row reader p hr h
       ∙ sym (rows-any live row (λ i. refl) (λ r. openTo (L .register) reader (r .class)) p 0 (L .settings .pages) (omega arith) (omega arith)))
 
-  pub scan-eq : (reader radius : ℕ) (x : List ℕ) → reader < 256 → scan T reader radius x ≡ listed L reader radius x
-  unfolding scan listed calledFor pageRow upto
+  -- the pages of the rows called for
+  pub scan-eq : (reader radius : ℕ) (x : List ℕ) → reader < 256 → scan T reader radius x ≡ map (λ r. r .page) (calledFor L reader radius x)
+  unfolding scan calledFor pageRow upto
   scan-eq reader radius x hr =
       rw (given-eq, rows-eq)
       (keep-from (λ p. isShown T reader p && near p) (λ p. live p && (mine p && near p)) 0 (L .settings .pages)
@@ -169,8 +172,21 @@ module _ (T : Tables) (L : Ledger) (R : Represents T L) where
       near p = leb (distance (row p .sketch) x) radius
 
   pub found-eq : (reader radius : ℕ) (x : List ℕ) → reader < 256 → length (scan T reader radius x) ≡ length (calledFor L reader radius x)
-  unfolding listed
   found-eq reader radius x hr = ap length (scan-eq reader radius x hr) ∙ length-map (calledFor L reader radius x) (λ r. r .page)
+
+  -- each is as far as its page's row
+  pub listed-eq : (reader radius : ℕ) (x : List ℕ) → reader < 256
+      → listing (λ p. p) (pageDistance T x) radius (scan T reader radius x) ≡ listed L reader radius x
+  unfolding listed
+  listed-eq reader radius x hr =
+      ap (listing (λ p. p) (pageDistance T x) radius) (scan-eq reader radius x hr)
+      ∙ sym (listing-pages (λ r. r .page) (far x) (pageDistance T x) radius (calledFor L reader radius x) measured)
+    where
+      measured : all (λ r. eqb (far x r) (pageDistance T x (r .page))) (calledFor L reader radius x) ≡ true
+      measured =
+          unfold calledFor pageRow in
+          all-keep _ _ (L .rows)
+          (rw (given-eq, rows-eq) (rows-all live row (λ i. refl) _ (λ i. eq-eqb (distance (row i .sketch) x) _ refl) 0 (L .settings .pages)))
 
   -- ---- a call's number is the one that the ledger's questions give
   reading-eq : (F : List Tree) (q : Reading) → firstNo (askedOf (byTables T F) q) ≡ firstNo (askedOf (byLedger L F) q)

@@ -1,36 +1,35 @@
--- What a search lists under the invariant: the rows called for, rising; and what a show gives. Two ledgers that agree list the same.
-use mathlib.Core.Path.{_≡_, refl, sym, _∙_}
+-- What a search lists under the invariant: the rows called for, each once, the nearest on top; and what a show gives. Two ledgers that
+-- agree list the same.
+use mathlib.Core.Path.{_≡_, refl, sym, ap, _∙_, fun-ext}
 use mathlib.Core.Bool.{Bool, true, false, cond, _&&_}
 use mathlib.Core.Logic.{_≢_}
-use mathlib.Core.List.{List, []}
+use mathlib.Core.List.{List, [], map}
 use Prim.Native.Nat.{ℕ, _<_}
 use native.Mathlib.Omega.{arith}
 use lib.Dec.{ltb, leb, eqb}
 use lib.ListN.{length}
 use borrow.Author.Tests.{eqb-true, ltb-true, leb-true, eq-eqb, lt-ltb, le-leb}
+use Rattle.meaning.specs.Lists.{all}
 use Rattle.meaning.specs.Refusal.{firstNo}
 use Rattle.meaning.specs.Sketch.{distance, inRange}
-use Rattle.meaning.specs.SketchCalls.{outputLeft}
+use Rattle.meaning.specs.Output.{Output, hasRoom, nearest, listing, bothLeft}
 use Rattle.meaning.specs.Rights.{openTo}
 use Rattle.meaning.specs.Trie.{Tree}
-use Rattle.meaning.specs.Ledger.{Ledger, search, show, reading, calledFor, listed}
+use Rattle.meaning.specs.Ledger.{Row, Ledger, search, show, reading, far, calledFor, listed}
 use Rattle.meaning.specs.Questions.{asked, byLedger}
 use Rattle.meaning.proofs.Lists.{and-first, and-second}
 use Rattle.layout.specs.Pages.{isLive}
-use Rattle.promises.specs.Tables.{Tables, pageRow, isShown, scan}
+use Rattle.promises.specs.Tables.{Tables, pageRow, pageDistance, isShown, scan}
 use Rattle.promises.specs.Answers.{number}
 use Rattle.promises.specs.Readings.{Lists}
-use Rattle.history.specs.History.{admitted, judged, RightlyPut, Found, sketchIn, rising, Agree}
-use Rattle.history.proofs.Lists.{passed, not-by, rows-sketch, rows-keep, rising-keep, rising-ext, any-map}
+use Rattle.history.specs.History.{admitted, judged, RightlyPut, Found, sketchIn, ordered, above, Agree}
+use Rattle.history.proofs.Grouped.{keep-all, ordered-nearest, ordered-map, listing-pages}
+use Rattle.history.proofs.Lists.{passed, not-by, rows-sketch, rows-keep, rising-keep, rising-ext, any-map, own-sketch}
 use Rattle.history.proofs.Pages.{rowAt}
-use Rattle.history.proofs.Represents.{Represents, given-eq, rows-eq, shown-eq, scan-eq, found-eq, number-eq}
-
-accepted : (t : Bool) → eqb (cond t 0 13) 0 ≡ t
-accepted true = refl
-accepted false = refl
+use Rattle.history.proofs.Represents.{Represents, given-eq, rows-eq, shown-eq, found-eq, listed-eq, number-eq}
 
 -- a search that 7, 10 and 11 do not refuse is rightly put
-pub put-rightly : (T : Tables) (L : Ledger) (F : List Tree) (reader radius : ℕ) (x o : List ℕ) (n : ℕ)
+pub put-rightly : (T : Tables) (L : Ledger) (F : List Tree) (reader radius : ℕ) (x : List ℕ) (o : Output) (n : ℕ)
     → judged T L F (reading (search reader radius x o)) ≡ n → n ≢ 7 → n ≢ 10 → n ≢ 11 → RightlyPut L reader radius x
 unfolding judged admitted asked byLedger firstNo
 put-rightly T L F reader radius x o n e not7 not10 not11 =
@@ -45,10 +44,10 @@ put-rightly T L F reader radius x o n e not7 not10 not11 =
     }
 
 module _ (T : Tables) (L : Ledger) (R : Represents T L) where
-  -- each page once
-  pub ordered : (reader radius : ℕ) (x : List ℕ) → rising (listed L reader radius x) ≡ true
-  unfolding listed calledFor
-  ordered reader radius x =
+  -- the rows called for, by their pages
+  pub rising-pages : (reader radius : ℕ) (x : List ℕ) → ordered ltb (map (λ r. r .page) (calledFor L reader radius x)) ≡ true
+  unfolding calledFor
+  rising-pages reader radius x =
       rw (
         rows-eq T L R,
         rows-keep (isLive (T .pages)) (rowAt (L .settings .symbols) (T .pages) (T .sketches)) (λ i. refl)
@@ -56,23 +55,29 @@ module _ (T : Tables) (L : Ledger) (R : Represents T L) where
       )
       (rising-keep _ 0 (L .settings .pages))
 
-  module _ (F : List Tree) (reader radius : ℕ) (x o : List ℕ) (put : RightlyPut L reader radius x) where
-    pub refuses : number T F (reading (search reader radius x o)) ≡ cond (leb (length (calledFor L reader radius x)) (length o)) 0 13
+  -- and as they are listed
+  pub nearest-above : (reader radius : ℕ) (x : List ℕ) → ordered (above x) (nearest (far x) radius (calledFor L reader radius x)) ≡ true
+  unfolding above
+  nearest-above reader radius x =
+      ordered-nearest (far x) (λ r s. ltb (r .page) (s .page)) radius (calledFor L reader radius x)
+      (sym (ordered-map (λ r. r .page) ltb (calledFor L reader radius x)) ∙ rising-pages reader radius x)
+
+  module _ (F : List Tree) (reader radius : ℕ) (x : List ℕ) (o : Output) (put : RightlyPut L reader radius x) where
+    pub refuses : number T F (reading (search reader radius x o)) ≡ cond (hasRoom (length (calledFor L reader radius x)) o) 0 13
     unfolding judged admitted asked byLedger firstNo
     refuses =
         number-eq T L R F (reading (search reader radius x o))
         ∙ rw (lt-ltb reader 256 (put .reads), le-leb radius 64 (put .near), eq-eqb (length x) (L .settings .symbols) (put .whole), put .symbols)
 
     -- a search that gives what the scan lists
-    pub finds : (n count : ℕ) (after : List ℕ) → Lists (scan T reader radius x) o n count after → Found L reader radius x o n count after
-    unfolding outputLeft
+    pub finds : (n count : ℕ) (after : Output) → Lists (pageDistance T x) radius (scan T reader radius x) o n count after
+        → Found L reader radius x o n count after
     finds n count after l =
         let c : length (scan T reader radius x) ≡ length (calledFor L reader radius x) = found-eq T L R reader radius x (put .reads) in
-        let r : n ≡ cond (leb (length (calledFor L reader radius x)) (length o)) 0 13 = l .refusal ∙ rw c in
         record {
-          refusal = r;
+          refusal = l .refusal ∙ ap (λ k. cond (hasRoom k o) 0 13) c;
           rows = l .counted ∙ c;
-          output = l .output ∙ rw (r, scan-eq T L R reader radius x (put .reads), accepted (leb (length (calledFor L reader radius x)) (length o)));
+          output = l .output ∙ ap (λ found. bothLeft n found o) (listed-eq T L R reader radius x (put .reads));
         }
 
 -- a show gives the sketch in the page's row
@@ -100,9 +105,35 @@ module _ (T : Tables) (L : Ledger) (R : Represents T L) (F : List Tree) (reader 
       go true e = row (live-shown (eqb-true (judged T L F (reading (show reader p))) 0 e))
       go false e = refl
 
+-- all rows called for are within the radius
+pub all-near : (L : Ledger) (reader radius : ℕ) (x : List ℕ) → all (λ r. leb (far x r) radius) (calledFor L reader radius x) ≡ true
+unfolding calledFor
+all-near L reader radius x =
+    keep-all (λ r. leb (far x r) radius) _ (λ r. and-second (openTo (L .register) reader (r .class)) (leb (far x r) radius)) (L .rows)
+
+-- ---- two ledgers
+
+-- how far the sketch is that is found by a page
+abbrev farIn : List ℕ → List Row → ℕ → ℕ
+farIn x rows p = distance (sketchIn rows p) x
+
+-- the rows called for are listed by their pages and the sketches found by these
+by-pages : (T : Tables) (L : Ledger) → Represents T L → (reader radius : ℕ) (x : List ℕ) → let rows = calledFor L reader radius x in
+    listed L reader radius x ≡ listing (λ p. p) (farIn x rows) radius (map (λ r. r .page) rows)
+unfolding listed
+by-pages T L R reader radius x =
+    let rows = calledFor L reader radius x in
+    listing-pages (λ r. r .page) (far x) (farIn x rows) radius rows (own-sketch (λ s. distance s x) rows (rising-pages T L R reader radius x))
+
 pub agreed : (T U : Tables) (L M : Ledger) → Represents T L → Represents U M → (reader radius : ℕ) (x : List ℕ)
     → Agree L M reader radius x → listed L reader radius x ≡ listed M reader radius x
-unfolding listed
 agreed T U L M R S reader radius x e =
-    rising-ext (listed L reader radius x) (listed M reader radius x) (ordered T L R reader radius x) (ordered U M S reader radius x)
-    (λ p. sym (any-map (calledFor L reader radius x) p) ∙ e p ∙ any-map (calledFor M reader radius x) p)
+    by-pages T L R reader radius x ∙ (λ i. listing (λ p. p) (same-far i) radius (same-pages i)) ∙ sym (by-pages U M S reader radius x)
+  where
+    same-far : farIn x (calledFor L reader radius x) ≡ farIn x (calledFor M reader radius x)
+    same-far = fun-ext (λ p. ap (λ s. distance s x) (e p .1))
+
+    same-pages : map (λ r. r .page) (calledFor L reader radius x) ≡ map (λ r. r .page) (calledFor M reader radius x)
+    same-pages =
+        rising-ext _ _ (rising-pages T L R reader radius x) (rising-pages U M S reader radius x)
+        (λ p. sym (any-map (calledFor L reader radius x) p) ∙ e p .0 ∙ any-map (calledFor M reader radius x) p)

@@ -1,15 +1,16 @@
 -- Histories of calls, and the claim about them (demand 3; document 01, "The ledger").
 use mathlib.Core.Path.{_≡_}
 use Prim.Native.Nat.{ℕ, _+_, _*_, _≤_, _<_}
-use mathlib.Core.Bool.{Bool, true, cond, _&&_, not}
+use mathlib.Core.Bool.{Bool, true, cond, _&&_, _||_, not}
 use mathlib.Core.List.{List, [], _∷_, _++_}
-use lib.Dec.{ltb, leb, eqb}
+use lib.Dec.{ltb, eqb}
 use lib.ListN.{length, getD, replicate}
-use Rattle.meaning.specs.Lists.{all, any, onto}
+use Rattle.meaning.specs.Lists.{all, any, count, onto}
 use Rattle.meaning.specs.Refusal.{Question, firstNo}
 use Rattle.meaning.specs.Sketch.{inRange, blank}
+use Rattle.meaning.specs.Output.{Output, hasRoom, nearest, bothLeft}
 use Rattle.meaning.specs.Trie.{Tree, fresh, nodes, pruned}
-use Rattle.meaning.specs.Ledger.{Settings, Row, Ledger, Event, search, show, check, Call, opening, reading, ifOpening, calledFor, listed}
+use Rattle.meaning.specs.Ledger.{Settings, Row, Ledger, Event, search, show, check, Call, opening, reading, ifOpening, far, calledFor, listed}
 use Rattle.meaning.specs.Forest.{blockBytes}
 use Rattle.meaning.specs.Questions.{asked, byLedger}
 use Rattle.layout.specs.Lengths.{workingLength}
@@ -48,22 +49,26 @@ pub record RightlyPut (L : Ledger) (reader radius : ℕ) (x : List ℕ) : Type 0
   pub whole : length x ≡ L .settings .symbols
   pub symbols : inRange (L .settings .bits) x ≡ true
 
--- what a search rightly put gives: number, count and output
-pub record Found (L : Ledger) (reader radius : ℕ) (x before : List ℕ) (number count : ℕ) (after : List ℕ) : Type 0 where
-  -- refused exactly when the output has fewer places than there are rows called for
-  pub refusal : number ≡ cond (leb (length (calledFor L reader radius x)) (length before)) 0 13
+-- what a search rightly put gives: number, count and the two lists
+pub record Found (L : Ledger) (reader radius : ℕ) (x : List ℕ) (before : Output) (number count : ℕ) (after : Output) : Type 0 where
+  -- refused exactly when one of the two lists has fewer places than there are rows called for
+  pub refusal : number ≡ cond (hasRoom (length (calledFor L reader radius x)) before) 0 13
   pub rows : count ≡ length (calledFor L reader radius x)
-  pub output : after ≡ cond (leb (length (calledFor L reader radius x)) (length before)) (onto (listed L reader radius x) before) before
+  pub output : after ≡ bothLeft number (listed L reader radius x) before
 
 -- the sketch in a page's row
 unfoldable pub sketchIn : List Row → ℕ → List ℕ
 sketchIn [] p = []
 sketchIn (r ∷ rs) p = cond (eqb (r .page) p) (r .sketch) (sketchIn rs p)
 
--- each number is below all that follow it
-unfoldable pub rising : List ℕ → Bool
-rising [] = true
-rising (x ∷ xs) = all (λ y. ltb x y) xs && rising xs
+-- each element is over all that follow it
+unfoldable pub ordered : {A : Type 0} → (A → A → Bool) → List A → Bool
+ordered over [] = true
+ordered over (x ∷ xs) = all (over x) xs && ordered over xs
+
+-- a row is nearer to the query than another, or as far and of a lower page
+unfoldable pub above : List ℕ → Row → Row → Bool
+above x r s = ltb (far x r) (far x s) || (eqb (far x r) (far x s) && ltb (r .page) (s .page))
 
 -- a working table with zeros in its needed part
 unfoldable pub zeroed : Ledger → List ℕ → List ℕ
@@ -74,17 +79,21 @@ pub record Claim (T : Tables) (L : Ledger) (F : List Tree) : Type 0 where
   -- each further call is refused just where a question says no
   pub refusals : (c : Call) (a : Answer) (T′ : Tables) → Promised c T a T′ → a .number ≡ judged T L F c
   -- a search rightly put
-  pub searches : (reader radius : ℕ) (x o : List ℕ) (a : Answer) (T′ : Tables) → Promised (reading (search reader radius x o)) T a T′
-      → RightlyPut L reader radius x → Found L reader radius x o (a .number) (a .count) (a .list)
-  -- each page stands in its list once, and the numbers rise
-  pub once : (reader radius : ℕ) (x : List ℕ) → rising (listed L reader radius x) ≡ true
+  pub searches : (reader radius : ℕ) (x : List ℕ) (o : Output) (a : Answer) (T′ : Tables) → Promised (reading (search reader radius x o)) T a T′
+      → RightlyPut L reader radius x → Found L reader radius x o (a .number) (a .count) (a .output)
+  -- what is listed is, by definition, the pages and the distances of these rows: nearer rows above, and rows that are as far in rising
+  -- pages, none twice
+  pub once : (reader radius : ℕ) (x : List ℕ) → ordered (above x) (nearest (far x) radius (calledFor L reader radius x)) ≡ true
+  -- every row called for stands there: as many pass a test as of those called for, whatever the test
+  pub all-listed : (reader radius : ℕ) (x : List ℕ) (q : Row → Bool)
+      → count q (nearest (far x) radius (calledFor L reader radius x)) ≡ count q (calledFor L reader radius x)
   -- a show gives the page's row, and nothing where it is refused
   pub shows : (reader p : ℕ) (a : Answer) (T′ : Tables) → Promised (reading (show reader p)) T a T′
-      → a .list ≡ cond (eqb (judged T L F (reading (show reader p))) 0) (sketchIn (L .rows) p) []
+      → a .row ≡ cond (eqb (judged T L F (reading (show reader p))) 0) (sketchIn (L .rows) p) []
   -- a check says yes
   pub checks : (a : Answer) (T′ : Tables) → Promised (reading check) T a T′ → a .yes ≡ true
   -- a search and a check leave zeros in the needed part of the working table
-  pub searched : (reader radius : ℕ) (x o : List ℕ) (a : Answer) (T′ : Tables) → Promised (reading (search reader radius x o)) T a T′
+  pub searched : (reader radius : ℕ) (x : List ℕ) (o : Output) (a : Answer) (T′ : Tables) → Promised (reading (search reader radius x o)) T a T′
       → T′ .working ≡ zeroed L (T .working)
   pub checked : (a : Answer) (T′ : Tables) → Promised (reading check) T a T′ → T′ .working ≡ zeroed L (T .working)
   -- no page is blank: so none is listed or shown
@@ -97,7 +106,9 @@ pub record Claim (T : Tables) (L : Ledger) (F : List Tree) : Type 0 where
   -- the store is sound, and its tries are those
   pub sound : Sound T F
 
--- the rows called for have the same page numbers
+-- the rows called for have the same page numbers, and each page the same sketch
 abbrev pub Agree : Ledger → Ledger → ℕ → ℕ → List ℕ → Type 0
 Agree L M reader radius x =
-    (p : ℕ) → any (λ r. eqb (r .page) p) (calledFor L reader radius x) ≡ any (λ r. eqb (r .page) p) (calledFor M reader radius x)
+    (p : ℕ)
+    → (any (λ r. eqb (r .page) p) (calledFor L reader radius x) ≡ any (λ r. eqb (r .page) p) (calledFor M reader radius x))
+    × (sketchIn (calledFor L reader radius x) p ≡ sketchIn (calledFor M reader radius x) p)

@@ -3,12 +3,12 @@ use Prim.Native.Nat.{ℕ, suc, _+_, _-_, _/_, _≤_, _<_}
 use native.Mathlib.Omega.{arith}
 use native.Mathlib.Numerals.{add-one}
 use mathlib.Core.Path.{_≡_, refl, sym, ap, _∙_}
-use mathlib.Core.Bool.{Bool}
 use mathlib.Core.List.{List, map}
 use Rattle.layout.specs.declared.Header.{Header}
 use Rattle.layout.specs.Pages.{nextAt}
 use Rattle.walk.specs.Leaves.{Leaves, leaves, broken}
 use Rattle.walk.specs.Walk.{walkFrom}
+use Rattle.hits.specs.Hit.{Test}
 use Rattle.meeting.specs.declared.Tally.{Tally}
 use Rattle.meeting.specs.declared.Tallies.{Tallies}
 use Rattle.meeting.specs.declared.Tallies.the-variants.{Some, Broken}
@@ -43,14 +43,15 @@ module _ (h : Header) (N P x : List ℕ) (r : ℕ) where
       go (leaves ls n) e f = omega (arith, walk-left (walkOf h N P x j) j r nodes ls n e, left-same (chainsOf P (h .pages) (h .pages) (map (chain (nextAt (h .pages) j)) ls)) n ps k f)
       go broken e f = let z : _≡_ {A = ℕ} 0 1 = cc in absurd (omega arith)
 
-  module _ (hit : ℕ → Bool) (words : ℕ) {m : Meets} {map₀ map : List ℕ} (j left : ℕ) {count : ℕ} (g : Going hit words m map₀ map (meetFrom h N P x r (h .q - j) j left) count) where
-    pub blocks-over : h .q ≤ j → Meeting hit words m map₀ map (Some record { left = left; count = count })
+  module _ (asked : Test) (words : ℕ) {m : Meets} {map₀ map counts : List ℕ} (j left : ℕ) {count : ℕ}
+      (g : Going asked words m map₀ map counts (meetFrom h N P x r (h .q - j) j left) count) where
+    pub blocks-over : h .q ≤ j → Meeting asked words m map₀ map counts (Some record { left = left; count = count })
     unfolding meetFrom
     blocks-over l =
         let none : h .q - j ≡ 0 = omega arith in
-        going-over hit words g left (ap (λ k. meetFrom h N P x r k j left) none)
+        going-over asked words g left (ap (λ k. meetFrom h N P x r k j left) none)
 
-    module _ (l : j < h .q) {now : List ℕ} {a : Tallies} (call : Meeting hit words (meetBlock h N P x r j left) map now a) where
+    module _ (l : j < h .q) {now counts′ : List ℕ} {a : Tallies} (call : Meeting asked words (meetBlock h N P x r j left) map now counts′ a) where
       abbrev others : ℕ → Meets
       others n = meetFrom h N P x r (h .q - (j + 1)) (j + 1) n
 
@@ -61,11 +62,11 @@ module _ (h : Header) (N P x : List ℕ) (r : ℕ) where
           ap (λ k. meetFrom h N P x r k j left) more
           ∙ ap (λ i. andThen (meetBlock h N P x r j left) (λ n. meetFrom h N P x r (h .q - (j + 1)) i n)) (sym (add-one j))
 
-      pub blocks-more : (t : Tally) → a ≡ Some t → Going hit words m map₀ now (meetFrom h N P x r (h .q - (j + 1)) (j + 1) (t .left)) (t .count)
-      blocks-more t e = going-met hit words g call t e (others (t .left)) (λ ps q. first ∙ ap (λ z. andThen z others) q)
+      pub blocks-more : (t : Tally) → a ≡ Some t → Going asked words m map₀ now counts′ (meetFrom h N P x r (h .q - (j + 1)) (j + 1) (t .left)) (t .count)
+      blocks-more t e = going-met asked words g call t e (others (t .left)) (λ ps q. first ∙ ap (λ z. andThen z others) q)
 
       pub blocks-left : (t : Tally) → a ≡ Some t → t .left ≤ left
       blocks-left t e = let x = call .some t e in block-left j left (x .0) (t .left) (x .1)
 
-      pub blocks-stop : a ≡ Broken → Meeting hit words m map₀ now Broken
-      blocks-stop e = going-stop hit words g call e (λ q. first ∙ ap (λ z. andThen z others) q)
+      pub blocks-stop : a ≡ Broken → Meeting asked words m map₀ now counts′ Broken
+      blocks-stop e = going-stop asked words g call e (λ q. first ∙ ap (λ z. andThen z others) q)

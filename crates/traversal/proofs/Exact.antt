@@ -11,7 +11,7 @@ use Rattle.meaning.specs.Lists.{from}
 use Rattle.meaning.proofs.Lists.{length-from}
 use Rattle.layout.specs.declared.Header.{Header}
 use Rattle.layout.specs.Pages.{nextAt}
-use Rattle.marks.specs.Marks.{listOf}
+use Rattle.hits.specs.Hit.{Test}
 use Rattle.descent.specs.declared.Left.the-variants as left
 use Rattle.descent.specs.Cursor.{leftOf}
 use Rattle.block_leaves.specs.declared.Ends.{Ends}
@@ -25,7 +25,7 @@ use Rattle.meeting.specs.declared.Tally.{Tally}
 use Rattle.meeting.specs.declared.Tallies.{Tallies}
 use Rattle.meeting.specs.declared.Tallies.the-variants.{Some, Broken}
 use Rattle.meeting.specs.Meets.{Meets, met, broken, after, andThen, withLeft, chainOf, chainsOf, chain}
-use Rattle.meeting.specs.Mets.{Meeting}
+use Rattle.meeting.specs.Mets.{Tallied, Meeting}
 use Rattle.meeting.specs.Chains.{baseOf, Linked}
 use Rattle.meeting.proofs.Links.{then-broken}
 use Rattle.meeting.proofs.Bounded.{left-after, eachOf, chains-each}
@@ -135,15 +135,15 @@ module _ (h : Header) (N P x : List ℕ) where
 
     -- the chains are met
     module _ (over : ℕ) (e : ends .left ≡ left.Some over) {cs : Chains} (linked : Linked (baseOf (nextAt (h .pages) 0) (h .pages)) (ends .firsts) (h .q) cs) (few : h .q ≤ 16)
-        (hit : ℕ → Bool) (words : ℕ) {map now : List ℕ} (count : ℕ) (counted : count ≡ length (listOf map words)) {r : Tallies}
-        (call : Meeting hit words (chainsOf P (h .pages) (h .q * h .pages) (take (cs .n) (cs .each))) map now r) where
-      begun : Going hit words (meetFrom h N P x 0 (h .q) 0 budget) map map (withLeft over (chainsOf P (h .pages) (h .q * h .pages) (take (cs .n) (cs .each)))) count
-      begun = going-same hit words (going-start hit words map (meetFrom h N P x 0 (h .q) 0 budget) count counted) _ (exact-lasts over e cs linked few)
+        (asked : Test) (words : ℕ) {map now counts counts′ : List ℕ} (count : ℕ) (counted : Tallied asked words map counts count) {r : Tallies}
+        (call : Meeting asked words (chainsOf P (h .pages) (h .q * h .pages) (take (cs .n) (cs .each))) map now counts′ r) where
+      begun : Going asked words (meetFrom h N P x 0 (h .q) 0 budget) map map counts (withLeft over (chainsOf P (h .pages) (h .q * h .pages) (take (cs .n) (cs .each)))) count
+      begun = going-same asked words (going-start asked words map counts (meetFrom h N P x 0 (h .q) 0 budget) count counted) _ (exact-lasts over e cs linked few)
 
-      pub exact-met : (t : Tally) → r ≡ Some t → Meeting hit words (meetFrom h N P x 0 (h .q) 0 budget) map now (Some record { left = over; count = t .count })
+      pub exact-met : (t : Tally) → r ≡ Some t → Meeting asked words (meetFrom h N P x 0 (h .q) 0 budget) map now counts′ (Some record { left = over; count = t .count })
       exact-met t f =
-          going-over hit words
-          (going-met hit words begun call t f (met [] over) (λ ps q. ap (withLeft over) q ∙ ap (λ qs. met qs over) (sym (append-nil ps)))) over refl
+          going-over asked words
+          (going-met asked words begun call t f (met [] over) (λ ps q. ap (withLeft over) q ∙ ap (λ qs. met qs over) (sym (append-nil ps)))) over refl
 
-      pub exact-unmet : r ≡ Broken → Meeting hit words (meetFrom h N P x 0 (h .q) 0 budget) map now Broken
-      exact-unmet f = going-stop hit words begun call f (λ q. ap (withLeft over) q)
+      pub exact-unmet : r ≡ Broken → Meeting asked words (meetFrom h N P x 0 (h .q) 0 budget) map now counts′ Broken
+      exact-unmet f = going-stop asked words begun call f (λ q. ap (withLeft over) q)

@@ -1,13 +1,9 @@
 // All walks of a search draw on one budget of nodes; each block may meet as many pages as the capacity.
 ghost use mathlib.Core.Path.{_≡_};
-ghost use mathlib.Core.List.{[]};
 ghost use Prim.Native.Nat.{_<_};
-ghost use lib.ListN.{length};
 ghost use Rattle.distances.specs.Table.{distanceTable};
-ghost use Rattle.marks.specs.Marks.{listOf};
-ghost use Rattle.hits.specs.Hit.{passes};
 ghost use Rattle.hits.specs.Probes.{testBy};
-ghost use Rattle.meeting.specs.Mets.{Meeting};
+ghost use Rattle.meeting.specs.Mets.{Tallied, Meeting};
 ghost use Rattle.traversal.specs.Meets.{meetBlock, meetFrom, meetBlocks};
 ghost use Rattle.traversal.specs.Ready.{Prepared};
 use crate::bytes::pack;
@@ -34,14 +30,15 @@ fn meet_block(
     sketches: &[u8],
     query: &[u8],
     map: &mut [u32],
+    counts: &mut [u32; 65],
     scope: Scope,
     start: Start,
 ) -> Tallies
     requires { ⌜ now table ≡ distanceTable ⌝ }
     requires { ⌜ Prepared (now nodes) (now pages) (now sketches) (now query) (now map) scope ⌝ }
     requires { ⌜ (start .block < scope .probe .header .q) × (0 < start .radius) × (start .tally .left < scope .probe .header .nodes) ⌝ }
-    requires { ⌜ start .tally .count ≡ length (listOf (now map) (scope .words)) ⌝ }
-    ensures { λ r. ⌜ Meeting (passes (testBy (now (pages .entry)) (now (sketches .entry)) (now (query .entry)) (scope .probe))) (scope .words) (meetBlock (scope .probe .header) (now (nodes .entry)) (now (pages .entry)) (now (query .entry)) (start .radius) (start .block) (start .tally .left)) (now (map .entry)) (now (map .exit)) r ⌝ }
+    requires { ⌜ Tallied (testBy (now pages) (now sketches) (now query) (scope .probe)) (scope .words) (now map) (now counts) (start .tally .count) ⌝ }
+    ensures { λ r. ⌜ Meeting (testBy (now (pages .entry)) (now (sketches .entry)) (now (query .entry)) (scope .probe)) (scope .words) (meetBlock (scope .probe .header) (now (nodes .entry)) (now (pages .entry)) (now (query .entry)) (start .radius) (start .block) (start .tally .left)) (now (map .entry)) (now (map .exit)) (now (counts .exit)) r ⌝ }
 {
     let h = scope.probe.header;
     let j = start.block;
@@ -62,7 +59,7 @@ fn meet_block(
     loop {
         let links = batch.links;
         let each = chains_of(&links, batch.n, base, 0);
-        match meet(table, pages, sketches, query, map, scope, each, tally) {
+        match meet(table, pages, sketches, query, map, counts, scope, each, tally) {
             Tallies::Some(met) => {
                 tally = met;
             }
@@ -92,14 +89,15 @@ fn meet_exact(
     sketches: &[u8],
     query: &[u8],
     map: &mut [u32],
+    counts: &mut [u32; 65],
     scope: Scope,
     start: Tally,
 ) -> Tallies
     requires { ⌜ now table ≡ distanceTable ⌝ }
     requires { ⌜ Prepared (now nodes) (now pages) (now sketches) (now query) (now map) scope ⌝ }
     requires { ⌜ start .left < scope .probe .header .nodes ⌝ }
-    requires { ⌜ start .count ≡ length (listOf (now map) (scope .words)) ⌝ }
-    ensures { λ r. ⌜ Meeting (passes (testBy (now (pages .entry)) (now (sketches .entry)) (now (query .entry)) (scope .probe))) (scope .words) (meetFrom (scope .probe .header) (now (nodes .entry)) (now (pages .entry)) (now (query .entry)) 0 (scope .probe .header .q) 0 (start .left)) (now (map .entry)) (now (map .exit)) r ⌝ }
+    requires { ⌜ Tallied (testBy (now pages) (now sketches) (now query) (scope .probe)) (scope .words) (now map) (now counts) (start .count) ⌝ }
+    ensures { λ r. ⌜ Meeting (testBy (now (pages .entry)) (now (sketches .entry)) (now (query .entry)) (scope .probe)) (scope .words) (meetFrom (scope .probe .header) (now (nodes .entry)) (now (pages .entry)) (now (query .entry)) 0 (scope .probe .header .q) 0 (start .left)) (now (map .entry)) (now (map .exit)) (now (counts .exit)) r ⌝ }
 {
     let h = scope.probe.header;
     let ends = block_leaves::leaves(nodes, h, query, start.left);
@@ -113,7 +111,7 @@ fn meet_exact(
         left: (h.q * h.pages) as u32,
         count: start.count,
     };
-    match meet(table, pages, sketches, query, map, scope, each, most) {
+    match meet(table, pages, sketches, query, map, counts, scope, each, most) {
         Tallies::Some(met) => Tallies::Some(Tally {
             left,
             count: met.count,
@@ -130,11 +128,12 @@ pub fn meet_blocks(
     sketches: &[u8],
     query: &[u8],
     map: &mut [u32],
+    counts: &mut [u32; 65],
     scope: Scope,
 ) -> Tallies
     requires { ⌜ Prepared (now nodes) (now pages) (now sketches) (now query) (now map) scope ⌝ }
-    requires { ⌜ listOf (now map) (scope .words) ≡ [] ⌝ }
-    ensures { λ r. ⌜ Meeting (passes (testBy (now (pages .entry)) (now (sketches .entry)) (now (query .entry)) (scope .probe))) (scope .words) (meetBlocks (scope .probe .header) (now (nodes .entry)) (now (pages .entry)) (now (query .entry)) (scope .probe .radius)) (now (map .entry)) (now (map .exit)) r ⌝ }
+    requires { ⌜ Tallied (testBy (now pages) (now sketches) (now query) (scope .probe)) (scope .words) (now map) (now counts) 0 ⌝ }
+    ensures { λ r. ⌜ Meeting (testBy (now (pages .entry)) (now (sketches .entry)) (now (query .entry)) (scope .probe)) (scope .words) (meetBlocks (scope .probe .header) (now (nodes .entry)) (now (pages .entry)) (now (query .entry)) (scope .probe .radius)) (now (map .entry)) (now (map .exit)) (now (counts .exit)) r ⌝ }
 {
     let h = scope.probe.header;
     let q = h.q;
@@ -145,7 +144,7 @@ pub fn meet_blocks(
         count: 0,
     };
     if radius == 0 {
-        return meet_exact(&table, nodes, pages, sketches, query, map, scope, tally);
+        return meet_exact(&table, nodes, pages, sketches, query, map, counts, scope, tally);
     }
     let mut j = 0;
     while j < q {
@@ -154,7 +153,7 @@ pub fn meet_blocks(
             radius,
             tally,
         };
-        match meet_block(&table, nodes, pages, sketches, query, map, scope, start) {
+        match meet_block(&table, nodes, pages, sketches, query, map, counts, scope, start) {
             Tallies::Some(met) => {
                 tally = met;
             }

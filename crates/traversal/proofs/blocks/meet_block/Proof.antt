@@ -6,7 +6,6 @@ use borrow.Author.Needs.{needs}
 use lib.ListN.{length, take}
 use lib.Seq.{length-take-le}
 use Rattle.layout.specs.Pages.{nextAt}
-use Rattle.hits.specs.Hit.{passes}
 use Rattle.hits.specs.Probes.{testBy}
 use Rattle.walk_steps.specs.Given.{within}
 use Rattle.walk.proofs.Batches.{gives-ready}
@@ -19,13 +18,13 @@ use Rattle.traversal.proofs.blocks.meet_block.Statement.{statement}
 use Rattle.traversal.proofs.blocks.meet_block.Tie as tie
 
 abbrev Inv-loop : tie.InvT-loop
-Inv-loop table nodes pages sketches query map₀ scope j bytes n trie base stack₀ tally₀ batch₀ map stack tally batch =
+Inv-loop table nodes pages sketches query map₀ counts₀ scope j bytes n trie base stack₀ tally₀ batch₀ map counts stack tally batch =
     let w = within nodes (take n bytes) trie in
-    Walking (passes (testBy pages sketches query (scope .probe))) (scope .words) (scope .probe .header) pages j w
-    (pagesFrom (scope .probe .header) pages j (tally₀ .left) (comingFrom w stack₀ batch₀)) map₀ map stack tally batch
+    Walking (testBy pages sketches query (scope .probe)) (scope .words) (scope .probe .header) pages j w
+    (pagesFrom (scope .probe .header) pages j (tally₀ .left) (comingFrom w stack₀ batch₀)) map₀ map counts stack tally batch
 
 abbrev μ-loop : tie.MeasureT-loop
-μ-loop table nodes pages sketches query map₀ scope j bytes n trie base stack₀ tally₀ batch₀ map stack tally batch = stepsOf (batch .rest)
+μ-loop table nodes pages sketches query map₀ counts₀ scope j bytes n trie base stack₀ tally₀ batch₀ map counts stack tally batch = stepsOf (batch .rest)
 
 -- ---- before the loop
 pack-requires : tie.Need-pack-requires Inv-loop μ-loop
@@ -33,16 +32,16 @@ pack-requires c κs =
     let pre = c .before .before .before .before .before .before .pre in
     (pre .1 .0 .ready .fitting .limits, (pre .1 .0 .ready .fitting .query, (pre .1 .0 .range, pre .1 .1 .0 .0)))
 
-cast-t25 : tie.Need-cast-t25 Inv-loop μ-loop
-cast-t25 c = record { fits = omega (arith, c .before .before .before .before .before .before .before .before .before .pre .1 .0 .ready .fitting .limits .bits-most) }
+cast-t26 : tie.Need-cast-t26 Inv-loop μ-loop
+cast-t26 c = record { fits = omega (arith, c .before .before .before .before .before .before .before .before .before .pre .1 .0 .ready .fitting .limits .bits-most) }
 
 next-at-requires : tie.Need-next-at-requires Inv-loop μ-loop
 next-at-requires c κs =
     let pre = c .before .before .before .before .before .before .before .before .before .pre in
     (pre .1 .0 .ready .fitting .limits .pages-most, omega (arith, pre .1 .1 .0 .0, pre .1 .0 .ready .fitting .limits .blocks-most))
 
-cast-t25-2 : tie.Need-cast-t25-2 Inv-loop μ-loop
-cast-t25-2 c = record { fits = omega (arith, c .before .before .before .before .before .before .before .before .before .before .before .pre .1 .0 .ready .fitting .limits .pages-most) }
+cast-t26-2 : tie.Need-cast-t26-2 Inv-loop μ-loop
+cast-t26-2 c = record { fits = omega (arith, c .before .before .before .before .before .before .before .before .before .before .before .pre .1 .0 .ready .fitting .limits .pages-most) }
 
 -- the bytes of the block lie in the array
 bytes-there : (c : tie.After-pack Inv-loop μ-loop) → c .pack .result .n ≤ length (c .pack .result .bytes)
@@ -66,7 +65,7 @@ begin-long : (c : tie.After-begin Inv-loop μ-loop) → length (c .begin .result
 begin-long c = search needs
 
 loop-holds : tie.Need-loop-holds Inv-loop μ-loop
-loop-holds c = walking-start _ _ _ _ _ _ _ _ _ (c .begin .ensures _ refl) (begin-long c) (c .before .before .before .before .before .before .before .before .before .before .before .before .before .pre .1 .1 .1)
+loop-holds c = walking-start _ _ _ _ _ _ _ _ _ _ (c .begin .ensures _ refl) (begin-long c) (c .before .before .before .before .before .before .before .before .before .before .before .before .before .pre .1 .1 .1)
 
 -- ---- a batch
 abbrev start : tie.At-loop Inv-loop μ-loop → tie.Start Inv-loop μ-loop
@@ -77,7 +76,7 @@ packed c = c .before .before .before .before .before .before .before
 
 -- where the pages of a batch are met, and the walk goes on
 abbrev loop : tie.After-meet Inv-loop μ-loop → tie.At-loop Inv-loop μ-loop
-loop c = c .before .before .before .before .before
+loop c = c .before .before .before .before .before .before
 
 abbrev onward : tie.After-known-told2 Inv-loop μ-loop → tie.After-meet Inv-loop μ-loop
 onward c = c .before .before .before .before .before .before .before .before
@@ -99,14 +98,14 @@ linked c = linked-from _ _ _ (c .before .before .before .before .before .before 
 
 meet-requires : tie.Need-meet-requires Inv-loop μ-loop
 meet-requires c κs =
-    let at = c .before .before .before .before in
+    let at = c .before .before .before .before .before in
     let pre = start at .pre in (
       pre .0,
       (
         ready-kept (at .loop .inv .going .met .kept) (pre .1 .0 .ready),
         (
-          inside-in _ (linked (c .before)) (at .loop .inv .gives .few) _ _ (links-inside (pre .1 .0) _ (pre .1 .1 .0 .0)),
-          at .loop .inv .going .counted,
+          inside-in _ (linked (c .before .before)) (at .loop .inv .gives .few) _ _ (links-inside (pre .1 .0) _ (pre .1 .1 .0 .0)),
+          at .loop .inv .going .tallied,
         ),
       ),
     )
@@ -122,7 +121,7 @@ returns c =
     let meet = c .before .before .before .before in
     let at = loop meet in
     walked _ _ _ _ _ _ _ _ _ (packed at .pack .ensures .same) (at .before .begin .ensures _ refl)
-    (walking-unmet _ _ _ _ _ _ (at .loop .inv) (linked (meet .before .before)) (meet .meet .ensures) (c .enum-told .given .1))
+    (walking-unmet _ _ _ _ _ _ (at .loop .inv) (linked (meet .before .before .before)) (meet .meet .ensures) (c .enum-told .given .1))
 
 same-length : tie.Need-same-length Inv-loop μ-loop
 same-length c = returns c .kept .long
@@ -155,7 +154,7 @@ loop-again : tie.Need-loop-again Inv-loop μ-loop
 loop-again c =
     let meet = onward (c .before .before .before) in
     let at = loop meet in
-    walking-next _ _ _ _ _ _ (at .loop .inv) (linked (meet .before .before)) (meet .meet .ensures) _ (c .before .before .before .before .before .before .before .met .given .1) _ (c .before .before .before .before .rest .given .1) (c .next .ensures) (next-long c)
+    walking-next _ _ _ _ _ _ (at .loop .inv) (linked (meet .before .before .before)) (meet .meet .ensures) _ (c .before .before .before .before .before .before .before .met .given .1) _ (c .before .before .before .before .rest .given .1) (c .next .ensures) (next-long c)
 
 -- ---- the walk is over
 enum-known-rest-2 : tie.Need-enum-known-rest-2 Inv-loop μ-loop
@@ -166,7 +165,7 @@ returns-2 c =
     let meet = c .before .before .before .before .before .before .before .before in
     let at = loop meet in
     walked _ _ _ _ _ _ _ _ _ (packed at .pack .ensures .same) (at .before .begin .ensures _ refl)
-    (walking-done _ _ _ _ _ _ (at .loop .inv) (linked (meet .before .before)) (meet .meet .ensures) _ (c .before .before .before .before .met .given .1) _ (c .before .rest2 .given .1))
+    (walking-done _ _ _ _ _ _ (at .loop .inv) (linked (meet .before .before .before)) (meet .meet .ensures) _ (c .before .before .before .before .met .given .1) _ (c .before .rest2 .given .1))
 
 same-length-2 : tie.Need-same-length-2 Inv-loop μ-loop
 same-length-2 c = returns-2 c .kept .long
@@ -179,7 +178,7 @@ returns-3 c =
     let meet = c .before .before .before .before .before .before .before in
     let at = loop meet in
     walked _ _ _ _ _ _ _ _ _ (packed at .pack .ensures .same) (at .before .begin .ensures _ refl)
-    (walking-broken _ _ _ _ _ _ (at .loop .inv) (linked (meet .before .before)) (meet .meet .ensures) _ (c .before .before .before .met .given .1) (c .enum-told2 .given .1))
+    (walking-broken _ _ _ _ _ _ (at .loop .inv) (linked (meet .before .before .before)) (meet .meet .ensures) _ (c .before .before .before .met .given .1) (c .enum-told2 .given .1))
 
 same-length-3 : tie.Need-same-length-3 Inv-loop μ-loop
 same-length-3 c = returns-3 c .kept .long
@@ -191,9 +190,9 @@ meet-block-spec =
     Inv-loop
     μ-loop
     pack-requires
-    cast-t25
+    cast-t26
     next-at-requires
-    cast-t25-2
+    cast-t26-2
     array-share-prefix-bytes
     slice-aggregate-begin
     begin-requires

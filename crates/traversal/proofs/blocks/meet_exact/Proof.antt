@@ -26,7 +26,7 @@ enum-told c = search needs
 
 returns : tie.Need-returns
 returns c =
-    going-broken _ _ (going-start _ _ _ _ _ (c .before .before .before .before .before .before .before .before .before .pre .1 .1 .1)) (exact-spent _ _ _ _ _ _ (c .before .before .leaves .ensures) (c .enum-told .given .1))
+    going-broken _ _ (going-start _ _ _ _ _ _ (c .before .before .before .before .before .before .before .before .before .pre .1 .1 .1)) (exact-spent _ _ _ _ _ _ (c .before .before .leaves .ensures) (c .enum-told .given .1))
 
 slice-aggregate-chains-of : tie.Need-slice-aggregate-chains-of
 slice-aggregate-chains-of c = search needs
@@ -43,13 +43,13 @@ chains-of-requires c κs =
     ((omega (arith, limits .blocks-most), omega (arith, limits .blocks-most, firsts-long (c .before .before .before .before .before .before))), omega (arith, limits .pages-most, c .next-at .ensures))
 
 -- the product of the blocks and the capacity is small
-mul-t19 : tie.Need-mul-t19
-mul-t19 c =
+mul-t20 : tie.Need-mul-t20
+mul-t20 c =
     let limits = c .before .before .before .before .before .before .before .before .before .before .before .before .before .before .before .pre .1 .0 .ready .fitting .limits in
     record { fits = omega (arith, limits .pages-most, mul-le-mul-right (c .before .before .before .before .before .before .before .before .before .before .before .before .before .before .before .args .scope .probe .header .pages) (limits .blocks-most)) }
 
-cast-t20 : tie.Need-cast-t20
-cast-t20 c =
+cast-t21 : tie.Need-cast-t21
+cast-t21 c =
     let limits = c .before .before .before .before .before .before .before .before .before .before .before .before .before .before .before .pre .1 .0 .ready .fitting .limits in
     record { fits = omega (arith, limits .pages-most, mul-le-mul-right (c .before .before .before .before .before .before .before .before .before .before .before .before .before .before .before .args .scope .probe .header .pages) (limits .blocks-most)) }
 
@@ -64,12 +64,12 @@ linked c = linked-from _ _ _ (c .before .next-at .ensures) (c .chains-of .ensure
 
 meet-requires : tie.Need-meet-requires
 meet-requires c κs =
-    let pre = start (c .before .before) .pre in (
+    let pre = start (c .before .before .before) .pre in (
       pre .0,
       (
         pre .1 .0 .ready,
         (
-          inside-each _ (linked (c .before .before)) (omega (arith, pre .1 .0 .ready .fitting .limits .blocks-most)) _ (λ i l. links-inside (pre .1 .0) i l),
+          inside-each _ (linked (c .before .before .before)) (omega (arith, pre .1 .0 .ready .fitting .limits .blocks-most)) _ (λ i l. links-inside (pre .1 .0) i l),
           pre .1 .1 .1,
         ),
       ),
@@ -87,7 +87,7 @@ same-length c = search needs
 returns-2 : tie.Need-returns-2
 returns-2 c =
     let meet = c .before .before .before .before .before in
-    let chains = meet .before .before .before in
+    let chains = meet .before .before .before .before in
     let pre = start chains .pre in
     exact-met _ _ _ _ _ _ (chains .before .before .before .before .before .before .before .leaves .ensures) _ (chains .before .before .before .before .before .unread .given .1) (linked chains) (omega (arith, pre .1 .0 .ready .fitting .limits .blocks-most)) _ _ _ (pre .1 .1 .1) (meet .meet .ensures) _ (c .before .met .given .1)
 
@@ -97,7 +97,7 @@ same-length-2 c = search needs
 returns-3 : tie.Need-returns-3
 returns-3 c =
     let meet = c .before .before .before .before in
-    let chains = meet .before .before .before in
+    let chains = meet .before .before .before .before in
     let pre = start chains .pre in
     exact-unmet _ _ _ _ _ _ (chains .before .before .before .before .before .before .before .leaves .ensures) _ (chains .before .before .before .before .before .unread .given .1) (linked chains) (omega (arith, pre .1 .0 .ready .fitting .limits .blocks-most)) _ _ _ (pre .1 .1 .1) (meet .meet .ensures) (c .enum-told2 .given .1)
 
@@ -112,8 +112,8 @@ meet-exact-spec =
     slice-aggregate-chains-of
     next-at-requires
     chains-of-requires
-    mul-t19
-    cast-t20
+    mul-t20
+    cast-t21
     meet-requires
     enum-known-met
     enum-told-2
