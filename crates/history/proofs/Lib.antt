@@ -1,4 +1,3 @@
-pub mod Grouped
 pub mod Lists
 pub mod Pages
 pub mod Represents

@@ -8,11 +8,11 @@ use native.Mathlib.Omega.{arith}
 use lib.Dec.{ltb, eqb}
 use lib.ListN.{length}
 use borrow.Author.Tests.{ltb-true, lt-ltb, le-ltb, eqb-true, eqb-false, eq-eqb, ne-eqb}
-use Rattle.meaning.specs.Lists.{all, any, count, keep, from}
+use Rattle.meaning.specs.Lists.{all, any, count, keep, from, ordered}
 use Rattle.meaning.specs.Ledger.{Row, putRow}
 use Rattle.meaning.proofs.Lists.{and-intro, and-first, and-second}
 use Rattle.promises.specs.Tables.{rowsFrom}
-use Rattle.history.specs.History.{sketchIn, ordered}
+use Rattle.history.specs.History.{sketchIn}
 
 -- ---- tests
 

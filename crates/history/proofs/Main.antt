@@ -15,6 +15,7 @@ use Rattle.meaning.specs.Output.{Output, hasRoom, nearest, listing, bothLeft}
 use Rattle.meaning.specs.Questions.{asked}
 use Rattle.meaning.specs.Trie.{Tree}
 use Rattle.meaning.specs.Ledger.{Ledger, Event, search, show, check, reading, accept, step, unopened, ledger, far, calledFor, listed}
+use Rattle.meaning.proofs.Nearest.{count-nearest, length-nearest}
 use Rattle.meaning.specs.Forest.{forest, forestAfter, totalNodes}
 use Rattle.trie_laws.proofs.Forest.{total-fresh}
 use Rattle.trie_laws.proofs.Pruned.{forest-pruned}
@@ -24,7 +25,6 @@ use Rattle.promises.specs.Readings.{rowShown, roomy, earlyNumber}
 use Rattle.promises.specs.Relation.{Answer, toShow, Promised}
 use Rattle.promises.proofs.Readings.{number-show}
 use Rattle.history.specs.History.{History, begun, called, foreign, admitted, judged, RightlyPut, Found, sketchIn, Claim, Agree}
-use Rattle.history.proofs.Grouped.{count-nearest, length-nearest}
 use Rattle.history.proofs.Represents.{found-eq, number-eq}
 use Rattle.history.proofs.Searches.{all-near, nearest-above, refuses, finds, shows-row}
 use Rattle.history.proofs.Searches.{agreed as agreed-in}

@@ -27,7 +27,7 @@ use Rattle.rights.proofs.Pairs.{Holds, holds-opens}
 use Rattle.promises.specs.Tables.{Tables, takes, given, pageClass, pageRow, pageDistance, isShown, scan, rowsOf, byTables}
 use Rattle.promises.specs.Answers.{longFor, longSettings, longNodes, longPages, longWorking, shown56, entered, number}
 use Rattle.history.specs.History.{admitted, judged}
-use Rattle.history.proofs.Grouped.{all-keep, listing-pages}
+use Rattle.meaning.proofs.Nearest.{all-keep, listing-pages}
 use Rattle.history.proofs.Lists.{and-then, asks, rows-live, rows-any, rows-keep, rows-all}
 use Rattle.history.proofs.Pages.{rowAt, rowsIn}
 

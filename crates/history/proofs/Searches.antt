@@ -9,21 +9,21 @@ use native.Mathlib.Omega.{arith}
 use lib.Dec.{ltb, leb, eqb}
 use lib.ListN.{length}
 use borrow.Author.Tests.{eqb-true, ltb-true, leb-true, eq-eqb, lt-ltb, le-leb}
-use Rattle.meaning.specs.Lists.{all}
+use Rattle.meaning.specs.Lists.{all, ordered}
 use Rattle.meaning.specs.Refusal.{firstNo}
 use Rattle.meaning.specs.Sketch.{distance, inRange}
 use Rattle.meaning.specs.Output.{Output, hasRoom, nearest, listing, bothLeft}
 use Rattle.meaning.specs.Rights.{openTo}
 use Rattle.meaning.specs.Trie.{Tree}
-use Rattle.meaning.specs.Ledger.{Row, Ledger, search, show, reading, far, calledFor, listed}
+use Rattle.meaning.specs.Ledger.{Row, Ledger, search, show, reading, far, above, calledFor, listed}
 use Rattle.meaning.specs.Questions.{asked, byLedger}
 use Rattle.meaning.proofs.Lists.{and-first, and-second}
 use Rattle.layout.specs.Pages.{isLive}
 use Rattle.promises.specs.Tables.{Tables, pageRow, pageDistance, isShown, scan}
 use Rattle.promises.specs.Answers.{number}
 use Rattle.promises.specs.Readings.{Lists}
-use Rattle.history.specs.History.{admitted, judged, RightlyPut, Found, sketchIn, ordered, above, Agree}
-use Rattle.history.proofs.Grouped.{keep-all, ordered-nearest, ordered-map, listing-pages}
+use Rattle.history.specs.History.{admitted, judged, RightlyPut, Found, sketchIn, Agree}
+use Rattle.meaning.proofs.Nearest.{keep-all, ordered-nearest, ordered-map, listing-pages}
 use Rattle.history.proofs.Lists.{passed, not-by, rows-sketch, rows-keep, rising-keep, rising-ext, any-map, own-sketch}
 use Rattle.history.proofs.Pages.{rowAt}
 use Rattle.history.proofs.Represents.{Represents, given-eq, rows-eq, shown-eq, found-eq, listed-eq, number-eq}

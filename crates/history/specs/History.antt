@@ -1,16 +1,16 @@
 -- Histories of calls, and the claim about them (demand 3; document 01, "The ledger").
 use mathlib.Core.Path.{_≡_}
 use Prim.Native.Nat.{ℕ, _+_, _*_, _≤_, _<_}
-use mathlib.Core.Bool.{Bool, true, cond, _&&_, _||_, not}
+use mathlib.Core.Bool.{Bool, true, cond, not}
 use mathlib.Core.List.{List, [], _∷_, _++_}
-use lib.Dec.{ltb, eqb}
+use lib.Dec.{eqb}
 use lib.ListN.{length, getD, replicate}
-use Rattle.meaning.specs.Lists.{all, any, count, onto}
+use Rattle.meaning.specs.Lists.{all, any, count, onto, ordered}
 use Rattle.meaning.specs.Refusal.{Question, firstNo}
 use Rattle.meaning.specs.Sketch.{inRange, blank}
 use Rattle.meaning.specs.Output.{Output, hasRoom, nearest, bothLeft}
 use Rattle.meaning.specs.Trie.{Tree, fresh, nodes, pruned}
-use Rattle.meaning.specs.Ledger.{Settings, Row, Ledger, Event, search, show, check, Call, opening, reading, ifOpening, far, calledFor, listed}
+use Rattle.meaning.specs.Ledger.{Settings, Row, Ledger, Event, search, show, check, Call, opening, reading, ifOpening, far, above, calledFor, listed}
 use Rattle.meaning.specs.Forest.{blockBytes}
 use Rattle.meaning.specs.Questions.{asked, byLedger}
 use Rattle.layout.specs.Lengths.{workingLength}
@@ -60,15 +60,6 @@ pub record Found (L : Ledger) (reader radius : ℕ) (x : List ℕ) (before : Out
 unfoldable pub sketchIn : List Row → ℕ → List ℕ
 sketchIn [] p = []
 sketchIn (r ∷ rs) p = cond (eqb (r .page) p) (r .sketch) (sketchIn rs p)
-
--- each element is over all that follow it
-unfoldable pub ordered : {A : Type 0} → (A → A → Bool) → List A → Bool
-ordered over [] = true
-ordered over (x ∷ xs) = all (over x) xs && ordered over xs
-
--- a row is nearer to the query than another, or as far and of a lower page
-unfoldable pub above : List ℕ → Row → Row → Bool
-above x r s = ltb (far x r) (far x s) || (eqb (far x r) (far x s) && ltb (r .page) (s .page))
 
 -- a working table with zeros in its needed part
 unfoldable pub zeroed : Ledger → List ℕ → List ℕ

@@ -1,4 +1,5 @@
 pub mod Lists
+pub mod Nearest
 pub mod Each
 pub mod Sums
 pub mod Stacks
@@ -6,3 +7,4 @@ pub mod Journal
 pub mod Questions
 pub mod Rights
 pub mod Pruning
+pub mod Searches

@@ -67,7 +67,8 @@ module _ {A : Type 0} (p : A → Bool) where
       go true h = omega arith
       go false h = omega arith
 
-pub count-every : (xs : List ℕ) → count (λ x. true) xs ≡ length xs
+-- all of them
+pub count-every : {A : Type 0} (xs : List A) → count (λ x. true) xs ≡ length xs
 unfolding count
 count-every [] = refl
 count-every (x ∷ xs) = omega (arith, count-every xs)

@@ -1,6 +1,6 @@
 -- The ledger of document 01: what a history of calls has left, told by their arguments and refusals alone.
 use Prim.Native.Nat.{ℕ}
-use mathlib.Core.Bool.{Bool, cond, _&&_, not}
+use mathlib.Core.Bool.{Bool, cond, _&&_, _||_, not}
 use mathlib.Core.List.{List, [], _∷_}
 use lib.Dec.{ltb, leb, eqb}
 use Rattle.meaning.specs.Lists.{keep}
@@ -109,6 +109,10 @@ ledger (e ∷ es) = step e (ledger es)
 -- how far a row is from a query
 abbrev pub far : List ℕ → Row → ℕ
 far x r = distance (r .sketch) x
+
+-- a row is nearer to the query than another, or as far and of a lower page
+unfoldable pub above : List ℕ → Row → Row → Bool
+above x r s = ltb (far x r) (far x s) || (eqb (far x r) (far x s) && ltb (r .page) (s .page))
 
 -- the rows that a search calls for, rising by page
 unfoldable pub calledFor : Ledger → ℕ → ℕ → List ℕ → List Row

@@ -26,6 +26,11 @@ module _ {A : Type 0} where
   count p [] = 0
   count p (x ∷ xs) = cond (p x) 1 0 + count p xs
 
+  -- each element is over all that follow it
+  unfoldable pub ordered : (A → A → Bool) → List A → Bool
+  ordered over [] = true
+  ordered over (x ∷ xs) = all (over x) xs && ordered over xs
+
   -- for each number in turn the elements that have it, in their order
   unfoldable pub grouped : (A → ℕ) → List ℕ → List A → List A
   grouped f [] xs = []

@@ -2,13 +2,22 @@
 use Prim.Native.Nat.{ℕ, _*_, _≤_, _<_}
 use native.Mathlib.Omega.{arith}
 use mathlib.Core.Path.{_≡_, refl}
-use mathlib.Core.Bool.{Bool, false}
+use mathlib.Core.Bool.{Bool, true, false, _&&_}
 use mathlib.Core.List.{List, []}
+use lib.Dec.{ltb, leb, eqb}
 use lib.ListN.{length}
+use borrow.Author.Tests.{lt-ltb, le-leb}
+use Rattle.meaning.specs.Lists.{all, any, upto}
+use Rattle.meaning.specs.Output.{Output}
+use Rattle.meaning.proofs.Lists.{and-intro, and-second}
+use Rattle.meaning.proofs.Nearest.{keep-all}
 use Rattle.words.specs.Bits.{flag}
 use Rattle.words.proofs.Rising.{rising-none}
 use Rattle.promises.specs.Readings.{Lists}
-use Rattle.marks.specs.Marks.{Summarised, listOf}
+use Rattle.marks.specs.Marks.{Summarised, listOf, Counts}
+use Rattle.hits.specs.Hit.{Test, far, passes}
+use Rattle.hits.proofs.Filter.{passes-below}
+use Rattle.hits.proofs.Hit.{passes-near}
 use Rattle.meeting.specs.declared.Tally.{Tally}
 use Rattle.meeting.specs.declared.Tallies.{Tallies}
 use Rattle.meeting.specs.declared.Tallies.the-variants.{Some}
@@ -17,34 +26,52 @@ use Rattle.meeting.specs.Mets.{Meeting}
 use Rattle.meeting.proofs.Maps.{met-listed}
 use Rattle.search_laws.specs.Answer.{passing, Answered}
 
-pub answers-stopped : (m : Meets) (hit : ℕ → Bool) (cap : ℕ) (out : List ℕ) → m ≡ broken → Answered m hit cap out 14 0 out
-answers-stopped m hit cap out e =
+pub answers-stopped : (m : Meets) (t : Test) (out : Output) → m ≡ broken → Answered m t out 14 0 out
+answers-stopped m t out e =
     record { stopped = λ z. (refl, refl, refl); listed = λ ps k z. let w : _≡_ {A = ℕ} 0 1 = cc in absurd (omega arith) }
 
-answers-listed : (m : Meets) (hit : ℕ → Bool) (cap : ℕ) (out ps : List ℕ) (k n count : ℕ) (after : List ℕ) → m ≡ met ps k
-    → Lists (passing hit cap ps) out n count after → Answered m hit cap out n count after
-answers-listed m hit cap out ps k n count after e l = record {
+answers-listed : (m : Meets) (t : Test) (out : Output) (ps : List ℕ) (k n count : ℕ) (after : Output) → m ≡ met ps k
+    → Lists (far t) (t .radius) (passing (passes t) (t .header .pages) ps) out n count after → Answered m t out n count after
+answers-listed m t out ps k n count after e l = record {
   stopped = λ z. let w : _≡_ {A = ℕ} 0 1 = cc in absurd (omega arith);
   listed = λ qs j z. let same : ps ≡ qs = cc in rw (← same) l;
 }
 
 -- the walks ended
-module _ {hit : ℕ → Bool} {words : ℕ} {m : Meets} {map after : List ℕ} {a : Tallies} (r : Meeting hit words m map after a) (t : Tally) (e : a ≡ Some t) where
+module _ {t : Test} {words : ℕ} {m : Meets} {map after counts : List ℕ} {a : Tallies} (r : Meeting t words m map after counts a) (n : Tally) (e : a ≡ Some n) where
   pub found-summary : Summarised map words → Summarised after words
-  found-summary = r .some t e .2 .summarised
+  found-summary = r .some n e .2 .summarised
 
-  pub found-count : t .count ≡ length (listOf after words)
-  found-count = r .some t e .3
+  pub found-count : n .count ≡ length (listOf after words)
+  found-count = r .some n e .3 .all
+
+  pub found-counts : Counts (far t) after words counts
+  found-counts = r .some n e .3 .each
 
   -- no page was marked before
-  module _ (none : listOf map words ≡ []) where
+  module _ (none : listOf map words ≡ []) (fits : t .header .pages ≤ words * 32) where
     unmarked : (k : ℕ) → k < words * 32 → flag map 0 k ≡ false
     unfolding listOf
     unmarked k h = rising-none (flag map 0) 0 (words * 32) none k (omega arith) (omega arith)
 
-    pub answers-found : (cap : ℕ) → cap ≤ words * 32 → ((p : ℕ) → cap ≤ p → hit p ≡ false) → (out : List ℕ) (n count : ℕ) (left : List ℕ)
-        → Lists (listOf after words) out n count left → Answered m hit cap out n count left
+    -- the pages met that passed
+    found-pages : listOf after words ≡ passing (passes t) (t .header .pages) (r .some n e .0)
     unfolding passing
-    answers-found cap fits below out n count left l =
-        answers-listed m hit cap out (r .some t e .0) (t .left) n count left (r .some t e .1)
-        (rw (met-listed hit words cap fits below unmarked (r .some t e .2)) at l)
+    found-pages = met-listed (passes t) words (t .header .pages) fits (passes-below t) unmarked (r .some n e .2)
+
+    -- each is below the capacity, and within the radius
+    pub found-near : all (λ p. ltb p (t .header .pages) && leb (far t p) (t .radius)) (listOf after words) ≡ true
+    unfolding passing
+    found-near =
+        rw found-pages
+        (keep-all (λ p. ltb p (t .header .pages) && leb (far t p) (t .radius)) (λ p. any (eqb p) (r .some n e .0) && passes t p) near (upto (t .header .pages)))
+      where
+        near : (p : ℕ) → any (eqb p) (r .some n e .0) && passes t p ≡ true → ltb p (t .header .pages) && leb (far t p) (t .radius) ≡ true
+        near p h =
+            let l = passes-near t p (and-second (any (eqb p) (r .some n e .0)) (passes t p) h) in
+            and-intro (ltb p (t .header .pages)) (leb (far t p) (t .radius)) (lt-ltb p (t .header .pages) (l .0)) (le-leb (far t p) (t .radius) (l .1))
+
+    pub answers-found : (out : Output) (number count : ℕ) (left : Output)
+        → Lists (far t) (t .radius) (listOf after words) out number count left → Answered m t out number count left
+    answers-found out number count left l =
+        answers-listed m t out (r .some n e .0) (n .left) number count left (r .some n e .1) (rw found-pages at l)

@@ -11,6 +11,7 @@ use lib.Dec.{leb, eqb}
 use lib.ListN.{length, drop, replicate, length-replicate}
 use lib.Seq.{drop-at}
 use Rattle.meaning.specs.Lists.{onto}
+use Rattle.meaning.specs.Output.{Output, hasRoom}
 use Rattle.meaning.specs.Refusal.{Question, ask, firstNo}
 use Rattle.meaning.specs.Sketch.{inRange}
 use Rattle.meaning.specs.Trie.{Tree}
@@ -26,15 +27,15 @@ use Rattle.layout.specs.Working.{mapWords, summaryWords}
 use Rattle.layout.proofs.Sizes.{same-lengths}
 use Rattle.rights.specs.declared.Classes.{Classes}
 use Rattle.rights.specs.Open.{openClasses}
-use Rattle.promises.specs.Tables.{Tables, given, byTables, scan}
+use Rattle.promises.specs.Tables.{Tables, given, pageRow, pageDistance, byTables, scan}
 use Rattle.promises.specs.Answers.{number, entered, shown56, longSettings, longNodes, longPages, longWorking, longFor}
 use Rattle.promises.specs.Sound.{Sound}
-use Rattle.promises.specs.Readings.{workingLeft, listedOf, Lists, earlyNumber, SearchPromise}
+use Rattle.promises.specs.Readings.{workingLeft, listedOf, Lists, roomy, earlyNumber, SearchPromise}
 use Rattle.entry.specs.Entry.{tablesAsked, entry}
 use Rattle.entry.proofs.Enters.{entry-refused, Entered, entry-shown}
 use Rattle.marks.specs.Marks.{summaryOf}
 use Rattle.hits.specs.declared.Probe.{Probe}
-use Rattle.hits.specs.Hit.{Fitting, testOf, passes}
+use Rattle.hits.specs.Hit.{Fitting, testOf}
 use Rattle.hits.specs.Probes.{probeOf, testBy}
 use Rattle.meeting.specs.Meets.{Meets, met, broken}
 use Rattle.traversal.specs.Meets.{meetBlocks}
@@ -44,8 +45,8 @@ use Rattle.search.specs.Questions.{queryAsked}
 use Rattle.search.proofs.Queries.{query-passed}
 
 -- ---- past 11, by the pages met
-module _ (T : Tables) (reader radius : ℕ) (x before : List ℕ) (n count : ℕ) (after : List ℕ)
-    (a : Answered (meets T reader radius x) (passes (testOf T reader radius x)) (given T .pages) before n count after) where
+module _ (T : Tables) (reader radius : ℕ) (x : List ℕ) (before : Output) (n count : ℕ) (after : Output)
+    (a : Answered (meets T reader radius x) (testOf T reader radius x) before n count after) where
   answer-refused : n ≢ 0 → n ≢ 13 → (count ≡ 0) × (after ≡ before)
   answer-refused k l = go (meets T reader radius x) refl
     where
@@ -54,18 +55,20 @@ module _ (T : Tables) (reader radius : ℕ) (x before : List ℕ) (n count : ℕ
       neither false z = l z
 
       go : (m : Meets) → meets T reader radius x ≡ m → (count ≡ 0) × (after ≡ before)
-      go (met ps j) z = absurd (neither (leb (length (foundIn T reader radius x ps)) (length before)) (a .listed ps j z .refusal))
+      go (met ps j) z = absurd (neither (hasRoom (length (foundIn T reader radius x ps)) before) (a .listed ps j z .refusal))
       go broken z = let s = a .stopped z in (s .1, s .2)
 
-  answer-open : (n ≡ 14) ⊎ ((met : ℕ → Bool) × Lists (listedOf met T reader radius x) before n count after)
+  answer-open : (n ≡ 14) ⊎ ((met : ℕ → Bool) × Lists (pageDistance T x) radius (listedOf met T reader radius x) before n count after)
+  unfolding pageRow
   answer-open = go (meets T reader radius x) refl
     where
-      go : (m : Meets) → meets T reader radius x ≡ m → (n ≡ 14) ⊎ ((met : ℕ → Bool) × Lists (listedOf met T reader radius x) before n count after)
+      go : (m : Meets) → meets T reader radius x ≡ m → (n ≡ 14) ⊎ ((met : ℕ → Bool) × Lists (pageDistance T x) radius (listedOf met T reader radius x) before n count after)
       go (met ps j) z = inr (metBy T reader radius x ps, rw (list-met T reader radius x ps) at (a .listed ps j z))
       go broken z = inl (a .stopped z .0)
 
   answer-sound : Fitting (testOf T reader radius x) → inRange (given T .bits) x ≡ true → (F : List Tree) → Sound T F
-      → Lists (scan T reader radius x) before n count after
+      → Lists (pageDistance T x) radius (scan T reader radius x) before n count after
+  unfolding pageRow
   answer-sound fit range F s =
       let w = walks-whole T reader radius x fit range F s in
       rw (list-all T reader radius x fit range F s) at (a .listed _ _ (w .same))
@@ -88,23 +91,23 @@ two-first true true qs = refl
 two-first true false qs = refl
 two-first false t qs = refl
 
-module _ (T : Tables) (reader radius : ℕ) (x before : List ℕ) where
+module _ (T : Tables) (reader radius : ℕ) (x : List ℕ) (before : Output) where
   abbrev early : ℕ
   early = earlyNumber T reader radius x
 
   -- an output as long as the list leaves 13 out
-  query-first : firstNo (asked (byTables T []) (reading (search reader radius x (scan T reader radius x)))) ≡ firstNo (queryAsked (headerOf (given T)) reader radius x)
-  unfolding asked byTables queryAsked firstNo
+  query-first : firstNo (asked (byTables T []) (reading (search reader radius x (roomy T reader radius x)))) ≡ firstNo (queryAsked (headerOf (given T)) reader radius x)
+  unfolding asked byTables queryAsked firstNo hasRoom
   query-first = rw (le-leb (length (scan T reader radius x)) (length (scan T reader radius x)) (omega arith)) refl
 
   early-split : early ≡ cond (eqb (firstNo (tablesAsked T)) 0) (firstNo (queryAsked (headerOf (given T)) reader radius x)) (firstNo (tablesAsked T))
   unfolding number entered shown56 longSettings longFor tablesAsked
   early-split =
       two-first (leb settingsLength (length (T .settings))) (showsOpening (T .settings) && (longNodes (given T) T && longPages (given T) T && longWorking (given T) T))
-      (asked (byTables T []) (reading (search reader radius x (scan T reader radius x))))
+      (asked (byTables T []) (reading (search reader radius x (roomy T reader radius x))))
       ∙ ap (λ n. cond (eqb (firstNo (tablesAsked T)) 0) n (firstNo (tablesAsked T))) query-first
 
-  left-split : (after : List ℕ) → workingLeft T (search reader radius x after)
+  left-split : (after : Output) → workingLeft T (search reader radius x after)
       ≡ cond (eqb (firstNo (tablesAsked T)) 0) (onto (replicate (workingLength (given T)) 0) (T .working)) (T .working)
   unfolding workingLeft entered shown56 longSettings longFor tablesAsked
   left-split after = refl
@@ -162,12 +165,12 @@ module _ (T : Tables) (reader radius : ℕ) (x before : List ℕ) where
         fit = rw (in-order .header)
             record { limits = in-order .limits; pages = in-order .pages-long; sketches = in-order .sketches-long; query = query-passed h reader radius x q .1 .count }
 
-        pub promise-found : (n count : ℕ) (after last : List ℕ)
-            → Answered (meetBlocks (p .header) (T .nodes) (T .pages) x (p .radius)) (passes (testBy (T .pages) (T .sketches) x p)) (p .header .pages) before n count after
+        pub promise-found : (n count : ℕ) (after : Output) (last : List ℕ)
+            → Answered (meetBlocks (p .header) (T .nodes) (T .pages) x (p .radius)) (testBy (T .pages) (T .sketches) x p) before n count after
             → last ≡ zeroed cleared 0 (w + summaryOf w)
             → SearchPromise T reader radius x before n count after last × AnsweredBy T reader radius x before n count after
         promise-found n count after last a z =
-            let b : Answered (meets T reader radius x) (passes (testOf T reader radius x)) (given T .pages) before n count after =
+            let b : Answered (meets T reader radius x) (testOf T reader radius x) before n count after =
             rw (r, c, ← in-order .header) at a in
             let range : inRange (given T .bits) x ≡ true = ap (λ g. inRange (g .b) x) (in-order .header) ∙ query-passed h reader radius x q .1 .range in (
               record {

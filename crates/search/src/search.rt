@@ -1,12 +1,13 @@
-// Search for a reader: the numbers of the pages open to him whose sketches are within a radius of a query, rising.
+// Search for a reader: the numbers of the pages open to him whose sketches are within a radius of a query, the nearest on top, and
+// their distances.
 ghost use mathlib.Core.Path.{_≡_};
 ghost use mathlib.Core.List.{[]};
 ghost use Prim.Native.Nat.{_+_};
+ghost use Rattle.meaning.specs.Output.{output as lists};
 ghost use Rattle.words.specs.Bits.{zeroed};
 ghost use Rattle.promises.specs.Tables.{tables};
 ghost use Rattle.promises.specs.Readings.{SearchPromise};
 ghost use Rattle.marks.specs.Marks.{summaryOf, Summarised, listOf};
-ghost use Rattle.hits.specs.Hit.{passes};
 ghost use Rattle.hits.specs.Probes.{testBy};
 ghost use Rattle.traversal.specs.Meets.{meetBlocks};
 ghost use Rattle.traversal.specs.Ready.{Prepared};
@@ -27,15 +28,17 @@ fn find(
     map: &mut [u32],
     scope: Scope,
     output: &mut [u16],
+    distances: &mut [u16],
 ) -> Found
     requires { ⌜ Prepared (now nodes) (now pages) (now sketches) (now query) (now map) scope ⌝ }
     requires { ⌜ listOf (now map) (scope .words) ≡ [] ⌝ }
     requires { ⌜ Summarised (now map) (scope .words) ⌝ }
-    ensures { λ r. ⌜ Answered (meetBlocks (scope .probe .header) (now (nodes .entry)) (now (pages .entry)) (now (query .entry)) (scope .probe .radius)) (passes (testBy (now (pages .entry)) (now (sketches .entry)) (now (query .entry)) (scope .probe))) (scope .probe .header .pages) (now (output .entry)) (r .number) (r .count) (now (output .exit)) ⌝ }
+    ensures { λ r. ⌜ Answered (meetBlocks (scope .probe .header) (now (nodes .entry)) (now (pages .entry)) (now (query .entry)) (scope .probe .radius)) (testBy (now (pages .entry)) (now (sketches .entry)) (now (query .entry)) (scope .probe)) (lists (now (output .entry)) (now (distances .entry))) (r .number) (r .count) (lists (now (output .exit)) (now (distances .exit))) ⌝ }
     ensures { λ r. ⌜ now (map .exit) ≡ zeroed (now (map .entry)) 0 (scope .words + summaryOf (scope .words)) ⌝ }
 {
     let words = scope.words;
-    let met = traversal::blocks::meet_blocks(nodes, pages, sketches, query, map, scope);
+    let mut counts = [0u32; 65];
+    let met = traversal::blocks::meet_blocks(nodes, pages, sketches, query, map, &mut counts, scope);
     let Tallies::Some(tally) = met else {
         marks::clear_marks(map, words);
         return Found {
@@ -43,7 +46,7 @@ fn find(
             count: 0,
         };
     };
-    listing::list_marks(map, words, tally.count, output)
+    listing::list_marks(sketches, query, map, &mut counts, scope, tally.count, output, distances)
 }
 
 // Asks 5, 6, 7, 10 and 11, then searches. Past 6, refused or not, the needed part of the working table is 0 afterwards.
@@ -57,9 +60,10 @@ pub fn search(
     radius: u32,
     sketch: &[u8],
     output: &mut [u16],
+    distances: &mut [u16],
 ) -> Found
-    ensures { λ r. ⌜ SearchPromise (tables (now (settings .entry)) (now (nodes .entry)) (now (pages .entry)) (now (sketches .entry)) (now (working .entry))) reader radius (now (sketch .entry)) (now (output .entry)) (r .number) (r .count) (now (output .exit)) (now (working .exit)) ⌝ }
-    ensures model { λ r. ⌜ AnsweredBy (tables (now (settings .entry)) (now (nodes .entry)) (now (pages .entry)) (now (sketches .entry)) (now (working .entry))) reader radius (now (sketch .entry)) (now (output .entry)) (r .number) (r .count) (now (output .exit)) ⌝ }
+    ensures { λ r. ⌜ SearchPromise (tables (now (settings .entry)) (now (nodes .entry)) (now (pages .entry)) (now (sketches .entry)) (now (working .entry))) reader radius (now (sketch .entry)) (lists (now (output .entry)) (now (distances .entry))) (r .number) (r .count) (lists (now (output .exit)) (now (distances .exit))) (now (working .exit)) ⌝ }
+    ensures model { λ r. ⌜ AnsweredBy (tables (now (settings .entry)) (now (nodes .entry)) (now (pages .entry)) (now (sketches .entry)) (now (working .entry))) reader radius (now (sketch .entry)) (lists (now (output .entry)) (now (distances .entry))) (r .number) (r .count) (lists (now (output .exit)) (now (distances .exit))) ⌝ }
 {
     let h = match entry::enter(settings, nodes, pages, sketches, working) {
         Opening::Refused(number) => {
@@ -82,5 +86,5 @@ pub fn search(
     let classes = rights::open_classes(settings, reader as usize);
     let probe = hits::probe_of(h, classes, sketch, radius);
     let scope = Scope { probe, words };
-    find(nodes, pages, sketches, sketch, working, scope, output)
+    find(nodes, pages, sketches, sketch, working, scope, output, distances)
 }

@@ -8,10 +8,9 @@ use mathlib.Core.List.{List, [], _∷_, _++_, map}
 use lib.Dec.{ltb, leb, eqb}
 use lib.ListN.{length}
 use borrow.Author.Tests.{eqb-true, eqb-false, ltb-true, leb-true, eq-eqb, ne-eqb, lt-ltb}
-use Rattle.meaning.specs.Lists.{all, keep, count, grouped, from, upto}
+use Rattle.meaning.specs.Lists.{all, keep, count, ordered, grouped, from, upto}
 use Rattle.meaning.specs.Output.{nearest, listing}
-use Rattle.meaning.proofs.Lists.{and-intro, and-first, and-second, or-first, or-second, all-append, count-append}
-use Rattle.history.specs.History.{ordered}
+use Rattle.meaning.proofs.Lists.{and-intro, and-first, and-second, or-first, or-second, all-append, count-append, count-every}
 
 -- ---- kept elements
 module _ {A : Type 0} where
@@ -112,13 +111,8 @@ module _ {A : Type 0} where
         count-nearest q f radius xs (and-second (leb (f x) radius) (all (λ y. leb (f y) radius) xs) h),
       )
 
-  count-length : (xs : List A) → count (λ x. true) xs ≡ length xs
-  unfolding count
-  count-length [] = refl
-  count-length (x ∷ xs) = omega (arith, count-length xs)
-
   pub length-nearest : (f : A → ℕ) (radius : ℕ) (xs : List A) → all (λ x. leb (f x) radius) xs ≡ true → length (nearest f radius xs) ≡ length xs
-  length-nearest f radius xs h = sym (count-length (nearest f radius xs)) ∙ count-nearest (λ x. true) f radius xs h ∙ count-length xs
+  length-nearest f radius xs h = sym (count-every (nearest f radius xs)) ∙ count-nearest (λ x. true) f radius xs h ∙ count-every xs
 
 -- ---- nearer elements above
 module _ {A : Type 0} where
