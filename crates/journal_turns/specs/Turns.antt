@@ -4,6 +4,7 @@ use mathlib.Core.Path.{_≡_}
 use mathlib.Core.Bool.{Bool, false, cond, not}
 use mathlib.Core.List.{List, []}
 use lib.Dec.{eqb}
+-- passed on, for the program's contracts
 pub use Rattle.meaning.specs.Output.{Output, output}
 use Rattle.meaning.specs.Journal.{Command, next, ended, refused, command-to, refusalLine}
 use Rattle.promises.specs.Tables.{Tables}
