@@ -6,10 +6,11 @@ ghost use mathlib.Core.List.{[]};
 ghost use lib.Dec.{eqb};
 ghost use lib.ListN.{take};
 ghost use lib.ListN.{drop as skip};
+ghost use Rattle.meaning.specs.Output.{output as lists};
 ghost use Rattle.meaning.specs.Ledger.{search, check, reading, settingsGiven};
 ghost use Rattle.promises.specs.Tables.{tables, showTables};
 ghost use Rattle.promises.specs.Readings.{startShown, lengthShown};
-ghost use Rattle.promises.specs.Relation.{withList, withVerdict, Promised, OnShow};
+ghost use Rattle.promises.specs.Relation.{withLists, withVerdict, Promised, OnShow};
 ghost use Rattle.search_laws.specs.Answer.{AnsweredBy};
 ghost use Rattle.fresh_tables.specs.Lengths.{lengthsOf};
 
@@ -53,10 +54,11 @@ pub extern "C" fn vetch_search(
     radius: u32,
     sketch: &[u8],
     output: &mut [u16],
+    distances: &mut [u16],
     count: &mut u32,
 ) -> u32
-    ensures { λ r. ⌜ Promised (reading (search reader radius (now (sketch .entry)) (now (output .entry)))) (tables (now (settings .entry)) (now (nodes .entry)) (now (pages .entry)) (now (sketches .entry)) (now (working .entry))) (withList r (now (count .exit)) (now (output .exit))) (tables (now (settings .entry)) (now (nodes .entry)) (now (pages .entry)) (now (sketches .entry)) (now (working .exit))) ⌝ }
-    ensures model { λ r. ⌜ AnsweredBy (tables (now (settings .entry)) (now (nodes .entry)) (now (pages .entry)) (now (sketches .entry)) (now (working .entry))) reader radius (now (sketch .entry)) (now (output .entry)) r (now (count .exit)) (now (output .exit)) ⌝ }
+    ensures { λ r. ⌜ Promised (reading (search reader radius (now (sketch .entry)) (lists (now (output .entry)) (now (distances .entry))))) (tables (now (settings .entry)) (now (nodes .entry)) (now (pages .entry)) (now (sketches .entry)) (now (working .entry))) (withLists r (now (count .exit)) (lists (now (output .exit)) (now (distances .exit)))) (tables (now (settings .entry)) (now (nodes .entry)) (now (pages .entry)) (now (sketches .entry)) (now (working .exit))) ⌝ }
+    ensures model { λ r. ⌜ AnsweredBy (tables (now (settings .entry)) (now (nodes .entry)) (now (pages .entry)) (now (sketches .entry)) (now (working .entry))) reader radius (now (sketch .entry)) (lists (now (output .entry)) (now (distances .entry))) r (now (count .exit)) (lists (now (output .exit)) (now (distances .exit))) ⌝ }
 {
     let found = search::search::search(
         settings,
@@ -68,6 +70,7 @@ pub extern "C" fn vetch_search(
         radius,
         sketch,
         output,
+        distances,
     );
     *count = found.count;
     found.number

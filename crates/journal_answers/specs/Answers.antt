@@ -1,7 +1,8 @@
 -- The call that a command of a journal makes on the program's tables, and its answer.
 use Prim.Native.Nat.{ℕ}
 use mathlib.Core.Bool.{true}
-use mathlib.Core.List.{List}
+use mathlib.Core.List.{[]}
+use Rattle.meaning.specs.Output.{Output}
 use Rattle.meaning.specs.Journal.{Command, callOf}
 use Rattle.meaning.specs.Ledger.{Call}
 use Rattle.promises.specs.Relation.{Answer}
@@ -13,10 +14,10 @@ pageCapacity = 512
 abbrev pub nodeCapacity : ℕ
 nodeCapacity = 1024
 
--- the call that a command makes: `found` is the output of searches
-abbrev pub made : List ℕ → Command → Call
+-- the call that a command makes: `found` has the two lists of searches
+abbrev pub made : Output → Command → Call
 made found c = callOf pageCapacity nodeCapacity found c
 
--- a number, a count and the output afterwards
-abbrev pub answer : ℕ → ℕ → List ℕ → Answer
-answer number count list = record { number = number; count = count; list = list; yes = true }
+-- a number, a count and the two lists afterwards
+abbrev pub answer : ℕ → ℕ → Output → Answer
+answer number count o = record { number = number; count = count; output = o; row = []; yes = true }

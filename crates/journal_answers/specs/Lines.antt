@@ -4,6 +4,7 @@ use mathlib.Core.Bool.{cond}
 use mathlib.Core.List.{List, []}
 use lib.Dec.{eqb}
 use lib.ListN.{take}
+use Rattle.meaning.specs.Output.{Output, output}
 use Rattle.meaning.specs.Journal.{Command, ifSearch, searchLine, refusalLine}
 use Rattle.meaning.specs.Ledger.{ifOpening}
 use Rattle.promises.specs.Relation.{Answer}
@@ -11,11 +12,15 @@ use Rattle.journal_answers.specs.Answers.{made}
 
 -- m after a command: an opening gives it
 unfoldable pub symbolsAfter : Command → ℕ → ℕ
-symbolsAfter c m = ifOpening (made [] c) (λ s. s .symbols) m
+symbolsAfter c m = ifOpening (made (output [] []) c) (λ s. s .symbols) m
+
+-- both lists, cut to a count
+abbrev pub cut : ℕ → Output → Output
+cut n o = output (take n (o .pages)) (take n (o .distances))
 
 -- what an accepted command writes
 unfoldable pub listing : Command → Answer → List ℕ
-listing c a = ifSearch c (λ r. searchLine r (take (a .count) (a .list))) []
+listing c a = ifSearch c (λ r. searchLine r (cut (a .count) (a .output))) []
 
 -- what a command at an offset writes: a refused one its E line
 unfoldable pub lineOf : ℕ → Command → Answer → List ℕ

@@ -3,6 +3,7 @@ ghost use Prim.Native.Nat.{_≤_};
 ghost use mathlib.Core.Path.{_≡_};
 ghost use lib.ListN.{length, replicate};
 ghost use Rattle.promises.specs.Tables.{tables};
+ghost use Rattle.meaning.specs.Output.{output};
 ghost use Rattle.meaning.specs.Ledger.{settingsGiven};
 ghost use Rattle.promises.specs.Calls.{OpenPromise, RightsPromise};
 ghost use Rattle.promises.specs.Readings.{SearchPromise};
@@ -86,8 +87,9 @@ fn search_for(
     radius: u32,
     query: &[u8],
     found: &mut [u16],
+    distances: &mut [u16],
 ) -> Outcome
-    ensures { λ r. ⌜ SearchPromise (tables (now (settings .entry)) (now (nodes .entry)) (now (pages .entry)) (now (sketches .entry)) (now (working .entry))) reader radius (now (query .entry)) (now (found .entry)) (r .number) (r .count) (now (found .exit)) (now (working .exit)) ⌝ }
+    ensures { λ r. ⌜ SearchPromise (tables (now (settings .entry)) (now (nodes .entry)) (now (pages .entry)) (now (sketches .entry)) (now (working .entry))) reader radius (now (query .entry)) (output (now (found .entry)) (now (distances .entry))) (r .number) (r .count) (output (now (found .exit)) (now (distances .exit))) (now (working .exit)) ⌝ }
 {
     let answer = search::search::search(
         settings,
@@ -99,6 +101,7 @@ fn search_for(
         radius,
         query,
         found,
+        distances,
     );
     Outcome {
         number: answer.number,
@@ -114,12 +117,13 @@ pub fn execute(
     sketches: &mut [u8],
     working: &mut [u32],
     found: &mut [u16],
+    distances: &mut [u16],
     bytes: &[u8],
     m: u8,
     command: Command,
 ) -> Outcome
     requires { ⌜ symbolsEnd m command ≤ length (now bytes) ⌝ }
-    ensures { λ r. ⌜ Executed (meant m (now (bytes .entry)) command) (tables (now (settings .entry)) (now (nodes .entry)) (now (pages .entry)) (now (sketches .entry)) (now (working .entry))) (now (found .entry)) (r .number) (r .count) (tables (now (settings .exit)) (now (nodes .exit)) (now (pages .exit)) (now (sketches .exit)) (now (working .exit))) (now (found .exit)) ⌝ }
+    ensures { λ r. ⌜ Executed (meant m (now (bytes .entry)) command) (tables (now (settings .entry)) (now (nodes .entry)) (now (pages .entry)) (now (sketches .entry)) (now (working .entry))) (output (now (found .entry)) (now (distances .entry))) (r .number) (r .count) (tables (now (settings .exit)) (now (nodes .exit)) (now (pages .exit)) (now (sketches .exit)) (now (working .exit))) (output (now (found .exit)) (now (distances .exit))) ⌝ }
 {
     match command {
         Command::Open {
@@ -154,6 +158,7 @@ pub fn execute(
                 radius,
                 x,
                 found,
+                distances,
             )
         }
     }

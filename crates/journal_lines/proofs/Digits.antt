@@ -9,7 +9,7 @@ use lib.Dec.{ltb}
 use lib.ListN.{length, set, length-append}
 use lib.Seq.{sets, set-comm}
 use borrow.Author.Tests.{lt-ltb, le-ltb, ltb-true, ltb-false}
-use Rattle.meaning.specs.Journal.{digits, decimal, fields}
+use Rattle.meaning.specs.Journal.{digits, decimal, field, fields}
 
 -- any count of digits above the number gives the same
 digits-enough : (f g n : ℕ) → n < f → n < g → digits f n ≡ digits g n
@@ -75,20 +75,32 @@ ten-digits n h = short 9 n (omega arith)
 
 -- ---- fields
 
--- a field stored, the others still to come
-pub field-stored : (l : List ℕ) (at n : ℕ) (ns : List ℕ) {last : List ℕ} {to : ℕ} → last ≡ sets l at (32 ∷ decimal n) → to ≡ at + length (32 ∷ decimal n)
+-- a field stored, the rest of the line still to come
+pub field-first : (l : List ℕ) (at n : ℕ) (rest : List ℕ) {last : List ℕ} {to : ℕ} → last ≡ sets l at (field n) → to ≡ at + length (field n)
+    → sets last to rest ≡ sets l at (field n ++ rest)
+field-first l at n rest e f = ap₂ (λ (a : List ℕ) (b : ℕ). sets a b rest) e f ∙ sym (sets-append l at (field n) rest)
+
+-- two fields, and the rest of the line behind them
+pub two-first : (l : List ℕ) (at m n : ℕ) (rest : List ℕ) {first second last : List ℕ} {to end : ℕ} → first ≡ sets l at (field m) → to ≡ at + length (field m)
+    → second ≡ sets first to (field n) → end ≡ to + length (field n) → last ≡ sets second end rest → last ≡ sets l at (field m ++ (field n ++ rest))
+two-first l at m n rest {first} {to = to} e f g h k = k ∙ (field-first first to n rest g h ∙ field-first l at m (field n ++ rest) e f)
+
+pub field-stored : (l : List ℕ) (at n : ℕ) (ns : List ℕ) {last : List ℕ} {to : ℕ} → last ≡ sets l at (field n) → to ≡ at + length (field n)
     → sets last to (fields ns) ≡ sets l at (fields (n ∷ ns))
 unfolding fields
-field-stored l at n ns e f = ap₂ (λ (a : List ℕ) (b : ℕ). sets a b (fields ns)) e f ∙ sym (sets-append l at (32 ∷ decimal n) (fields ns))
+field-stored l at n ns e f = field-first l at n (fields ns) e f
 
 -- the last field and the end of the line
-pub line-stored : (l : List ℕ) (at n : ℕ) {last : List ℕ} {to : ℕ} → last ≡ sets l at (32 ∷ decimal n) → to ≡ at + length (32 ∷ decimal n) → set last to 10 ≡ sets l at (fields (n ∷ []))
+pub line-stored : (l : List ℕ) (at n : ℕ) {last : List ℕ} {to : ℕ} → last ≡ sets l at (field n) → to ≡ at + length (field n) → set last to 10 ≡ sets l at (fields (n ∷ []))
 unfolding fields
 line-stored l at n e f = field-stored l at n [] e f
 
-pub fields-long : (n : ℕ) (ns : List ℕ) → length (fields (n ∷ ns)) ≡ length (32 ∷ decimal n) + length (fields ns)
+pub field-long : (n : ℕ) (rest : List ℕ) → length (field n ++ rest) ≡ length (field n) + length rest
+field-long n rest = length-append (field n) rest
+
+pub fields-long : (n : ℕ) (ns : List ℕ) → length (fields (n ∷ ns)) ≡ length (field n) + length (fields ns)
 unfolding fields
-fields-long n ns = length-append (32 ∷ decimal n) (fields ns)
+fields-long n ns = field-long n (fields ns)
 
 pub end-long : length (fields []) ≡ 1
 unfolding fields

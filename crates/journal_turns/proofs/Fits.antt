@@ -3,10 +3,11 @@ use Prim.Native.Nat.{ℕ, _+_, _*_}
 use mathlib.Core.Path.{_≡_, refl, _∙_}
 use mathlib.Core.Bool.{Bool, true, false, cond, _&&_}
 use mathlib.Core.Logic.{_⊎_, inl, inr}
-use mathlib.Core.List.{List, []}
+use mathlib.Core.List.{[]}
 use native.Mathlib.Omega.{arith}
 use lib.ListN.{length, replicate}
 use borrow.Author.Tests.{le-leb}
+use Rattle.meaning.specs.Output.{Output}
 use Rattle.meaning.specs.Refusal.{firstNo}
 use Rattle.meaning.specs.Ledger.{Settings, opening, settingsGiven}
 use Rattle.meaning.specs.Questions.{inLimits, asked}
@@ -47,7 +48,7 @@ module _ (T : Tables) (r : Roomy T) (b m q t : ℕ) where
       go true e = inl (rw (long (bounds s e)))
       go false e = inr refl
 
-  pub opens-or-4 : (found : List ℕ) (a : Answer) (T′ : Tables) → Promised (made found (opens b m q t)) T a T′ → (a .number ≡ 0) ⊎ (a .number ≡ 4)
+  pub opens-or-4 : (found : Output) (a : Answer) (T′ : Tables) → Promised (made found (opens b m q t)) T a T′ → (a .number ≡ 0) ⊎ (a .number ≡ 4)
   unfolding callOf
   opens-or-4 found a T′ p = by numbers
     where

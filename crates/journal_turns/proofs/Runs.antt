@@ -8,6 +8,7 @@ use native.Mathlib.Omega.{arith}
 use lib.Dec.{eqb}
 use lib.ListN.{length}
 use borrow.Author.Tests.{eqb-true}
+use Rattle.meaning.specs.Output.{Output}
 use Rattle.meaning.specs.Ledger.{Event, ledger}
 use Rattle.meaning.specs.Forest.{forest}
 use Rattle.meaning.specs.Journal.{Command, opens, byteAt, wordAt, next, command-to}
@@ -36,7 +37,7 @@ at-start : (bytes : List ℕ) (s : State) (c : Command) (to : ℕ) → next (s .
 at-start bytes s c to e z = first-opens (s .symbols) bytes c to (subst (λ (k : ℕ). next (s .symbols) bytes k ≡ command-to c to) z e)
 
 -- it is an accepted I
-began : (bytes found : List ℕ) (T T′ : Tables) (c : Command) (a : Answer) → c ≡ opens (byteAt bytes 1) (byteAt bytes 2) (byteAt bytes 3) (wordAt bytes 4)
+began : (bytes : List ℕ) (found : Output) (T T′ : Tables) (c : Command) (a : Answer) → c ≡ opens (byteAt bytes 1) (byteAt bytes 2) (byteAt bytes 3) (wordAt bytes 4)
     → Promised (made found c) T a T′ → a .number ≡ 0 → History (event (made found c) (a .number) ∷ []) T′
 began bytes found T T′ c a i p z =
     rw i (turn-begun found (byteAt bytes 1) (byteAt bytes 2) (byteAt bytes 3) (wordAt bytes 4) T a T′ (rw (← i) p) z)
@@ -53,7 +54,7 @@ module _ (bytes : List ℕ) where
       (eqb-true (a .number) 0 (not-not (eqb (a .number) 0) o))
   goes-on (x ∷ es) s c to a e h start before o = turn-called c to a (before o) h
 
-module _ {bytes : List ℕ} {T : Tables} {found : List ℕ} where
+module _ {bytes : List ℕ} {T : Tables} {found : Output} where
   -- while no call was made, it stands where it began
   not-begun : {es : List Event} {written : List ℕ} {going : Bool} {s : State} → Run bytes T found es written going s → going ≡ true → none es ≡ true
       → s ≡ state T found 0 0
@@ -78,12 +79,12 @@ module _ {bytes : List ℕ} {T : Tables} {found : List ℕ} where
 -- ---- with tables as long as the program's
 
 -- an I that does not stop the run was accepted
-went-on : (found : List ℕ) (c : Command) (n : ℕ) → (n ≡ 0) ⊎ (n ≡ 4) → goesOn n ≡ true → opened (event (made found c) n ∷ []) ≡ true
+went-on : (found : Output) (c : Command) (n : ℕ) → (n ≡ 0) ⊎ (n ≡ 4) → goesOn n ≡ true → opened (event (made found c) n ∷ []) ≡ true
 unfolding opened goesOn
 went-on found c n (inl e) g = rw e refl
 went-on found c n (inr e) g = absurd (false≢true (rw e at g))
 
-first-number : (bytes found : List ℕ) (T T′ : Tables) → Roomy T → (c : Command) (a : Answer)
+first-number : (bytes : List ℕ) (found : Output) (T T′ : Tables) → Roomy T → (c : Command) (a : Answer)
     → c ≡ opens (byteAt bytes 1) (byteAt bytes 2) (byteAt bytes 3) (wordAt bytes 4) → Promised (made found c) T a T′ → (a .number ≡ 0) ⊎ (a .number ≡ 4)
 first-number bytes found T T′ long c a i p =
     opens-or-4 T long (byteAt bytes 1) (byteAt bytes 2) (byteAt bytes 3) (wordAt bytes 4) found a T′ (rw (← i) p)
@@ -100,10 +101,10 @@ module _ (bytes : List ℕ) where
       (sym (h .goes) ∙ g)
   further (x ∷ es) s c to a e h g start before = before refl
 
-standing : {s : State} (T : Tables) (found : List ℕ) → Roomy T → s ≡ state T found 0 0 → (s .at ≡ 0) × Roomy (s .tables)
+standing : {s : State} (T : Tables) (found : Output) → Roomy T → s ≡ state T found 0 0 → (s .at ≡ 0) × Roomy (s .tables)
 standing T found long i = (ap (λ (x : State). x .at) i, subst (λ (x : State). Roomy (x .tables)) (sym i) long)
 
-module _ {bytes : List ℕ} {T : Tables} {found : List ℕ} (long : Roomy T) where
+module _ {bytes : List ℕ} {T : Tables} {found : Output} (long : Roomy T) where
   -- while it goes on, its first call was accepted
   going-opened : {es : List Event} {written : List ℕ} {going : Bool} {s : State} → Run bytes T found es written going s → going ≡ true → none es ≡ false
       → opened es ≡ true
@@ -122,7 +123,7 @@ module _ {bytes : List ℕ} {T : Tables} {found : List ℕ} (long : Roomy T) whe
   two-opened (turns {es = []} r line going s′ (carries c to a e h)) l = absurd (omega arith)
   two-opened (turns {es = x ∷ es} r line going s′ (carries c to a e h)) l = going-opened r refl refl
 
-  pub completes : {T′ : Tables} {found′ : List ℕ} {at : ℕ} → Ended bytes T found T′ found′ at → Completed bytes at
+  pub completes : {T′ : Tables} {found′ : Output} {at : ℕ} → Ended bytes T found T′ found′ at → Completed bytes at
   completes {T′} {found′} e = record {
     before = T;
     after = T′;

@@ -6,6 +6,7 @@ use mathlib.Core.List.{List, []}
 use native.Mathlib.Omega.{arith}
 use lib.ListN.{length, take, drop}
 use lib.Seq.{sets, sets-eq, length-sets, take-at}
+use Rattle.meaning.specs.Output.{Output}
 use Rattle.meaning.specs.Journal.{refusalLine}
 use Rattle.promises.specs.Tables.{Tables}
 use Rattle.journal.specs.Steps.{meant, told, Stepped}
@@ -27,7 +28,7 @@ read-back l before after r e f h =
     let put = sets-eq l before 0 (omega (arith, f, h, ap length e, length-sets before 0 l)) in
     ap (take r) (e ∙ put) ∙ take-at l (drop (0 + length l) before) r (sym f)
 
-module _ (bytes before after : List ℕ) (T : Tables) (found : List ℕ) (at m r : ℕ) where
+module _ (bytes before after : List ℕ) (T : Tables) (found : Output) (at m r : ℕ) where
   pub take-ended : Stepped m bytes at End → Turned bytes (state T found at m) (take 0 after) false (state T found at m)
   unfolding told
   take-ended st = ends (sym (st .told-right)) (record { wrote = refl; stops = refl; stays = refl })
@@ -40,7 +41,7 @@ module _ (bytes before after : List ℕ) (T : Tables) (found : List ℕ) (at m r
         let wrote = read-back (refusalLine at n) before after r e f fits in
         (refuses n (sym (st .told-right)) (record { wrote = wrote; stops = refl; stays = refl }), (e ∙ ap (sets before 0) (sym wrote), fits))
 
-    pub take-carried : (c : Command) (to n k : ℕ) (T′ : Tables) (found′ : List ℕ) (going : Bool) (at′ m′ : ℕ) → Stepped m bytes at (Taken c to)
+    pub take-carried : (c : Command) (to n k : ℕ) (T′ : Tables) (found′ : Output) (going : Bool) (at′ m′ : ℕ) → Stepped m bytes at (Taken c to)
         → Executed (meant m bytes c) T found n k T′ found′
         → after ≡ sets before 0 (lineOf at (meant 0 [] c) (answer n k found′)) → r ≡ length (lineOf at (meant 0 [] c) (answer n k found′))
         → going ≡ goesOn n → at′ ≡ cond going to at → m′ ≡ symbolsAfter (meant 0 [] c) m

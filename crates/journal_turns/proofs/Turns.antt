@@ -4,6 +4,7 @@ use mathlib.Core.Path.{_≡_, sym, ap, _∙_}
 use mathlib.Core.Bool.{Bool, true, false, cond, false≢true}
 use mathlib.Core.List.{List, [], _∷_}
 use lib.ListN.{length}
+use Rattle.meaning.specs.Output.{Output}
 use Rattle.meaning.specs.Ledger.{Event}
 use Rattle.meaning.specs.Journal.{Command, opens, callOf}
 use Rattle.promises.specs.Tables.{Tables}
@@ -23,7 +24,7 @@ pub turn-called : {es : List Event} {s : State} (c : Command) (to : ℕ) (a : An
 turn-called {s = s} c to a {s′ = s′} h k = called h (made (s .found) c) a (s′ .tables) (k .promised)
 
 -- an accepted I begins a history, whatever the tables held
-pub turn-begun : (found : List ℕ) (b m q t : ℕ) (T : Tables) (a : Answer) (T′ : Tables) → Promised (made found (opens b m q t)) T a T′ → a .number ≡ 0
+pub turn-begun : (found : Output) (b m q t : ℕ) (T : Tables) (a : Answer) (T′ : Tables) → Promised (made found (opens b m q t)) T a T′ → a .number ≡ 0
     → History (event (made found (opens b m q t)) (a .number) ∷ []) T′
 unfolding callOf
 turn-begun found b m q t T a T′ p e = rw e (begun _ T a T′ p e)

@@ -4,6 +4,7 @@ use mathlib.Core.Path.{_≡_}
 use mathlib.Core.Bool.{Bool, true, false, not}
 use mathlib.Core.List.{List, [], _∷_, _++_}
 use lib.ListN.{length}
+use Rattle.meaning.specs.Output.{Output}
 use Rattle.meaning.specs.Ledger.{Event, ledger}
 use Rattle.meaning.specs.Forest.{forest}
 use Rattle.layout.specs.Nodes.{nodeWords}
@@ -19,9 +20,9 @@ events (ends e h) = []
 events (refuses n e h) = []
 events {s = s} (carries c to a e h) = event (made (s .found) c) (a .number) ∷ []
 
--- from tables and an output of searches, whatever they hold: the calls made, the last one first, all that was written, whether it goes
+-- from tables and two lists of searches, whatever they hold: the calls made, the last one first, all that was written, whether it goes
 -- on, and where it stands
-pub data Run (bytes : List ℕ) (T : Tables) (found : List ℕ) : List Event → List ℕ → Bool → State → Type 0 where
+pub data Run (bytes : List ℕ) (T : Tables) (found : Output) : List Event → List ℕ → Bool → State → Type 0 where
   begins : Run bytes T found [] [] true (state T found 0 0)
   turns : {es : List Event} {written : List ℕ} {s : State} → Run bytes T found es written true s
       → (line : List ℕ) (going : Bool) (s′ : State) (t : Turned bytes s line going s′) → Run bytes T found (events t ++ es) (written ++ line) going s′
@@ -54,13 +55,13 @@ pub record Roomy (T : Tables) : Type 0 where
   pub working : workingLent ≤ length (T .working)
 
 -- some run has come to stand there
-pub record Ran (bytes : List ℕ) (T : Tables) (found : List ℕ) (going : Bool) (s : State) : Type 0 where
+pub record Ran (bytes : List ℕ) (T : Tables) (found : Output) (going : Bool) (s : State) : Type 0 where
   pub calls : List Event
   pub written : List ℕ
   pub run : Run bytes T found calls written going s
 
 -- some run has ended at this offset
-pub record Ended (bytes : List ℕ) (T : Tables) (found : List ℕ) (T′ : Tables) (found′ : List ℕ) (at : ℕ) : Type 0 where
+pub record Ended (bytes : List ℕ) (T : Tables) (found : Output) (T′ : Tables) (found′ : Output) (at : ℕ) : Type 0 where
   pub symbols : ℕ
   pub ran : Ran bytes T found false (state T′ found′ at symbols)
 
@@ -68,8 +69,8 @@ pub record Ended (bytes : List ℕ) (T : Tables) (found : List ℕ) (T′ : Tabl
 pub record Completed (bytes : List ℕ) (at : ℕ) : Type 0 where
   pub before : Tables
   pub after : Tables
-  pub found : List ℕ
-  pub found′ : List ℕ
+  pub found : Output
+  pub found′ : Output
   pub roomy : Roomy before
   pub ended : Ended bytes before found after found′ at
   -- where its I was accepted it is a history of these calls, and the claim about histories holds of the tables that it leaves

@@ -4,6 +4,8 @@ use mathlib.Core.Path.{_≡_}
 use mathlib.Core.Bool.{Bool, false, cond, not}
 use mathlib.Core.List.{List, []}
 use lib.Dec.{eqb}
+-- passed on, for the program's contracts
+pub use Rattle.meaning.specs.Output.{Output, output}
 use Rattle.meaning.specs.Journal.{Command, next, ended, refused, command-to, refusalLine}
 use Rattle.promises.specs.Tables.{Tables}
 use Rattle.promises.specs.Relation.{Answer, Promised}
@@ -15,14 +17,14 @@ use Rattle.journal_calls.specs.Commands.{foundAfter}
 unfoldable pub goesOn : ℕ → Bool
 goesOn number = not (eqb number 4)
 
--- where the program stands: its tables, the output of searches, the offset reached, and m
+-- where the program stands: its tables, the two lists of searches, the offset reached, and m
 pub record State : Type 0 where
   pub tables : Tables
-  pub found : List ℕ
+  pub found : Output
   pub at : ℕ
   pub symbols : ℕ
 
-abbrev pub state : Tables → List ℕ → ℕ → ℕ → State
+abbrev pub state : Tables → Output → ℕ → ℕ → State
 state T found at m = record { tables = T; found = found; at = at; symbols = m }
 
 -- it stops where it stands, and writes this line
@@ -34,7 +36,7 @@ pub record Stopped (s : State) (written line : List ℕ) (going : Bool) (s′ : 
 -- it carries out a command, behind which the offset is `to`: the call that the command makes gives the answer a
 pub record Carried (s : State) (c : Command) (to : ℕ) (a : Answer) (line : List ℕ) (going : Bool) (s′ : State) : Type 0 where
   pub promised : Promised (made (s .found) c) (s .tables) a (s′ .tables)
-  pub output : s′ .found ≡ foundAfter c (a .list) (s .found)
+  pub output : s′ .found ≡ foundAfter c (a .output) (s .found)
   pub wrote : line ≡ lineOf (s .at) c a
   pub goes : going ≡ goesOn (a .number)
   pub reached : s′ .at ≡ cond (goesOn (a .number)) to (s .at)

@@ -4,6 +4,7 @@ ghost use mathlib.Core.Path.{_≡_};
 ghost use mathlib.Core.Bool.{cond};
 ghost use lib.ListN.{length, take};
 ghost use lib.Seq.{sets};
+ghost use Rattle.meaning.specs.Output.{output};
 ghost use Rattle.promises.specs.Tables.{tables};
 ghost use Rattle.journal_turns.specs.Turns.{goesOn, state, Turned};
 use journal::commands::Step;
@@ -46,6 +47,7 @@ pub fn take_turn(
     sketches: &mut [u8],
     working: &mut [u32],
     found: &mut [u16],
+    distances: &mut [u16],
     bytes: &[u8],
     at: usize,
     m: u8,
@@ -53,8 +55,8 @@ pub fn take_turn(
 ) -> Turn
     requires { ⌜ at ≤ 65536 ⌝ }
     requires { ⌜ length (now found) ≤ 65535 ⌝ }
-    requires { ⌜ 24 + 11 * length (now found) ≤ length (now line) ⌝ }
-    ensures { λ r. ⌜ Turned (now (bytes .entry)) (state (tables (now (settings .entry)) (now (nodes .entry)) (now (pages .entry)) (now (sketches .entry)) (now (working .entry))) (now (found .entry)) at m) (take (r .length) (now (line .exit))) (r .going) (state (tables (now (settings .exit)) (now (nodes .exit)) (now (pages .exit)) (now (sketches .exit)) (now (working .exit))) (now (found .exit)) (r .at) (r .m)) ⌝ }
+    requires { ⌜ 24 + 22 * length (now found) ≤ length (now line) ⌝ }
+    ensures { λ r. ⌜ Turned (now (bytes .entry)) (state (tables (now (settings .entry)) (now (nodes .entry)) (now (pages .entry)) (now (sketches .entry)) (now (working .entry))) (output (now (found .entry)) (now (distances .entry))) at m) (take (r .length) (now (line .exit))) (r .going) (state (tables (now (settings .exit)) (now (nodes .exit)) (now (pages .exit)) (now (sketches .exit)) (now (working .exit))) (output (now (found .exit)) (now (distances .exit))) (r .at) (r .m)) ⌝ }
     ensures { λ r. ⌜ now (line .exit) ≡ sets (now (line .entry)) 0 (take (r .length) (now (line .exit))) ⌝ }
     ensures { λ r. ⌜ r .length ≤ length (now (line .exit)) ⌝ }
 {
@@ -68,12 +70,21 @@ pub fn take_turn(
                 sketches,
                 working,
                 found,
+                distances,
                 bytes,
                 m,
                 command,
             );
             let number = outcome.number;
-            let length = command_line(command, number, outcome.count, at as u32, found, line);
+            let length = command_line(
+                command,
+                number,
+                outcome.count,
+                at as u32,
+                found,
+                distances,
+                line,
+            );
             let going = goes_on(number);
             Turn {
                 at: offset_after(going, to, at),

@@ -5,12 +5,13 @@ use libc::STDOUT_FILENO;
 ghost use Prim.Native.Nat.{_+_, _*_, _≤_};
 ghost use lib.ListN.{length};
 ghost use Rattle.promises.specs.Tables.{tables};
+ghost use Rattle.journal_turns.specs.Turns.{output};
 ghost use Rattle.journal_turns.specs.Runs.{Ended, Completed};
 
-// An output for all pages, and a line that lists them.
+// Two lists for all pages, and a line that has them.
 const FOUND: usize = journal_calls::commands::PAGES as usize;
 
-const LINE: usize = 24 + 11 * FOUND;
+const LINE: usize = 24 + 22 * FOUND;
 
 // The lengths of the program's tables: they suffice for any settings, at most 8 blocks and at most 64 symbols.
 const SETTINGS: usize = settings::LENGTH;
@@ -46,13 +47,14 @@ fn run_on(
     sketches: &mut [u8],
     working: &mut [u32],
     found: &mut [u16],
+    distances: &mut [u16],
     line: &mut [u8],
     bytes: &[u8],
 ) -> usize
     requires { ⌜ length (now bytes) ≤ 65536 ⌝ }
     requires { ⌜ length (now found) ≤ 65535 ⌝ }
-    requires { ⌜ 24 + 11 * length (now found) ≤ length (now line) ⌝ }
-    ensures { λ r. ⌜ Ended (now (bytes .entry)) (tables (now (settings .entry)) (now (nodes .entry)) (now (pages .entry)) (now (sketches .entry)) (now (working .entry))) (now (found .entry)) (tables (now (settings .exit)) (now (nodes .exit)) (now (pages .exit)) (now (sketches .exit)) (now (working .exit))) (now (found .exit)) r ⌝ }
+    requires { ⌜ 24 + 22 * length (now found) ≤ length (now line) ⌝ }
+    ensures { λ r. ⌜ Ended (now (bytes .entry)) (tables (now (settings .entry)) (now (nodes .entry)) (now (pages .entry)) (now (sketches .entry)) (now (working .entry))) (output (now (found .entry)) (now (distances .entry))) (tables (now (settings .exit)) (now (nodes .exit)) (now (pages .exit)) (now (sketches .exit)) (now (working .exit))) (output (now (found .exit)) (now (distances .exit))) r ⌝ }
     ensures { λ r. ⌜ r ≤ 65536 ⌝ }
 {
     let mut at = 0;
@@ -66,6 +68,7 @@ fn run_on(
             sketches,
             working,
             found,
+            distances,
             bytes,
             at,
             m,
@@ -91,6 +94,7 @@ fn run(bytes: &[u8]) -> usize
     let mut sketches = [0u8; SKETCHES];
     let mut working = [0u32; WORKING];
     let mut found = [0u16; FOUND];
+    let mut distances = [0u16; FOUND];
     let mut line = [0u8; LINE];
     run_on(
         &mut settings,
@@ -99,6 +103,7 @@ fn run(bytes: &[u8]) -> usize
         &mut sketches,
         &mut working,
         &mut found,
+        &mut distances,
         &mut line,
         bytes,
     )

@@ -1,4 +1,4 @@
--- `vetch_search` gives the number and the count of `search`.
+-- `vetch_search` gives the number, the count and the two lists of `search`.
 use mathlib.Core.Path.{refl}
 use borrow.Author.Needs.{needs}
 use Rattle.capi_readings.proofs.vetch_search.Statement.{statement}
@@ -13,8 +13,11 @@ same-length c = search needs
 same-length-2 : tie.Need-same-length-2
 same-length-2 c = search needs
 
+same-length-3 : tie.Need-same-length-3
+same-length-3 c = search needs
+
 returns : tie.Need-returns
-returns c = ((c .before .before .before .before .search .ensures .0, refl), c .before .before .before .before .search .ensures .1)
+returns c = let found = c .before .before .before .before .before .before .search .ensures in ((found .0, refl), found .1)
 
 pub vetch-search-spec : {M : Type 1} → statement M
-vetch-search-spec = tie.close (tie.spec search-requires same-length same-length-2 returns)
+vetch-search-spec = tie.close (tie.spec search-requires same-length same-length-2 same-length-3 returns)

@@ -25,12 +25,15 @@ slice-aggregate-run-on-6 c = search needs
 slice-aggregate-run-on-7 : tie.Need-slice-aggregate-run-on-7
 slice-aggregate-run-on-7 c = search needs
 
+slice-aggregate-run-on-8 : tie.Need-slice-aggregate-run-on-8
+slice-aggregate-run-on-8 c = search needs
+
 run-on-requires : tie.Need-run-on-requires
 run-on-requires c κs = search needs
 
 returns : tie.Need-returns
 returns c =
-    let e = c .before .before .before .before .before .before .before .run-on .ensures in
+    let e = c .before .before .before .before .before .before .before .before .run-on .ensures in
     (completes (record { settings = search needs; nodes = search needs; pages = search needs; sketches = search needs; working = search needs }) (e .0), e .1)
 
 pub run-spec : {M : Type 1} → statement M
@@ -44,5 +47,6 @@ run-spec =
     slice-aggregate-run-on-5
     slice-aggregate-run-on-6
     slice-aggregate-run-on-7
+    slice-aggregate-run-on-8
     run-on-requires
     returns)

@@ -15,11 +15,11 @@ returns : tie.Need-returns
 unfolding lineOf
 returns c =
     let e = c .before .before .refusal-line .ensures in
-    rw (ne-eqb (c .before .before .before .before .before .before .before .args .number) 0 (c .before .before .before .before .if1 .taken)) (e .0, (e .1 .0, e .1 .1))
+    rw (ne-eqb (c .before .before .before .before .before .before .before .before .args .number) 0 (c .before .before .before .before .if1 .taken)) (e .0, (e .1 .0, e .1 .1))
 
 listing-line-requires : tie.Need-listing-line-requires
 listing-line-requires c κs =
-    let pre = c .before .before .before .before .pre in
+    let pre = c .before .before .before .before .before .pre in
     (pre .0 (c .before .if1 .left), (pre .1 .0, pre .1 .1))
 
 same-length-2 : tie.Need-same-length-2

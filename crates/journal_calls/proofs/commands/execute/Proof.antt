@@ -22,7 +22,7 @@ enum-known-command-2 c = search needs
 symbols-at-requires : tie.Need-symbols-at-requires
 unfolding symbolsEnd
 symbols-at-requires c κs =
-    let start = c .before .before .before .before .before .before .before .before .before .before in
+    let start = c .before .before .before .before .before .before .before .before .before .before .before in
     omega (arith, start .pre, ap (symbolsEnd (start .args .m)) (c .before .command2 .given .1))
 
 add-requires : tie.Need-add-requires
@@ -55,7 +55,7 @@ enum-known-command-5 c = search needs
 symbols-at-requires-2 : tie.Need-symbols-at-requires-2
 unfolding symbolsEnd
 symbols-at-requires-2 c κs =
-    let start = c .before .before .before .before .before .before .before .before .before .before in
+    let start = c .before .before .before .before .before .before .before .before .before .before .before in
     omega (arith, start .pre, ap (symbolsEnd (start .args .m)) (c .before .command5 .given .1))
 
 search-for-requires : tie.Need-search-for-requires
@@ -149,12 +149,16 @@ same-length-19 c = search needs
 same-length-20 : tie.Need-same-length-20
 same-length-20 c = search needs
 
+same-length-21 : tie.Need-same-length-21
+same-length-21 c = search needs
+
 returns-5 : tie.Need-returns-5
 unfolding meant
 returns-5 c =
-    let call = c .before .before .before .before in
-    rw (call .before .before .before .before .before .before .before .before .before .command5 .given .1, ← call .before .before .before .before .before .before .before .symbols-at2 .ensures)
-    (search-executed _ _ _ _ _ _ _ _ _ (call .search-for .ensures) (call .search-for .kept .1 .1 .1 .1 .1 .1 .1 .1 .0))
+    let call = c .before .before .before .before .before .before in
+    let kept = call .search-for .kept .1 .1 .1 .1 .1 .1 .1 .1 in
+    rw (call .before .before .before .before .before .before .before .before .before .before .command5 .given .1, ← call .before .before .before .before .before .before .before .before .symbols-at2 .ensures)
+    (search-executed _ _ _ _ _ _ _ _ _ (call .search-for .ensures) (kept .0) (kept .1 .0))
 
 pub execute-spec : {M : Type 1} → statement M
 execute-spec =
@@ -200,4 +204,5 @@ execute-spec =
     same-length-18
     same-length-19
     same-length-20
+    same-length-21
     returns-5)

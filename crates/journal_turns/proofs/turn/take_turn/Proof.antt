@@ -16,18 +16,18 @@ enum-known-step c = search needs
 
 execute-requires : tie.Need-execute-requires
 execute-requires c κs =
-    let read = c .before .before .before .before .before .before .before .before .before in
-    let args = read .before .before .before .before .before .before .before .before .before .args in
-    let given = c .before .before .before .before .before .before .before .step .given in
+    let read = c .before .before .before .before .before .before .before .before .before .before in
+    let args = read .before .before .before .before .before .before .before .before .before .before .args in
+    let given = c .before .before .before .before .before .before .before .before .step .given in
     symbols-there (args .m) (args .bytes .now) (args .at) (given .0 .0) (given .0 .1 .0) (moved-to (args .m) (args .bytes .now) (args .at) (given .1) (read .read .ensures))
 
 cast-command-line : tie.Need-cast-command-line
-cast-command-line c = search needs
+cast-command-line c = omega (arith, c .before .before .before .before .before .before .before .before .before .before .before .before .before .before .before .before .before .before .before .before .before .before .before .before .before .before .before .before .before .before .before .before .before .before .before .pre .0)
 
 command-line-requires : tie.Need-command-line-requires
 command-line-requires c κs =
-    let done = c .before .before .before .before .before .before .before .before .before .before .before .before .before .before in
-    let pre = done .before .before .before .before .before .before .before .before .before .before .before .before .before .before .before .before .before .before .before .pre in
+    let done = c .before .before .before .before .before .before .before .before .before .before .before .before .before .before .before .before .before in
+    let pre = done .before .before .before .before .before .before .before .before .before .before .before .before .before .before .before .before .before .before .before .before .before .pre in
     let same = done .execute .kept .1 .1 .1 .1 .1 .0 in
     (done .execute .ensures .inside, (omega (arith, same, pre .1 .0), omega (arith, same, pre .1 .1)))
 
@@ -73,25 +73,28 @@ same-length-6 c = search needs
 same-length-7 : tie.Need-same-length-7
 same-length-7 c = search needs
 
+same-length-8 : tie.Need-same-length-8
+same-length-8 c = search needs
+
 returns : tie.Need-returns
 returns c =
     let line = c .before .before .before .before .before in
-    let done = line .before .before .before .before .before .before .before .before .before .before .before .before .before .before .before in
-    let read = done .before .before .before .before .before .before .before .before .before .before in
-    let args = read .before .before .before .before .before .before .before .before .before .args in
-    let given = done .before .before .before .before .before .before .before .before .step .given in
+    let done = line .before .before .before .before .before .before .before .before .before .before .before .before .before .before .before .before .before .before in
+    let read = done .before .before .before .before .before .before .before .before .before .before .before in
+    let args = read .before .before .before .before .before .before .before .before .before .before .args in
+    let given = done .before .before .before .before .before .before .before .before .before .step .given in
     let put = line .command-line .ensures in
     take-carried (args .bytes .now) _ _ _ _ (args .at) (args .m) _ (put .1 .1) (given .0 .0) (given .0 .1 .0) _ _ _ _ _ _ _
     (moved-to (args .m) (args .bytes .now) (args .at) (given .1) (read .read .ensures)) (done .execute .ensures) (put .0) (put .1 .0)
     (c .before .before .goes-on .ensures) (c .before .offset-after .ensures) (c .symbols-after .ensures)
 
-same-length-8 : tie.Need-same-length-8
-same-length-8 c = search needs
+same-length-9 : tie.Need-same-length-9
+same-length-9 c = search needs
 
 returns-2 : tie.Need-returns-2
 returns-2 c =
     let read = c .before .before .before .before .before .before .before in
-    let args = read .before .before .before .before .before .before .before .before .before .args in
+    let args = read .before .before .before .before .before .before .before .before .before .before .args in
     let given = c .before .before .before .before .before .step2 .given in
     let put = c .before .before .refusal-line .ensures in
     take-refused (args .bytes .now) _ _ _ _ (args .at) (args .m) _ (put .1 .1) (given .0 .0)
@@ -100,7 +103,7 @@ returns-2 c =
 returns-3 : tie.Need-returns-3
 returns-3 c =
     let read = c .before .before in
-    let args = read .before .before .before .before .before .before .before .before .before .args in (
+    let args = read .before .before .before .before .before .before .before .before .before .before .args in (
       take-ended (args .bytes .now) [] (args .line .now) _ _ (args .at) (args .m) 0
           (moved-to (args .m) (args .bytes .now) (args .at) (c .enum-told .given .1) (read .read .ensures)),
       (refl, omega arith),
@@ -129,7 +132,8 @@ take-turn-spec =
     same-length-5
     same-length-6
     same-length-7
-    returns
     same-length-8
+    returns
+    same-length-9
     returns-2
     returns-3)
