@@ -8,7 +8,7 @@ pub mod packed;
 pub mod scan;
 pub mod trie;
 
-pub use cases::{Case, Kind, Library, Pages, KINDS, OPEN};
+pub use cases::{Case, Kind, Library, Pages, OPEN};
 pub use hashing::Hashing;
 pub use hits::Hits;
 pub use packed::Packed;

@@ -4,6 +4,7 @@ use crate::calls;
 use crate::random::Random;
 use crate::stores::Sketches;
 use crate::tables::{Settings, Tables};
+use std::ops::RangeInclusive;
 
 pub const QUERIES: usize = 1_000;
 /// The classes that are open to the reader who searches, unless all are.
@@ -42,7 +43,8 @@ impl Pages {
     }
 }
 
-/// How sketches are drawn, and queries: clustered, with queries that list at most `FEW` pages, is the third.
+/// How sketches and queries are drawn. The third has the pages of the second, and queries at all distances from a page, of which those are
+/// taken that list 8 to 12 pages.
 #[derive(Clone, Copy, PartialEq)]
 pub enum Kind {
     Random,
@@ -50,8 +52,9 @@ pub enum Kind {
     Few,
 }
 
-pub const KINDS: [Kind; 3] = [Kind::Random, Kind::Clustered, Kind::Few];
-pub const FEW: usize = 12;
+const FEW: RangeInclusive<usize> = 8..=12;
+/// So many queries are drawn at most for those that list few pages.
+const DRAWN: usize = 50_000;
 
 impl Kind {
     pub fn name(self) -> &'static str {
@@ -59,7 +62,7 @@ impl Kind {
     }
 
     pub fn named(name: &str) -> Self {
-        KINDS.into_iter().find(|kind| kind.name() == name).expect("random, clustered or few")
+        [Kind::Random, Kind::Clustered, Kind::Few].into_iter().find(|kind| kind.name() == name).expect("random, clustered or few")
     }
 }
 
@@ -76,7 +79,7 @@ pub struct Case {
 }
 
 impl Case {
-    /// The pages, and `QUERIES` queries of which every other one drawn is near a page. The same at every call.
+    /// The pages, and `QUERIES` queries; every other one is near a page. The same at every call.
     pub fn pages(&self) -> (Pages, Vec<Vec<u8>>) {
         let random = &mut Random::new(u64::from(self.b) * 1_000 + self.n as u64 + u64::from(self.kind != Kind::Random));
         let centres = Sketches::new(random, self.b, self.m as u32, 1 + self.n / 100);
@@ -86,18 +89,28 @@ impl Case {
             let x = sketch(random);
             pages.add(random.below(64) as u8, &x);
         }
-        let near = |random: &mut Random| {
+        let near = |random: &mut Random, changes: u64| {
             let mut x = pages.sketch(random.below(self.n as u64) as usize).to_vec();
-            x[random.below(self.m as u64) as usize] = random.below(1 << self.b) as u8;
+            for _ in 0..changes {
+                x[random.below(self.m as u64) as usize] = random.below(1 << self.b) as u8;
+            }
             x
         };
-        let (packed, mut hits) = (pages.packed(self.b), Hits::new(self.n));
-        let mut lists_few = |query: &[u8]| {
-            (&packed).search(self.open, self.r, query, &mut hits);
-            hits.count() <= FEW
+        let queries: Vec<Vec<u8>> = if self.kind == Kind::Few {
+            let (packed, mut hits) = (pages.packed(self.b), Hits::new(self.n));
+            let mut lists_few = |query: &Vec<u8>| {
+                (&packed).search(self.open, self.r, query, &mut hits);
+                FEW.contains(&hits.count())
+            };
+            let mut any = || {
+                let changes = random.below(1 + 4 * u64::from(self.r));
+                near(random, changes)
+            };
+            (0..DRAWN).map(|_| any()).filter(|query| lists_few(query)).take(QUERIES).collect()
+        } else {
+            (0..QUERIES).map(|i| if i % 2 == 0 { near(random, 1) } else { sketch(random) }).collect()
         };
-        let drawn = (0..).map(|i| if i % 2 == 0 { near(random) } else { sketch(random) });
-        let queries = drawn.filter(|query| self.kind != Kind::Few || lists_few(query)).take(QUERIES).collect();
+        assert_eq!(queries.len(), QUERIES, "too few queries that list few pages");
         (pages, queries)
     }
 
@@ -149,7 +162,7 @@ impl Way for Library {
         assert_eq!(open, self.open);
         let (pages, distances, count) = out.lend();
         let given = calls::search(&mut self.tables.lend(), READER, radius, query, pages, distances);
-        assert_eq!(given.number, 0);
+        assert!(given.number == 0 && given.value as usize <= pages.len(), "{given:?}");
         *count = given.value as usize;
         0
     }

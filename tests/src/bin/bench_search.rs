@@ -9,11 +9,11 @@
 //!     bench_search own      the library's times alone: b m r q sketches row listed microseconds
 //!     bench_search count b m r q random|clustered|few searches      so many searches, for an instruction count
 //!
-//! Sketches are random or clustered; few are clustered ones with queries that list at most 12 pages. Built with the feature `one_list`, for
+//! Sketches are random or clustered; few are clustered ones with queries that list 8 to 12 pages. Built with the feature `one_list`, for
 //! an archive of before F-3, the pages listed are compared whatever their order.
 use std::hint::black_box;
 use std::time::Instant;
-use vetchdawn_tests::baselines::{Case, Hashing, Hits, Kind, Library, Packed, Pages, Planes, Pointers, Way, KINDS, OPEN};
+use vetchdawn_tests::baselines::{Case, Hashing, Hits, Kind, Library, Packed, Pages, Planes, Pointers, Way, OPEN};
 use vetchdawn_tests::calls::ONE_LIST;
 
 /// b, m, r, q.
@@ -240,7 +240,10 @@ fn main() {
     let given: Vec<String> = std::env::args().skip(1).collect();
     let mode = given.first().map_or("", String::as_str);
     match mode {
-        "own" => return all(PAGES, &SHOWN, &KINDS, own),
+        "own" => {
+            both(PAGES, &SHOWN, own);
+            return all(PAGES, &SHOWN[..2], &[Kind::Few], own);
+        }
         "count" => return count(&given[1..]),
         "wide" => {
             println!("Microseconds a search, radius 64, 65,535 pages, all classes open, threshold 32; the plain programs with sort_unstable.");
