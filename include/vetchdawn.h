@@ -12,7 +12,7 @@
  *   10  a sketch has not m symbols, or a packing not the bytes that m needs
  *   11  a symbol is not below 2^b, or a byte is none that packing gives
  *   12  the trees would have more nodes than the capacity
- *   13  the output is too short
+ *   13  the output is too short; of a search, either list
  *   14  the tables are damaged: a link that was followed leads outside its table
  *       or to a free node, an inner node stands where no byte is left, or more
  *       nodes or pages were passed than a sound store has. Drop: the page is in
@@ -117,10 +117,13 @@ uint32_t vetch_revoke(uint32_t *settings, size_t settings_len, uint32_t group,
                       uint32_t class_of_pages);
 
 /* All pages within the radius (0 to 64) of a sketch, of the classes open to the
- * reader now, in rising order; on damaged tables some of them may be missing.
- * *count is how many there are, with 13 too: so many places the output needs.
- * With any other refusal it is 0. The needed part of the working table holds
- * zeros afterwards, unless 5 or 6 refused the call. */
+ * reader now, in output, and how far each is from the sketch, in the same place
+ * of distances: the nearest first, and those at one distance by rising page
+ * number. On damaged tables some of them may be missing. *count is how many
+ * there are, with 13 too: so many places each of the two lists needs, and where
+ * either has fewer both keep their contents. With any other refusal it is 0. The
+ * needed part of the working table holds zeros afterwards, unless 5 or 6 refused
+ * the call. */
 uint32_t vetch_search(const uint32_t *settings, size_t settings_len,
                       const uint32_t *nodes, size_t nodes_len,
                       const uint32_t *pages, size_t pages_len,
@@ -128,6 +131,7 @@ uint32_t vetch_search(const uint32_t *settings, size_t settings_len,
                       uint32_t *working, size_t working_len, uint32_t reader,
                       uint32_t radius, const uint8_t *sketch,
                       size_t sketch_len, uint16_t *output, size_t output_len,
+                      uint16_t *distances, size_t distances_len,
                       uint32_t *count);
 
 /* The page's row of the sketch table, for a reader: its start and length there;

@@ -1,22 +1,25 @@
 //! Other ways to answer the same searches, as plain programs: a pointer trie, hashing of blocks, and scans. None allocates in a search,
-//! and each tests a page where it meets it.
+//! each tests a page where it meets it, and what is found is ordered by `sort_unstable`.
 pub mod cases;
 pub mod hashing;
+pub mod hits;
 pub mod lists;
 pub mod packed;
 pub mod scan;
 pub mod trie;
 
-pub use cases::{Case, Library, Pages, OPEN};
+pub use cases::{Case, Kind, Library, Pages, OPEN};
 pub use hashing::Hashing;
+pub use hits::Hits;
 pub use packed::Packed;
 pub use scan::Planes;
 pub use trie::Pointers;
 
-/// A way to answer a search: the pages within the radius of a query, of the classes in `open`, each once and rising.
+/// A way to answer a search: the pages within the radius of a query, of the classes in `open`, each once, with their distances, by distance
+/// and then by page.
 pub trait Way {
-    /// Writes them to `out`, which is empty, and gives how many pages were tested.
-    fn search(&mut self, open: u64, radius: u32, query: &[u8], out: &mut Vec<u16>) -> usize;
+    /// Writes them to `out`, and gives how many pages were tested.
+    fn search(&mut self, open: u64, radius: u32, query: &[u8], out: &mut Hits) -> usize;
 }
 
 /// The start and length of block j of q.

@@ -52,7 +52,10 @@ mod c {
         pub fn vetch_search(
             settings: *const u32, settings_len: usize, nodes: *const u32, nodes_len: usize, pages: *const u32, pages_len: usize,
             sketches: *const u8, sketches_len: usize, working: *mut u32, working_len: usize,
-            reader: u32, radius: u32, sketch: *const u8, sketch_len: usize, output: *mut u16, output_len: usize, count: *mut u32,
+            reader: u32, radius: u32, sketch: *const u8, sketch_len: usize, output: *mut u16, output_len: usize,
+            #[cfg(not(feature = "one_list"))] distances: *mut u16,
+            #[cfg(not(feature = "one_list"))] distances_len: usize,
+            count: *mut u32,
         ) -> u32;
         #[allow(clippy::too_many_arguments)]
         pub fn vetch_check(
@@ -177,14 +180,21 @@ pub fn drop(t: &mut Lent, page: u32) -> u32 {
     }
 }
 
-/// The number, and the count or the length needed.
-pub fn search(t: &mut Lent, reader: u32, radius: u32, query: &[u8], output: &mut [u16]) -> Given {
+/// Is the archive one of before F-3? Its search lists the pages by rising number and leaves the distances as they were.
+pub const ONE_LIST: bool = cfg!(feature = "one_list");
+
+/// The number, and the count or the length needed. The lists of pages and distances may have any two lengths.
+#[cfg_attr(feature = "one_list", allow(unused_variables))]
+pub fn search(t: &mut Lent, reader: u32, radius: u32, query: &[u8], output: &mut [u16], distances: &mut [u16]) -> Given {
     let mut value = u32::MAX;
     let number = unsafe {
         c::vetch_search(
             t.settings.as_ptr(), t.settings.len(), t.nodes.as_ptr(), t.nodes.len(), t.pages.as_ptr(), t.pages.len(),
             t.sketches.as_ptr(), t.sketches.len(), t.working.as_mut_ptr(), t.working.len(),
-            reader, radius, query.as_ptr(), query.len(), output.as_mut_ptr(), output.len(), &mut value,
+            reader, radius, query.as_ptr(), query.len(), output.as_mut_ptr(), output.len(),
+            #[cfg(not(feature = "one_list"))] distances.as_mut_ptr(),
+            #[cfg(not(feature = "one_list"))] distances.len(),
+            &mut value,
         )
     };
     Given { number, value }

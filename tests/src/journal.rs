@@ -68,7 +68,7 @@ pub fn printed(input: &[u8]) -> String {
             (_, Some(i)) => match i.search(one(0), one(1), &x[2..]) {
                 Ok(list) => {
                     write!(out, "S {} {}", one(0), list.len()).unwrap();
-                    list.iter().for_each(|p| write!(out, " {p}").unwrap());
+                    list.iter().for_each(|hit| write!(out, " {}:{}", hit.page, hit.distance).unwrap());
                     out.push('\n');
                     0
                 }
@@ -90,6 +90,6 @@ fn worked_example() {
     let hex = "49 02 04 02 01 00 4A 05 01 47 01 03 41 07 00 03 00 01 02 03 41 09 00 04 00 01 02 02 41 02 00 03 00 01 00 00 \
                53 05 02 00 01 02 03 52 01 03 53 05 02 00 01 02 03 41 58 02 03 00 00 00 00";
     let bytes: Vec<u8> = hex.split_whitespace().map(|h| u8::from_str_radix(h, 16).unwrap()).collect();
-    assert_eq!(printed(&bytes), "S 5 2 2 7\nS 5 0\nE 53 8\nZ 61\n");
+    assert_eq!(printed(&bytes), "S 5 2 7:0 2:2\nS 5 0\nE 53 8\nZ 61\n");
     assert_eq!(printed(&[]), "Z 0\n");
 }

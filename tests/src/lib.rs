@@ -4,6 +4,7 @@ pub mod calls;
 pub mod clock;
 pub mod guard;
 pub mod journal;
+pub mod lists;
 pub mod outcomes;
 pub mod plain;
 pub mod random;

@@ -28,6 +28,24 @@ pub fn measure(b: u32, m: u32, x: &[u8], y: &[u8]) -> Answer<u32> {
     Ok(x.iter().zip(y).filter(|(a, b)| a != b).count() as u32)
 }
 
+/// How far apart two rows of equal lengths are, whatever their symbols.
+pub fn distance(x: &[u8], y: &[u8]) -> u32 {
+    x.iter().zip(y).filter(|(a, b)| a != b).count() as u32
+}
+
+/// A page on a list, and its distance from the query.
+#[derive(Clone, Copy, Debug, PartialEq, Eq)]
+pub struct Hit {
+    pub page: u32,
+    pub distance: u32,
+}
+
+/// The order of a list: by distance, then by page number. The sort is stable.
+pub fn nearest_first(mut hits: Vec<Hit>) -> Vec<Hit> {
+    hits.sort_by_key(|hit| (hit.distance, hit.page));
+    hits
+}
+
 pub fn packed_length(b: u32, m: u32) -> usize {
     let z = 8 / b;
     m.div_ceil(z) as usize

@@ -1,5 +1,6 @@
 //! The tables and the calls on them as document 01 and docs/LAYOUT.md have them, in plain Rust.
 //! Written from the documents and not from the proved code.
+use crate::plain::distance;
 
 pub const MARK: u32 = 0x5644_0002;
 pub const SETTINGS: usize = 391;
@@ -76,12 +77,12 @@ pub fn class_of(pages: &[u32], page: usize) -> Option<u32> {
     pages[page].checked_sub(1)
 }
 
-/// Is the page marked live, open to the reader, and its row within the radius of the query? Of tables that show an opening.
-pub fn is_hit(settings: &[u32], pages: &[u32], sketches: &[u8], reader: u32, radius: u32, query: &[u8], page: usize) -> bool {
+/// The distance of the page's row from the query, where the page is marked live, open to the reader and within the radius. Of tables that
+/// show an opening.
+pub fn hit(settings: &[u32], pages: &[u32], sketches: &[u8], reader: u32, radius: u32, query: &[u8], page: usize) -> Option<u32> {
     let (m, cap) = (settings[2] as usize, settings[4] as usize);
-    page < cap
-        && class_of(pages, page).is_some_and(|class| opens(settings, reader, class))
-        && sketches[page * m..page * m + m].iter().zip(query).filter(|(a, b)| a != b).count() <= radius as usize
+    let open = page < cap && class_of(pages, page).is_some_and(|class| opens(settings, reader, class));
+    open.then(|| distance(&sketches[page * m..page * m + m], query)).filter(|&d| d <= radius)
 }
 
 impl Tables {

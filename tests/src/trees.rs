@@ -1,6 +1,6 @@
 //! The index of document 01 as plain Rust would keep it: rows, pairs, and an explicit tree for each block.
 //! Written from the document and not from the proved code.
-use crate::plain;
+use crate::plain::{self, nearest_first, Hit};
 use crate::tables::{Settings, Tables, FREE};
 use std::collections::{BTreeMap, BTreeSet};
 
@@ -222,8 +222,8 @@ impl Index {
         (0..32).any(|g| self.members.contains(&(reader, g)) && self.grants.contains(&(g, class)))
     }
 
-    /// By a plain scan: the pages called for, or the refusal's number.
-    pub fn search(&self, reader: u32, radius: u32, query: &[u8]) -> Result<Vec<u32>, u32> {
+    /// By a plain scan: the pages called for with their distances, the nearest first, or the refusal's number.
+    pub fn search(&self, reader: u32, radius: u32, query: &[u8]) -> Result<Vec<Hit>, u32> {
         if reader > 255 || radius > 64 {
             return Err(7);
         }
@@ -231,8 +231,9 @@ impl Index {
             0 => {}
             number => return Err(number),
         }
-        let near = |row: &Row| row.sketch.iter().zip(query).filter(|(a, b)| a != b).count() <= radius as usize;
-        Ok(self.rows.iter().filter(|(_, row)| self.opens(reader, row.class) && near(row)).map(|(&p, _)| p).collect())
+        let open = self.rows.iter().filter(|(_, row)| self.opens(reader, row.class));
+        let measured = open.map(|(&page, row)| Hit { page, distance: plain::distance(&row.sketch, query) });
+        Ok(nearest_first(measured.filter(|hit| hit.distance <= radius).collect()))
     }
 }
 

@@ -1,5 +1,6 @@
 //! Blank pages: an add is refused by 15; those that a store has from before are listed, shown and dropped, and the check says yes.
-use vetchdawn_tests::calls;
+use vetchdawn_tests::calls::{self, Given};
+use vetchdawn_tests::lists::Lists;
 use vetchdawn_tests::random::Random;
 use vetchdawn_tests::sound::sound;
 use vetchdawn_tests::stores::{small_settings, Sketches};
@@ -81,6 +82,7 @@ fn is_blank(plain: &Index, page: u32) -> bool {
 #[test]
 fn stored_ones_stay() {
     let mut random = Random::new(71);
+    let mut lists = Lists::new(50);
     let (mut listed, mut shown, mut dropped, mut blanks_refused) = (0, 0, 0, 0);
     for _ in 0..1_500 {
         let s = small_settings(&mut random);
@@ -110,11 +112,9 @@ fn stored_ones_stay() {
                 _ => {
                     let radius = random.below(6) as u32;
                     let want = plain.search(reader, radius, &x).unwrap();
-                    let mut output = vec![0; want.len()];
-                    let given = calls::search(&mut t.lend(), reader, radius, &x, &mut output);
-                    assert_eq!((given.number, given.value as usize), (0, want.len()));
-                    assert!(output.iter().map(|&page| u32::from(page)).eq(want.iter().copied()), "{output:?}, not {want:?}");
-                    listed += want.iter().filter(|&&page| is_blank(&plain, page)).count();
+                    let found = lists.search(&mut t.lend(), reader, radius, &x, [want.len(); 2]);
+                    listed += want.iter().filter(|hit| is_blank(&plain, hit.page)).count();
+                    assert_eq!(found, (Given { number: 0, value: want.len() as u32 }, want), "{s:?}");
                 }
             }
             assert_eq!(whole(&t, &s), plain.trees);

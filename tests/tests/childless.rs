@@ -1,7 +1,8 @@
 //! Inner nodes without children, which stores from before F-2 may have (document 02): they are sound, are searched past, take room and
 //! stay, until an add gives them a child. With their last child they go as all others do.
 use std::collections::BTreeSet;
-use vetchdawn_tests::calls;
+use vetchdawn_tests::calls::{self, Given};
+use vetchdawn_tests::lists::Lists;
 use vetchdawn_tests::random::Random;
 use vetchdawn_tests::sound::sound;
 use vetchdawn_tests::stores::{deep_settings, small_settings, Sketches};
@@ -24,6 +25,7 @@ type Three = [u8; 3];
 struct Store {
     t: Tables,
     plain: Index,
+    lists: Lists,
 }
 
 impl Store {
@@ -33,7 +35,7 @@ impl Store {
         assert_eq!((plain.join(0, 0), plain.grant(0, 1)), (0, 0));
         plain.rows = rows.iter().map(|&(page, x)| (page, Row { class: 1, sketch: x.to_vec() })).collect();
         plain.trees = vec![tree];
-        let mut store = Store { t: written(&plain), plain };
+        let mut store = Store { t: written(&plain), plain, lists: Lists::new(8) };
         store.is(&store.plain.trees[0].clone());
         store
     }
@@ -46,7 +48,7 @@ impl Store {
         let bytes = [0, 1, 2, 3, 4, 9, 200];
         for query in bytes.iter().flat_map(|&x| bytes.iter().flat_map(move |&y| bytes.map(|z| [x, y, z]))) {
             for radius in 0..=3 {
-                searched(&mut self.t, &self.plain, 0, radius, &query);
+                searched(&mut self.t, &self.plain, &mut self.lists, 0, radius, &query);
             }
         }
     }
@@ -71,13 +73,12 @@ impl Store {
 }
 
 /// A search that lists what a scan lists; how many pages.
-fn searched(t: &mut Tables, plain: &Index, reader: u32, radius: u32, query: &[u8]) -> usize {
+fn searched(t: &mut Tables, plain: &Index, lists: &mut Lists, reader: u32, radius: u32, query: &[u8]) -> usize {
     let want = plain.search(reader, radius, query).unwrap();
-    let mut output = vec![0; want.len()];
-    let given = calls::search(&mut t.lend(), reader, radius, query, &mut output);
-    assert_eq!((given.number, given.value as usize), (0, want.len()), "{:?}", plain.settings);
-    assert!(output.iter().map(|&page| u32::from(page)).eq(want.iter().copied()), "{output:?}, not {want:?}");
-    want.len()
+    let count = want.len();
+    let found = lists.search(&mut t.lend(), reader, radius, query, [count; 2]);
+    assert_eq!(found, (Given { number: 0, value: count as u32 }, want), "{:?}", plain.settings);
+    count
 }
 
 #[test]
@@ -235,6 +236,7 @@ struct Counts {
 /// Calls on an earlier store. A drop leaves the childless nodes that there are and makes none; an add gives a child to those on its way.
 fn calls_on(random: &mut Random, t: &mut Tables, plain: &mut Index, sketches: &Sketches, counts: &mut Counts) {
     let s = plain.settings.clone();
+    let mut lists = Lists::new(s.pages as usize);
     let mut given: BTreeSet<Place> = BTreeSet::new();
     for _ in 0..40 {
         let (page, x) = (random.below(u64::from(s.pages)) as u32, sketches.near(random, 3));
@@ -259,7 +261,7 @@ fn calls_on(random: &mut Random, t: &mut Tables, plain: &mut Index, sketches: &S
                 counts.refused += usize::from(number == 12);
                 given.extend(before.childless.into_iter().filter(on_the_way));
             }
-            _ => counts.listed += searched(t, plain, random.below(3) as u32, random.below(6) as u32, &x),
+            _ => counts.listed += searched(t, plain, &mut lists, random.below(3) as u32, random.below(6) as u32, &x),
         }
         assert_eq!(whole(t, &s), plain.trees);
     }

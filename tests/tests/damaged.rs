@@ -3,9 +3,11 @@
 use std::time::Duration;
 use vetchdawn_tests::calls::{self, Given};
 use vetchdawn_tests::clock::processor_time;
+use vetchdawn_tests::lists::{right_by_the_rows, Lists};
+use vetchdawn_tests::plain::{distance, nearest_first, Hit};
 use vetchdawn_tests::random::Random;
 use vetchdawn_tests::stores::{damaged, filled, small_settings};
-use vetchdawn_tests::tables::{is_hit, Settings, Tables};
+use vetchdawn_tests::tables::{hit, Settings, Tables};
 use vetchdawn_tests::walks::met;
 
 /// All classes are open to reader 0.
@@ -28,51 +30,105 @@ fn settings(b: u32, m: u32, q: u32, pages: u32, nodes: u32, threshold: u16) -> S
     Settings { b, m, q, pages, nodes, thresholds: vec![threshold; 64] }
 }
 
-/// What the plain walk says that a search gives, with so much room for the list.
-fn wanted(t: &Tables, s: &Settings, reader: u32, radius: u32, query: &[u8], room: usize) -> (Given, Vec<u16>) {
+/// The pages that are hits by their rows, by page number.
+fn hits(t: &Tables, s: &Settings, reader: u32, radius: u32, query: &[u8]) -> Vec<Hit> {
+    let row = |page: u32| hit(&t.settings, &t.pages, &t.sketches, reader, radius, query, page as usize);
+    (0..s.pages).filter_map(|page| row(page).map(|distance| Hit { page, distance })).collect()
+}
+
+/// What the plain walk says that a search gives, with so much room for the pages and for the distances.
+fn wanted(t: &Tables, s: &Settings, reader: u32, radius: u32, query: &[u8], rooms: [usize; 2]) -> (Given, Vec<Hit>) {
     let Some(met) = met(t, s, radius, query) else {
         return (Given { number: 14, value: 0 }, vec![]);
     };
-    let hit = |&p: &usize| met[p] && is_hit(&t.settings, &t.pages, &t.sketches, reader, radius, query, p);
-    let list: Vec<u16> = (0..s.pages as usize).filter(hit).map(|p| p as u16).collect();
+    let list: Vec<Hit> = hits(t, s, reader, radius, query).into_iter().filter(|hit| met[hit.page as usize]).collect();
     let value = list.len() as u32;
-    if list.len() > room {
+    if rooms.iter().any(|&room| list.len() > room) {
         return (Given { number: 13, value }, vec![]);
     }
-    (Given { number: 0, value }, list)
-}
-
-/// What a search gives, and what it has listed: a list is in the beginning of the output, and the rest stays as it was.
-fn search(t: &mut Tables, reader: u32, radius: u32, query: &[u8], room: usize) -> (Given, Vec<u16>) {
-    let mut output = vec![0xbeef_u16; room];
-    let given = calls::search(&mut t.lend(), reader, radius, query, &mut output);
-    let rest = output.split_off(if given.number == 0 { given.value as usize } else { 0 });
-    assert!(rest.iter().all(|&w| w == 0xbeef));
-    (given, output)
+    (Given { number: 0, value }, nearest_first(list))
 }
 
 #[test]
 fn as_a_plain_walk_has_it() {
     let mut random = Random::new(71);
     let mut numbers = [0u32; 16];
+    let mut lists = Lists::new(50);
+    // only the pages too short, only the distances; lists of more than one distance
+    let (mut short, mut several) = ([0; 2], 0);
     for round in 0..4_000 {
         let s = small_settings(&mut random);
         let (mut t, sketches) = damaged(&mut random, &s, round);
         for _ in 0..8 {
             let (reader, radius, query) = (random.below(4) as u32, random.below(65) as u32, sketches.near(&mut random, 5));
-            let room = if random.below(2) == 0 { s.pages as usize } else { random.below(4) as usize };
-            let want = wanted(&t, &s, reader, radius, &query, room);
-            assert_eq!(search(&mut t, reader, radius, &query, room), want, "{s:?}");
+            let few = random.below(4) as usize;
+            let rooms = match random.below(6) {
+                0 => [few, s.pages as usize],
+                1 => [s.pages as usize, few],
+                2 => [few, random.below(4) as usize],
+                _ => [s.pages as usize; 2],
+            };
+            let want = wanted(&t, &s, reader, radius, &query, rooms);
+            let found = lists.search(&mut t.lend(), reader, radius, &query, rooms);
+            assert_eq!(found, want, "{s:?} {rooms:?}");
+            // the same, said of the rows and without the walk
+            assert!(right_by_the_rows(&t.lend(), reader, radius, &query, &found.1), "{s:?} {:?}", found.1);
             numbers[want.0.number as usize] += 1;
+            several += usize::from(want.1.first().map(|hit| hit.distance) != want.1.last().map(|hit| hit.distance));
+            if want.0.number == 13 {
+                let enough = rooms.map(|room| room >= want.0.value as usize);
+                short[0] += usize::from(enough[1]);
+                short[1] += usize::from(enough[0]);
+            }
         }
     }
     assert!(numbers[0] > 1_000 && numbers[13] > 1_000 && numbers[14] > 1_000, "{numbers:?}");
+    assert!(several > 500 && short.iter().all(|&n| n > 200), "{several} {short:?}");
+}
+
+/// Rows, classes and rights alone are damaged, so that no walk is stopped: what is listed is right by the rows as they are then.
+#[test]
+fn right_by_damaged_rows() {
+    let mut random = Random::new(74);
+    let mut lists = Lists::new(50);
+    let (mut listed, mut moved) = (0, 0);
+    for _ in 0..1_000 {
+        let s = small_settings(&mut random);
+        let (mut t, plain, sketches) = filled(&mut random, &s, 60);
+        open_all(&mut t);
+        let (p, m) = (s.pages as usize, s.m as usize);
+        for row in t.sketches[..p * m].chunks_mut(m) {
+            match random.below(3) {
+                // a symbol may be past its range, or the row be that of another page
+                0 => row[random.below(m as u64) as usize] = random.next() as u8,
+                1 => row.copy_from_slice(&sketches.near(&mut random, 5)),
+                _ => {}
+            }
+        }
+        for word in &mut t.pages[..p] {
+            if random.below(6) == 0 {
+                *word = random.below(70) as u32;
+            }
+        }
+        for _ in 0..8 {
+            let (radius, query) = (random.below(12) as u32, sketches.near(&mut random, 5));
+            let want = wanted(&t, &s, 0, radius, &query, [p; 2]);
+            let found = lists.search(&mut t.lend(), 0, radius, &query, [p; 2]);
+            assert_eq!(found, want, "{s:?}");
+            assert!(right_by_the_rows(&t.lend(), 0, radius, &query, &found.1), "{s:?} {:?}", found.1);
+            listed += found.1.len();
+            let was = |hit: &&Hit| plain.rows.get(&hit.page).is_some_and(|row| distance(&row.sketch, &query) != hit.distance);
+            moved += found.1.iter().filter(was).count();
+        }
+    }
+    assert!(listed > 5_000 && moved > 1_000, "{listed} {moved}");
 }
 
 /// Signatures alone are damaged: of the hits those are left out whose signature is too far, and no others.
 #[test]
 fn left_out_by_its_signature() {
     let mut random = Random::new(73);
+    let mut lists = Lists::new(50);
     let (mut listed, mut left_out) = (0, 0);
     for _ in 0..1_000 {
         let s = small_settings(&mut random);
@@ -86,11 +142,10 @@ fn left_out_by_its_signature() {
         }
         for _ in 0..8 {
             let (radius, query) = (random.below(12) as u32, sketches.near(&mut random, 5));
-            let want = wanted(&t, &s, 0, radius, &query, p);
-            assert_eq!(search(&mut t, 0, radius, &query, p), want, "{s:?}");
-            let hits = (0..p).filter(|&page| is_hit(&t.settings, &t.pages, &t.sketches, 0, radius, &query, page)).count();
+            let want = wanted(&t, &s, 0, radius, &query, [p; 2]);
+            assert_eq!(lists.search(&mut t.lend(), 0, radius, &query, [p; 2]), want, "{s:?}");
             listed += want.1.len();
-            left_out += hits - want.1.len();
+            left_out += hits(&t, &s, 0, radius, &query).len() - want.1.len();
         }
     }
     assert!(listed > 5_000 && left_out > 5_000, "{listed} {left_out}");
@@ -172,10 +227,10 @@ fn full_store(s: &Settings, random: &mut Random) -> Tables {
 
 /// A search by reader 0, and the processor time of the best of five.
 fn timed(t: &mut Tables, radius: u32, query: &[u8]) -> (Given, Duration) {
-    let mut output = vec![0u16; 65_535];
+    let (mut output, mut distances) = (vec![0u16; 65_535], vec![0u16; 65_535]);
     let mut run = || {
         let start = processor_time();
-        let given = calls::search(&mut t.lend(), 0, radius, query, &mut output);
+        let given = calls::search(&mut t.lend(), 0, radius, query, &mut output, &mut distances);
         (given, processor_time() - start)
     };
     let (given, first) = run();
@@ -195,7 +250,7 @@ fn no_damage_makes_it_slow() {
     let stopped = Given { number: 14, value: 0 };
     let mut slowest = Duration::ZERO;
     let mut report = |name: &str, nodes: u32, t: &mut Tables, s: &Settings, radius: u32, query: &[u8]| {
-        assert_eq!(wanted(t, s, 0, radius, query, 65_535), (stopped, vec![]), "{name}");
+        assert_eq!(wanted(t, s, 0, radius, query, [65_535; 2]), (stopped, vec![]), "{name}");
         let (given, time) = timed(t, radius, query);
         assert_eq!(given, stopped, "{name}");
         println!("{name}, {nodes} nodes: 14 in {:.3} ms", time.as_secs_f64() * 1e3);

@@ -3,6 +3,7 @@
 use std::collections::BTreeMap;
 use vetchdawn_tests::calls;
 use vetchdawn_tests::guard::GuardedTables;
+use vetchdawn_tests::lists::{right_by_the_rows, Lists};
 use vetchdawn_tests::outcomes::judge;
 use vetchdawn_tests::random::Random;
 use vetchdawn_tests::sound::sound;
@@ -28,11 +29,13 @@ fn call(lent: &mut GuardedTables, s: &Settings, page: u32, added: Option<(u32, &
     (number, after)
 }
 
-/// The other calls end too, and the check tells whether the store is sound.
+/// The other calls end too: a search lists nothing that it must not, and the check tells whether the store is sound.
 fn read(lent: &mut GuardedTables, s: &Settings, query: &[u8]) {
+    let mut lists = Lists::new(s.pages as usize);
     for radius in [0, 1, s.m] {
-        let given = calls::search(&mut lent.lend(), 0, radius, query, &mut vec![0; s.pages as usize]);
+        let (given, list) = lists.search(&mut lent.lend(), 0, radius, query, [s.pages as usize; 2]);
         assert!(given.number == 0 || given.number == 14, "{given:?}");
+        assert!(right_by_the_rows(&lent.lend(), 0, radius, query, &list), "{list:?}");
     }
     assert_eq!(calls::check(&mut lent.lend()), (0, sound(&lent.tables(), s)));
 }

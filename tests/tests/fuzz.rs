@@ -1,13 +1,14 @@
 //! Calls of every kind on tables of any lengths and contents, with a guard before and behind each. FUZZ_SECONDS says how long.
-//! No call faults or hangs, no closed, far or dead page is listed, refusals change nothing; a store that calls have made stays sound, and
-//! every inner node in it has children.
+//! No call faults or hangs, no closed, far or dead page is listed, each listed one has the distance of its row and its place by that,
+//! refusals change nothing; a store that calls have made stays sound, and every inner node in it has children.
 use std::time::{Duration, Instant};
 use vetchdawn_tests::calls::{self, Lent};
 use vetchdawn_tests::guard::{Guarded, GuardedTables};
+use vetchdawn_tests::lists::{right_by_the_rows, Lists};
 use vetchdawn_tests::random::Random;
 use vetchdawn_tests::sound::sound;
 use vetchdawn_tests::stores::{any_tables, cut_short, damage, damage_way, deep_settings, scramble, small_settings, Sketches};
-use vetchdawn_tests::tables::{class_of, is_hit, opens, Settings, Tables};
+use vetchdawn_tests::tables::{class_of, opens, Settings, Tables};
 
 /// A number that is mostly below `n`.
 fn around(random: &mut Random, n: u64) -> u32 {
@@ -55,25 +56,29 @@ fn tables(random: &mut Random, s: &Settings, sketches: &Sketches) -> (Tables, bo
     (t, intact)
 }
 
-/// What is lent beside the tables: a sketch, and the output of a search.
+/// What is lent beside the tables: a sketch, and the lists of a search. And how often both lists were long enough, or only the distances,
+/// only the pages, or neither.
 struct Beside {
     sketch: Guarded<u8>,
-    output: Guarded<u16>,
+    lists: Lists,
+    rooms: [u64; 4],
+    listed: u64,
 }
 
 fn search(random: &mut Random, t: &mut Lent, s: &Settings, beside: &mut Beside) -> u32 {
     let (reader, radius) = (around(random, 4), around(random, 65));
-    let Beside { sketch: query, output } = beside;
-    let room = random.below(u64::from(s.pages) + 2) as usize;
-    output.set(&vec![0xbeef_u16; room]);
-    let given = calls::search(t, reader, radius, query.get(), output.get_mut());
-    let count = if given.number == 0 { given.value as usize } else { 0 };
-    assert!(given.number == 0 || given.number == 13 || given.value == 0);
-    assert!(output.get()[count..].iter().all(|&w| w == 0xbeef));
-    let list = &output.get()[..count];
-    assert!(list.windows(2).all(|w| w[0] < w[1]));
-    let hit = |p: u16| is_hit(t.settings, t.pages, t.sketches, reader, radius, query.get(), p as usize);
-    assert!(list.iter().all(|&p| hit(p)), "a page that must not be listed");
+    let query = beside.sketch.get();
+    let room = |random: &mut Random| random.below(u64::from(s.pages) + 2) as usize;
+    let first = room(random);
+    let rooms = [first, if random.below(2) == 0 { first } else { room(random) }];
+    let (given, list) = beside.lists.search(t, reader, radius, query, rooms);
+    if given.number == 0 || given.number == 13 {
+        let [pages, distances] = rooms.map(|room| room < given.value as usize);
+        assert_eq!(given.number == 13, pages || distances, "{given:?} with {rooms:?} places");
+        beside.rooms[usize::from(pages) + 2 * usize::from(distances)] += 1;
+    }
+    beside.listed += list.len() as u64;
+    assert!(right_by_the_rows(t, reader, radius, query, &list), "a page that must not be listed so: {list:?}");
     given.number
 }
 
@@ -165,7 +170,7 @@ fn any_call_on_any_tables() {
     let mut numbers = [0u64; 16];
     // of stores that are intact, and of others
     let mut drops = [Drops::default(), Drops::default()];
-    let mut beside = Beside { sketch: Guarded::new(&[0; 65]), output: Guarded::new(&[0; 65_536]) };
+    let mut beside = Beside { sketch: Guarded::new(&[0; 65]), lists: Lists::new(50), rooms: [0; 4], listed: 0 };
     while Instant::now() < end {
         let s = if random.below(2) == 0 { small_settings(&mut random) } else { deep_settings(&mut random) };
         let sketches = Sketches::new(&mut random, s.b, s.m, 3);
@@ -195,8 +200,10 @@ fn any_call_on_any_tables() {
         assert!(!intact || !childless(&before, &s), "an inner node without children, {s:?}");
     }
     println!("{} calls in {seconds} s, by number: {numbers:?}", numbers.iter().sum::<u64>());
+    println!("pages listed: {}; both lists long enough, pages too short, distances, both: {:?}", beside.listed, beside.rooms);
     println!("drops on other tables: {:?}", drops[0]);
     println!("drops on sound stores: {:?}", drops[1]);
     assert!(drops.iter().all(|d| 10 * d.inner > d.all && 20 * d.two_inner > d.all), "{drops:?}");
     assert!([0, 5, 6, 7, 8, 9, 10, 11, 12, 13, 14, 15].iter().all(|&n| numbers[n] > 0), "{numbers:?}");
+    assert!(beside.listed > 1_000 && beside.rooms.iter().all(|&n| n > 100), "{} {:?}", beside.listed, beside.rooms);
 }

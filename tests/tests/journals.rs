@@ -111,7 +111,7 @@ fn journal(random: &mut Random) -> Vec<u8> {
 fn generated_journals() {
     let mut random = Random::new(41);
     let mut numbers = [0usize; 16];
-    let mut listed = 0;
+    let (mut listed, mut turned) = (0, 0);
     for round in 0..2_000 {
         let bytes = journal(&mut random);
         let want = printed(&bytes);
@@ -120,13 +120,17 @@ fn generated_journals() {
             let fields: Vec<&str> = line.split(' ').collect();
             match fields[0] {
                 "E" => numbers[fields[2].parse::<usize>().unwrap()] += 1,
-                "S" => listed += fields.len() - 3,
+                "S" => {
+                    let pages: Vec<u32> = fields[3..].iter().map(|hit| hit.split_once(':').unwrap().0.parse().unwrap()).collect();
+                    listed += pages.len();
+                    turned += usize::from(!pages.is_sorted());
+                }
                 _ => {}
             }
         }
     }
     assert!([1, 2, 3, 4, 7, 8, 9, 11, 12, 15].iter().all(|&n| numbers[n] > 10), "{numbers:?}");
-    assert!(listed > 50_000, "{listed} listed");
+    assert!(listed > 50_000 && turned > 1_000, "{listed} listed, {turned} lists not by page number");
 }
 
 #[test]
@@ -226,12 +230,25 @@ fn stored_examples() {
         (after(&[b'A', 1, 0, 3, 0, 1, 2, 3, b'A', 1, 0, 3, 0, 1, 2, 3]), "E 14 9\nZ 22\n"),
         // a blank page is refused, and the next command is carried out; 9 is asked first; a query of zeros is legal
         (after(&[b'A', 1, 0, 3, 0, 0, 0, 0, b'A', 1, 0, 3, 0, 0, 0, 1, b'A', 1, 0, 3, 0, 0, 0, 0]), "E 6 15\nE 22 9\nZ 30\n"),
-        (after(&[b'J', 0, 0, b'G', 0, 9, b'A', 1, 0, 9, 0, 0, 0, 1, b'A', 2, 0, 9, 0, 0, 0, 0, b'S', 0, 1, 0, 0, 0, 0]), "E 20 15\nS 0 1 1\nZ 35\n"),
+        (after(&[b'J', 0, 0, b'G', 0, 9, b'A', 1, 0, 9, 0, 0, 0, 1, b'A', 2, 0, 9, 0, 0, 0, 0, b'S', 0, 1, 0, 0, 0, 0]), "E 20 15\nS 0 1 1:1\nZ 35\n"),
         (after(&[b'S', 0, 65, 0, 1, 2, 3]), "E 6 7\nZ 13\n"),
         (after(&[b'S', 255, 64, 0, 1, 2, 3]), "S 255 0\nZ 13\n"),
         // block distances 1 and 2 are within radius 3; a page added, closed and opened again
-        (after(&[b'J', 0, 0, b'G', 0, 9, b'A', 0, 1, 9, 1, 1, 0, 0, b'S', 0, 3, 0, 1, 1, 1]), "S 0 1 256\nZ 27\n"),
+        (after(&[b'J', 0, 0, b'G', 0, 9, b'A', 0, 1, 9, 1, 1, 0, 0, b'S', 0, 3, 0, 1, 1, 1]), "S 0 1 256:3\nZ 27\n"),
         (after(&[b'J', 0, 0, b'G', 0, 9, b'A', 0, 1, 9, 1, 0, 0, 0, b'S', 0, 3, 0, 1, 1, 1]), "S 0 0\nZ 27\n"),
+        // the nearest first; those at one distance by page number, whenever they were added; a distance of two digits
+        (
+            after(&[
+                &[b'J', 0, 0, b'G', 0, 9][..],
+                &[b'A', 0, 1, 9, 1, 1, 1, 1, b'A', 9, 0, 9, 2, 1, 1, 1, b'A', 3, 0, 9, 1, 1, 1, 2, b'A', 4, 0, 9, 2, 2, 2, 2],
+                &[b'S', 0, 4, 1, 1, 1, 1, b'S', 0, 0, 2, 2, 2, 2, b'D', 3, 0, b'S', 0, 1, 1, 1, 1, 1],
+            ].concat()),
+            "S 0 4 256:0 3:1 9:1 4:4\nS 0 1 4:0\nS 0 2 256:0 9:1\nZ 68\n",
+        ),
+        (
+            [&[b'I', 1, 64, 8, 1, 0, b'J', 0, 0, b'G', 0, 9, b'A', 5, 0, 9][..], &[1; 64], &[b'S', 0, 64], &[0; 64]].concat(),
+            "S 0 1 5:64\nZ 147\n",
+        ),
     ];
     for (bytes, want) in cases {
         assert_eq!(printed(&bytes), want, "{bytes:?}");

@@ -5,11 +5,11 @@ use std::process::Command;
 
 const PRINTED: &str = "\
 page 7 again: refused by question 9
-Anna, within 1: 0 1 2 3 4 5 6 7 8 9 10 11
-Boris, within 1: 1 2 4 5 7 8 10 11
-Anna, the file sealed, within 1: 1 2 4 5 7 8 10 11
+Anna, within 1: 34:0 35:0 36:0 37:0 38:0 39:0 28:1 29:1 30:1 31:1 32:1 33:1
+Boris, within 1: 34:0 35:0 37:0 38:0 28:1 29:1 31:1 32:1
+Anna, the file sealed, within 1: 34:0 35:0 37:0 38:0 28:1 29:1 31:1 32:1
 Boris, no longer in the reading room, within 1: none
-Anna, the first six dropped, within 2: 7 8 10 11 13 14 16 17
+Anna, the nearest six dropped, within 2: 28:1 29:1 31:1 32:1 22:2 23:2 25:2 26:2
 the store is sound
 ";
 

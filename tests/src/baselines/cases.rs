@@ -1,12 +1,13 @@
 //! What the benchmarks search: pages and queries for some settings, and the library's own store of them.
-use super::{Packed, Way};
+use super::{Hits, Packed, Way};
 use crate::calls;
 use crate::random::Random;
 use crate::stores::Sketches;
 use crate::tables::{Settings, Tables};
+use std::ops::RangeInclusive;
 
 pub const QUERIES: usize = 1_000;
-/// The classes that are open to the reader who searches.
+/// The classes that are open to the reader who searches, unless all are.
 pub const OPEN: u64 = 0x0f0f_f0f0_ffff_1111;
 const READER: u32 = 9;
 const GROUP: u32 = 3;
@@ -42,7 +43,30 @@ impl Pages {
     }
 }
 
-/// The settings of a store, how its sketches are drawn, and the radius of its searches.
+/// How sketches and queries are drawn. The third has the pages of the second, and queries at all distances from a page, of which those are
+/// taken that list 8 to 12 pages.
+#[derive(Clone, Copy, PartialEq)]
+pub enum Kind {
+    Random,
+    Clustered,
+    Few,
+}
+
+const FEW: RangeInclusive<usize> = 8..=12;
+/// So many queries are drawn at most for those that list few pages.
+const DRAWN: usize = 50_000;
+
+impl Kind {
+    pub fn name(self) -> &'static str {
+        ["random", "clustered", "few"][self as usize]
+    }
+
+    pub fn named(name: &str) -> Self {
+        [Kind::Random, Kind::Clustered, Kind::Few].into_iter().find(|kind| kind.name() == name).expect("random, clustered or few")
+    }
+}
+
+/// The settings of a store, how its sketches are drawn, the radius of its searches, and the classes open to the reader.
 pub struct Case {
     pub n: usize,
     pub b: u32,
@@ -50,26 +74,43 @@ pub struct Case {
     pub r: u32,
     pub q: usize,
     pub threshold: u16,
-    pub clustered: bool,
+    pub kind: Kind,
+    pub open: u64,
 }
 
 impl Case {
-    /// The pages, and queries of which every other one is near a page. The same at every call.
+    /// The pages, and `QUERIES` queries; every other one is near a page. The same at every call.
     pub fn pages(&self) -> (Pages, Vec<Vec<u8>>) {
-        let random = &mut Random::new(u64::from(self.b) * 1_000 + self.n as u64 + u64::from(self.clustered));
+        let random = &mut Random::new(u64::from(self.b) * 1_000 + self.n as u64 + u64::from(self.kind != Kind::Random));
         let centres = Sketches::new(random, self.b, self.m as u32, 1 + self.n / 100);
-        let sketch = |random: &mut Random| if self.clustered { centres.near(random, 6) } else { random.bytes(self.m, 1 << self.b) };
+        let sketch = |random: &mut Random| if self.kind == Kind::Random { random.bytes(self.m, 1 << self.b) } else { centres.near(random, 6) };
         let mut pages = Pages::new(self.m);
         for _ in 0..self.n {
             let x = sketch(random);
             pages.add(random.below(64) as u8, &x);
         }
-        let near = |random: &mut Random| {
+        let near = |random: &mut Random, changes: u64| {
             let mut x = pages.sketch(random.below(self.n as u64) as usize).to_vec();
-            x[random.below(self.m as u64) as usize] = random.below(1 << self.b) as u8;
+            for _ in 0..changes {
+                x[random.below(self.m as u64) as usize] = random.below(1 << self.b) as u8;
+            }
             x
         };
-        let queries = (0..QUERIES).map(|i| if i % 2 == 0 { near(random) } else { sketch(random) }).collect();
+        let queries: Vec<Vec<u8>> = if self.kind == Kind::Few {
+            let (packed, mut hits) = (pages.packed(self.b), Hits::new(self.n));
+            let mut lists_few = |query: &Vec<u8>| {
+                (&packed).search(self.open, self.r, query, &mut hits);
+                FEW.contains(&hits.count())
+            };
+            let mut any = || {
+                let changes = random.below(1 + 4 * u64::from(self.r));
+                near(random, changes)
+            };
+            (0..DRAWN).map(|_| any()).filter(|query| lists_few(query)).take(QUERIES).collect()
+        } else {
+            (0..QUERIES).map(|i| if i % 2 == 0 { near(random, 1) } else { sketch(random) }).collect()
+        };
+        assert_eq!(queries.len(), QUERIES, "too few queries that list few pages");
         (pages, queries)
     }
 
@@ -80,10 +121,10 @@ impl Case {
     }
 }
 
-/// The library's tables, and room for what a search lists.
+/// The library's tables, and the classes that they open to the reader.
 pub struct Library {
     tables: Tables,
-    output: Vec<u16>,
+    open: u64,
 }
 
 impl Library {
@@ -95,10 +136,10 @@ impl Library {
             assert_eq!(calls::add(&mut tables.lend(), p as u32, class.into(), pages.sketch(p)), 0);
         }
         assert_eq!(calls::join(&mut tables, READER, GROUP), 0);
-        for class in (0..64).filter(|k| OPEN >> k & 1 == 1) {
+        for class in (0..64).filter(|k| c.open >> k & 1 == 1) {
             assert_eq!(calls::grant(&mut tables, GROUP, class), 0);
         }
-        Library { tables, output: vec![0; c.n] }
+        Library { tables, open: c.open }
     }
 }
 
@@ -117,11 +158,12 @@ fn empty(s: &Settings) -> Tables {
 
 impl Way for Library {
     /// The reader's rights are in the library's register; how many pages it tests it does not tell.
-    fn search(&mut self, open: u64, radius: u32, query: &[u8], out: &mut Vec<u16>) -> usize {
-        debug_assert_eq!(open, OPEN);
-        let given = calls::search(&mut self.tables.lend(), READER, radius, query, &mut self.output);
-        assert_eq!(given.number, 0);
-        out.extend_from_slice(&self.output[..given.value as usize]);
+    fn search(&mut self, open: u64, radius: u32, query: &[u8], out: &mut Hits) -> usize {
+        assert_eq!(open, self.open);
+        let (pages, distances, count) = out.lend();
+        let given = calls::search(&mut self.tables.lend(), READER, radius, query, pages, distances);
+        assert!(given.number == 0 && given.value as usize <= pages.len(), "{given:?}");
+        *count = given.value as usize;
         0
     }
 }

@@ -1,6 +1,6 @@
 //! Hashing of blocks: for each block a table from its bits to a contiguous list of pages. Built once, for pages that do not change.
 use super::packed::{bits, shaped, Found, Packed, Test};
-use super::Way;
+use super::{Hits, Way};
 
 /// The pages from `start` to `end` have the key; a free slot has none.
 #[derive(Clone, Default)]
@@ -139,8 +139,8 @@ impl<'a> Hashing<'a> {
         Hashing { packed, tables: (0..q).map(|j| Table::new(packed, q, j)).collect(), found: Found::new(packed.len()) }
     }
 
-    fn search_of<const WIDTH: usize, const WORDS: usize>(&mut self, open: u64, radius: u32, query: &[u8]) -> usize {
-        let mut test = Test::<WIDTH, WORDS>::new(self.packed, &mut self.found, open, radius, query);
+    fn search_of<const WIDTH: usize, const WORDS: usize>(&mut self, open: u64, radius: u32, query: &[u8], out: &mut Hits) -> usize {
+        let mut test = Test::<WIDTH, WORDS>::new(self.packed, &mut self.found, open, radius, query, out);
         let left = radius / self.tables.len() as u32;
         for table in &self.tables {
             let key = table.key(&test.query);
@@ -155,8 +155,8 @@ impl<'a> Hashing<'a> {
 }
 
 impl Way for Hashing<'_> {
-    fn search(&mut self, open: u64, radius: u32, query: &[u8], out: &mut Vec<u16>) -> usize {
-        let tested = shaped!(self.packed, self.search_of(open, radius, query));
+    fn search(&mut self, open: u64, radius: u32, query: &[u8], out: &mut Hits) -> usize {
+        let tested = shaped!(self.packed, self.search_of(open, radius, query, out));
         self.found.drain(out);
         tested
     }

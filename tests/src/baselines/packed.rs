@@ -1,5 +1,5 @@
-//! Sketches packed in words of 64 bits, how far apart two of them are, and the pages found by a search.
-use super::block;
+//! Sketches packed in words of 64 bits, how far apart two of them are, and the test of the pages that a search meets.
+use super::{block, Hits};
 
 /// Sketches by page, and a class each. A symbol has a group of 1, 2, 4 or 8 bits, a row 1, 2, 4 or 8 words.
 pub struct Packed {
@@ -134,36 +134,33 @@ pub fn bits(row: &[u64], start: usize, count: usize) -> u64 {
     word & (u64::MAX >> (64 - count))
 }
 
-/// A map of the pages found, and a map of its words that are not zero. Empty between searches.
+/// A map of the pages found, so that a page met in several blocks is found once. Empty between searches.
 pub struct Found {
     words: Vec<u64>,
-    tops: Vec<u64>,
 }
 
 impl Found {
     pub fn new(pages: usize) -> Self {
-        Found { words: vec![0; pages.div_ceil(64)], tops: vec![0; pages.div_ceil(4096)] }
+        Found { words: vec![0; pages.div_ceil(64)] }
     }
 
+    /// Is the page not there yet? It is then.
     #[inline(always)]
-    fn put(&mut self, p: usize) {
-        self.words[p / 64] |= 1 << (p % 64);
-        self.tops[p / 4096] |= 1 << (p / 64 % 64);
+    fn put(&mut self, p: usize) -> bool {
+        let word = &mut self.words[p / 64];
+        let is_new = *word >> (p % 64) & 1 == 0;
+        *word |= 1 << (p % 64);
+        is_new
     }
 
-    /// Lists the pages in rising order and empties the maps.
-    pub fn drain(&mut self, out: &mut Vec<u16>) {
-        for (i, top) in self.tops.iter_mut().enumerate() {
-            while *top != 0 {
-                let at = i * 64 + top.trailing_zeros() as usize;
-                *top &= *top - 1;
-                let word = &mut self.words[at];
-                while *word != 0 {
-                    out.push((at * 64 + word.trailing_zeros() as usize) as u16);
-                    *word &= *word - 1;
-                }
-            }
+    /// Lists the pages found and empties the map.
+    pub fn drain(&mut self, out: &mut Hits) {
+        if out.found().len() < self.words.len() {
+            out.found().for_each(|p| self.words[p / 64] = 0);
+        } else {
+            self.words.fill(0);
         }
+        out.list();
     }
 }
 
@@ -175,14 +172,15 @@ pub struct Test<'a, const WIDTH: usize, const WORDS: usize> {
     open: u64,
     radius: u32,
     found: &'a mut Found,
+    hits: &'a mut Hits,
     pub tested: usize,
 }
 
 impl<'a, const WIDTH: usize, const WORDS: usize> Test<'a, WIDTH, WORDS> {
     #[inline(always)]
-    pub fn new(packed: &'a Packed, found: &'a mut Found, open: u64, radius: u32, query: &[u8]) -> Self {
+    pub fn new(packed: &'a Packed, found: &'a mut Found, open: u64, radius: u32, query: &[u8], hits: &'a mut Hits) -> Self {
         let rows = packed.rows.as_chunks::<WORDS>().0;
-        Test { rows, classes: &packed.classes, query: pack::<WIDTH, WORDS>(query), open, radius, found, tested: 0 }
+        Test { rows, classes: &packed.classes, query: pack::<WIDTH, WORDS>(query), open, radius, found, hits, tested: 0 }
     }
 
     #[inline(always)]
@@ -190,8 +188,9 @@ impl<'a, const WIDTH: usize, const WORDS: usize> Test<'a, WIDTH, WORDS> {
         self.tested += pages.len();
         for &page in pages {
             let p = usize::from(page);
-            if distance::<WIDTH, WORDS>(&self.rows[p], &self.query) <= self.radius && self.open >> self.classes[p] & 1 == 1 {
-                self.found.put(p);
+            let d = distance::<WIDTH, WORDS>(&self.rows[p], &self.query);
+            if d <= self.radius && self.open >> self.classes[p] & 1 == 1 {
+                self.hits.put_if(self.found.put(p), p, d);
             }
         }
     }

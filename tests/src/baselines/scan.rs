@@ -1,44 +1,47 @@
 //! Scans: every row is measured, without a branch, and its class is looked at only where it is near.
 use super::packed::{bits, distance, pack, shaped, Packed};
-use super::Way;
+use super::{Hits, Way};
 
 /// So many rows are counted in one loop, which the compiler can vectorise; only where one of them is near are they looked at singly.
 const CHUNK: usize = 64;
 
-/// Lists the rows of a chunk that are near and open.
+/// Puts down the rows of a chunk that are near and open.
 #[inline(always)]
-fn scan_chunk(classes: &[u8], first: usize, open: u64, near: impl Fn(usize) -> bool, out: &mut Vec<u16>) {
-    if (0..CHUNK).map(|i| u32::from(near(i))).sum::<u32>() == 0 {
+fn scan_chunk(classes: &[u8], first: usize, open: u64, radius: u32, distance: impl Fn(usize) -> u32, out: &mut Hits) {
+    if (0..CHUNK).map(|i| u32::from(distance(i) <= radius)).sum::<u32>() == 0 {
         return;
     }
     for (i, &class) in classes[first..].iter().take(CHUNK).enumerate() {
-        if near(i) && open >> class & 1 == 1 {
-            out.push((first + i) as u16);
+        let d = distance(i);
+        if d <= radius && open >> class & 1 == 1 {
+            out.put(first + i, d);
         }
     }
 }
 
 /// Packed rows, a few words of 64 bits each: exclusive ors, the differing groups marked, one population count.
 impl Packed {
-    fn scan_of<const WIDTH: usize, const WORDS: usize>(&self, open: u64, radius: u32, query: &[u8], out: &mut Vec<u16>) {
+    fn scan_of<const WIDTH: usize, const WORDS: usize>(&self, open: u64, radius: u32, query: &[u8], out: &mut Hits) {
         let wanted = pack::<WIDTH, WORDS>(query);
         let (chunks, rest) = self.rows.as_chunks::<WORDS>().0.as_chunks::<CHUNK>();
         for (i, rows) in chunks.iter().enumerate() {
-            scan_chunk(&self.classes, i * CHUNK, open, |k| distance::<WIDTH, WORDS>(&rows[k], &wanted) <= radius, out);
+            scan_chunk(&self.classes, i * CHUNK, open, radius, |k| distance::<WIDTH, WORDS>(&rows[k], &wanted), out);
         }
         let first = chunks.len() * CHUNK;
         for (i, row) in rest.iter().enumerate() {
-            if distance::<WIDTH, WORDS>(row, &wanted) <= radius && self.opens(open, first + i) {
-                out.push((first + i) as u16);
+            let d = distance::<WIDTH, WORDS>(row, &wanted);
+            if d <= radius && self.opens(open, first + i) {
+                out.put(first + i, d);
             }
         }
     }
 }
 
 impl Way for &Packed {
-    fn search(&mut self, open: u64, radius: u32, query: &[u8], out: &mut Vec<u16>) -> usize {
+    fn search(&mut self, open: u64, radius: u32, query: &[u8], out: &mut Hits) -> usize {
         let packed = *self;
         shaped!(packed, packed.scan_of(open, radius, query, out));
+        out.list();
         packed.len()
     }
 }
@@ -109,16 +112,16 @@ impl<'a> Planes<'a> {
         (0..self.packed.len().div_ceil(CHUNK)).flat_map(chunk).map(|(p, k)| T::of(word(p, k))).collect()
     }
 
-    fn scan_of<T: Word, const WIDTH: usize>(&self, words: &[T], open: u64, radius: u32, query: &[u8], out: &mut Vec<u16>) {
+    fn scan_of<T: Word, const WIDTH: usize>(&self, words: &[T], open: u64, radius: u32, query: &[u8], out: &mut Hits) {
         let wanted: [T; WIDTH] = std::array::from_fn(|k| T::of(plane_of_query(k, query)));
         let chunks = words.as_chunks::<CHUNK>().0.as_chunks::<WIDTH>().0;
         for (i, planes) in chunks.iter().enumerate() {
             let differ = |row: usize| (0..WIDTH).fold(T::default(), |w, k| w | (planes[k][row] ^ wanted[k]));
-            scan_chunk(&self.packed.classes, i * CHUNK, open, |row| differ(row).ones() <= radius, out);
+            scan_chunk(&self.packed.classes, i * CHUNK, open, radius, |row| differ(row).ones(), out);
         }
     }
 
-    fn scan<T: Word>(&self, words: &[T], open: u64, radius: u32, query: &[u8], out: &mut Vec<u16>) {
+    fn scan<T: Word>(&self, words: &[T], open: u64, radius: u32, query: &[u8], out: &mut Hits) {
         match self.packed.width {
             1 => self.scan_of::<T, 1>(words, open, radius, query, out),
             2 => self.scan_of::<T, 2>(words, open, radius, query, out),
@@ -129,12 +132,13 @@ impl<'a> Planes<'a> {
 }
 
 impl Way for Planes<'_> {
-    fn search(&mut self, open: u64, radius: u32, query: &[u8], out: &mut Vec<u16>) -> usize {
+    fn search(&mut self, open: u64, radius: u32, query: &[u8], out: &mut Hits) -> usize {
         if self.packed.m <= 32 {
             self.scan(&self.narrow, open, radius, query, out);
         } else {
             self.scan(&self.wide, open, radius, query, out);
         }
+        out.list();
         self.packed.len()
     }
 }

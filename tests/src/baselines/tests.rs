@@ -1,5 +1,6 @@
 //! Each way against the plain index: equal lists, the trie's trees equal to the plain ones, and no page tested that need not be.
-use super::{Hashing, Pages, Planes, Pointers, Way};
+use super::{Hashing, Hits, Pages, Planes, Pointers, Way};
+use crate::plain::{distance, Hit};
 use crate::random::Random;
 use crate::stores::{small_settings, Sketches};
 use crate::tables::Settings;
@@ -17,19 +18,15 @@ fn index(random: &mut Random) -> (Settings, Index, u64) {
     (s, plain, open)
 }
 
-fn wanted(plain: &Index, radius: u32, query: &[u8]) -> Vec<u16> {
-    plain.search(0, radius, query).unwrap().into_iter().map(|p| p as u16).collect()
+fn wanted(plain: &Index, radius: u32, query: &[u8]) -> Vec<Hit> {
+    plain.search(0, radius, query).unwrap()
 }
 
 /// The list, and how many pages were tested for it.
-fn listed(way: &mut dyn Way, open: u64, radius: u32, query: &[u8]) -> (Vec<u16>, usize) {
-    let mut out = Vec::new();
-    let tested = way.search(open, radius, query, &mut out);
-    (out, tested)
-}
-
-fn differ(x: &[u8], y: &[u8]) -> u32 {
-    x.iter().zip(y).filter(|(a, b)| a != b).count() as u32
+fn listed(way: &mut dyn Way, open: u64, radius: u32, query: &[u8], out: &mut Hits) -> (Vec<Hit>, usize) {
+    let tested = way.search(open, radius, query, out);
+    let hits = out.pages().iter().zip(out.distances()).map(|(&page, &distance)| Hit { page: page.into(), distance: distance.into() });
+    (hits.collect(), tested)
 }
 
 /// How many pages the leaves have that a walk comes to, from the block's packed bytes of a query.
@@ -55,7 +52,7 @@ fn near_blocks(plain: &Index, radius: u32, query: &[u8]) -> usize {
     let q = plain.trees.len();
     let near = |j: usize| {
         let (start, n) = plain.block(j);
-        let rows = plain.rows.values().filter(|row| differ(&row.sketch[start..start + n], &query[start..start + n]) <= radius / q as u32);
+        let rows = plain.rows.values().filter(|row| distance(&row.sketch[start..start + n], &query[start..start + n]) <= radius / q as u32);
         rows.count()
     };
     (0..q).map(near).sum()
@@ -85,12 +82,13 @@ fn scans_and_hashing_list_what_the_plain_index_lists() {
         let packed = pages.packed(s.b);
         let mut planes = Planes::new(&packed);
         let mut hashing = Hashing::new(&packed, s.q as usize);
+        let out = &mut Hits::new(s.pages as usize);
         for _ in 0..5 {
             let (radius, query) = (radius(random, &s), sketches.near(random, 4));
             let lists = wanted(&plain, radius, &query);
-            assert_eq!(listed(&mut &packed, open, radius, &query).0, lists, "packed rows, {s:?}");
-            assert_eq!(listed(&mut planes, open, radius, &query).0, lists, "planes, {s:?}");
-            let (list, tested) = listed(&mut hashing, open, radius, &query);
+            assert_eq!(listed(&mut &packed, open, radius, &query, out).0, lists, "packed rows, {s:?}");
+            assert_eq!(listed(&mut planes, open, radius, &query, out).0, lists, "planes, {s:?}");
+            let (list, tested) = listed(&mut hashing, open, radius, &query, out);
             assert_eq!(list, lists, "hashing, {s:?}");
             let (near, folded) = (near_blocks(&plain, radius, &query), s.m.div_ceil(s.q) * s.b.next_power_of_two() > 64);
             assert!(tested == near || folded && tested > near, "{tested} tested of {near}, {s:?}");
@@ -121,10 +119,11 @@ fn the_pointer_trie_has_the_plain_trees_and_lists() {
         for (j, tree) in plain.trees.iter().enumerate() {
             assert_eq!(&trie.tree(j), tree, "block {j} of {s:?}");
         }
+        let out = &mut Hits::new(s.pages as usize);
         for _ in 0..5 {
             let (radius, query) = (random.below(u64::from(s.m) + 1) as u32, sketches.near(random, 4));
             let met = plain.trees.iter().enumerate().map(|(j, tree)| met(tree, s.b, &plain.packed(j, &query), radius / s.q)).sum();
-            assert_eq!(listed(&mut trie, open, radius, &query), (wanted(&plain, radius, &query), met), "{s:?}");
+            assert_eq!(listed(&mut trie, open, radius, &query, out), (wanted(&plain, radius, &query), met), "{s:?}");
         }
     }
     assert!(pruned > 500, "{pruned}");

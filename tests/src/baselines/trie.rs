@@ -2,7 +2,7 @@
 //! children, a leaf a contiguous list of pages. Inner nodes that are given up are used again.
 use super::lists::Lists;
 use super::packed::{bits, shaped, Found, Packed, Test};
-use super::Way;
+use super::{Hits, Way};
 
 /// A child: none, an inner node by its index, or a leaf by where its list stands.
 const NONE: u32 = 0;
@@ -188,8 +188,8 @@ impl Pointers {
         true
     }
 
-    fn search_of<const WIDTH: usize, const WORDS: usize>(&mut self, open: u64, radius: u32, query: &[u8]) -> usize {
-        let test = Test::new(&self.packed, &mut self.found, open, radius, query);
+    fn search_of<const WIDTH: usize, const WORDS: usize>(&mut self, open: u64, radius: u32, query: &[u8], out: &mut Hits) -> usize {
+        let test = Test::new(&self.packed, &mut self.found, open, radius, query, out);
         let mut walk = Walk::<WIDTH, WORDS> { nodes: &self.nodes, lists: &self.lists, masks: &self.masks, test };
         for (j, &(start, end)) in self.blocks.iter().enumerate() {
             walk.visit(self.nodes[0][j], start, end, radius / self.blocks.len() as u32);
@@ -223,8 +223,8 @@ impl Pointers {
 }
 
 impl Way for Pointers {
-    fn search(&mut self, open: u64, radius: u32, query: &[u8], out: &mut Vec<u16>) -> usize {
-        let tested = shaped!(self.packed, self.search_of(open, radius, query));
+    fn search(&mut self, open: u64, radius: u32, query: &[u8], out: &mut Hits) -> usize {
+        let tested = shaped!(self.packed, self.search_of(open, radius, query, out));
         self.found.drain(out);
         tested
     }

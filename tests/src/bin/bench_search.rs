@@ -1,14 +1,20 @@
 //! Searches of the library against plain programs that answer the same: each way in turn answers a row of queries, pass after pass, and
-//! every list is compared with the library's. Each search is timed by itself: the median of its passes, the mean over the queries.
+//! its lists of pages and distances are compared with the library's. Each search is timed by itself: the median of its passes, the mean over
+//! the queries.
 //!
 //!     bench_search          all cases, 1,000 queries in a row
 //!     bench_search quick    the settings shown, 1,000 queries in a row
 //!     bench_search rows     the settings shown, 1, 10, 100 and 1,000 queries in a row
-//!     bench_search own      the library's times alone, as numbers: b m r q clustered row microseconds
-//!     bench_search count b m r q random|clustered searches      so many searches, for an instruction count
+//!     bench_search wide     radius 64 with all classes open: every page is listed
+//!     bench_search own      the library's times alone: b m r q sketches row listed microseconds
+//!     bench_search count b m r q random|clustered|few searches      so many searches, for an instruction count
+//!
+//! Sketches are random or clustered; few are clustered ones with queries that list 8 to 12 pages. Built with the feature `one_list`, for
+//! an archive of before F-3, the pages listed are compared whatever their order.
 use std::hint::black_box;
 use std::time::Instant;
-use vetchdawn_tests::baselines::{Case, Hashing, Library, Packed, Pages, Planes, Pointers, Way, OPEN};
+use vetchdawn_tests::baselines::{Case, Hashing, Hits, Kind, Library, Packed, Pages, Planes, Pointers, Way, OPEN};
+use vetchdawn_tests::calls::ONE_LIST;
 
 /// b, m, r, q.
 type Setting = (u32, usize, u32, usize);
@@ -18,6 +24,9 @@ const OTHERS: [Setting; 10] = [
     (2, 64, 3, 4), (8, 32, 2, 2), (8, 32, 3, 4), (1, 64, 2, 2), (1, 64, 3, 4),
 ];
 const PAGES: usize = 65_535;
+/// Of a search that lists all pages: b, m, q.
+const WIDE: [(u32, usize, usize); 2] = [(4, 32, 4), (1, 64, 8)];
+const WIDE_QUERIES: usize = 20;
 const ROWS: [usize; 4] = [1, 10, 100, 1_000];
 /// So many queries are answered where a row has fewer, and by a scan where it has more.
 const FEW: usize = 200;
@@ -26,19 +35,25 @@ const PASSES: usize = 5;
 const KEYS: usize = 100_000;
 const WAYS: usize = 5;
 
-fn case(n: usize, (b, m, r, q): Setting, clustered: bool) -> Case {
-    Case { n, b, m, r, q, threshold: 32, clustered }
+fn case(n: usize, (b, m, r, q): Setting, kind: Kind) -> Case {
+    Case { n, b, m, r, q, threshold: 32, kind, open: OPEN }
 }
 
 /// The library, the indexes, the scans. None stands for a way that is not tried.
-fn ways<'a>(c: &Case, pages: &Pages, packed: &'a Packed) -> [Option<Box<dyn Way + 'a>>; WAYS] {
+type Ways<'a> = [Option<Box<dyn Way + 'a>>; WAYS];
+
+fn ways<'a>(c: &Case, pages: &Pages, packed: &'a Packed) -> Ways<'a> {
+    let hashing = (c.keys() <= KEYS).then(|| Box::new(Hashing::new(packed, c.q)) as Box<dyn Way>);
+    let planes = Planes::new(packed);
+    [Some(Box::new(Library::new(c, pages))), Some(Box::new(trie(c, pages))), hashing, Some(Box::new(packed)), Some(Box::new(planes))]
+}
+
+fn trie(c: &Case, pages: &Pages) -> Pointers {
     let mut trie = Pointers::new(c.b, c.m, c.q, c.n, c.threshold);
     for (p, &class) in pages.classes.iter().enumerate() {
         assert!(trie.add(p as u32, class, pages.sketch(p)));
     }
-    let hashing = (c.keys() <= KEYS).then(|| Box::new(Hashing::new(packed, c.q)) as Box<dyn Way>);
-    let planes = Planes::new(packed);
-    [Some(Box::new(Library::new(c, pages))), Some(Box::new(trie)), hashing, Some(Box::new(packed)), Some(Box::new(planes))]
+    trie
 }
 
 fn median(mut times: Vec<f64>) -> f64 {
@@ -50,17 +65,27 @@ fn microseconds(start: Instant) -> f64 {
     start.elapsed().as_nanos() as f64 / 1_000.0
 }
 
-/// What a turn needs beside its way: memory to read, room for a list, and what looking at the clock costs.
+/// The lists of pages and distances; of a library without distances the pages alone, rising.
+fn listed(hits: &Hits) -> (Vec<u16>, Vec<u16>) {
+    let mut pages = hits.pages().to_vec();
+    if ONE_LIST {
+        pages.sort_unstable();
+        return (pages, Vec::new());
+    }
+    (pages, hits.distances().to_vec())
+}
+
+/// What a turn needs beside its way: memory to read, room for the lists, and what looking at the clock costs.
 struct Bench {
     sweep: Vec<u64>,
-    list: Vec<u16>,
+    hits: Hits,
     clock: f64,
 }
 
 impl Bench {
     fn new() -> Self {
         let clock = median((0..10_001).map(|_| microseconds(Instant::now())).collect());
-        Bench { sweep: (0..1 << 19).collect(), list: Vec::with_capacity(PAGES), clock }
+        Bench { sweep: (0..1 << 19).collect(), hits: Hits::new(PAGES), clock }
     }
 
     /// Before each turn 4 MB are read, as other work would, so that all ways find the nearer caches alike.
@@ -68,18 +93,17 @@ impl Bench {
         black_box(black_box(&self.sweep).iter().fold(0, |a, &b| a ^ b));
     }
 
-    /// A turn: a row of queries is answered, and each one's time put down. Gives the lists.
-    fn turn(&mut self, c: &Case, way: &mut dyn Way, queries: &[Vec<u8>], times: &mut [Vec<f64>], tested: &mut usize) -> Vec<Vec<u16>> {
+    /// A turn: a row of queries is answered, each one's time put down, and `seen` is shown what it lists. Gives how many pages were tested.
+    fn turn(&mut self, c: &Case, way: &mut dyn Way, queries: &[Vec<u8>], times: &mut [Vec<f64>], mut seen: impl FnMut(&Hits)) -> usize {
         self.sweep();
-        let mut lists = Vec::with_capacity(queries.len());
+        let mut tested = 0;
         for (query, times) in queries.iter().zip(times) {
-            self.list.clear();
             let start = Instant::now();
-            *tested += way.search(OPEN, c.r, query, &mut self.list);
+            tested += way.search(c.open, c.r, query, &mut self.hits);
             times.push(microseconds(start) - self.clock);
-            lists.push(self.list.clone());
+            seen(&self.hits);
         }
-        lists
+        tested
     }
 }
 
@@ -97,20 +121,20 @@ struct Line {
 }
 
 /// Each way answers `row` queries, then the next way does.
-fn line(c: &Case, ways: &mut [Option<Box<dyn Way + '_>>; WAYS], queries: &[Vec<u8>], row: usize) -> Line {
+fn line(c: &Case, ways: &mut Ways, queries: &[Vec<u8>], row: usize) -> Line {
     let mut bench = Bench::new();
-    let queries = &queries[..row.max(FEW)];
     let mut times: [_; WAYS] = std::array::from_fn(|_| vec![Vec::new(); queries.len()]);
-    let (mut tested, mut listed) = ([0; WAYS], 0);
+    let (mut tested, mut pages) = ([0; WAYS], 0);
     for first in (0..PASSES).flat_map(|_| (0..queries.len()).step_by(row)) {
         let queries = &queries[first..first + row];
         let mut wanted = Vec::new();
         for (i, way) in ways.iter_mut().enumerate() {
             let Some(way) = way else { continue };
             let queries = if i < 3 { queries } else { &queries[..row.min(FEW)] };
-            let lists = bench.turn(c, &mut **way, queries, &mut times[i][first..], &mut tested[i]);
+            let mut lists = Vec::with_capacity(queries.len());
+            tested[i] += bench.turn(c, &mut **way, queries, &mut times[i][first..], |hits| lists.push(listed(hits)));
             if i == 0 {
-                listed += lists.iter().map(Vec::len).sum::<usize>();
+                pages += lists.iter().map(|list| list.0.len()).sum::<usize>();
                 wanted = lists;
             } else {
                 assert!(lists == wanted[..queries.len()], "lists differ");
@@ -118,13 +142,13 @@ fn line(c: &Case, ways: &mut [Option<Box<dyn Way + '_>>; WAYS], queries: &[Vec<u
         }
     }
     let each = |n: usize| n as f64 / (PASSES * queries.len()) as f64;
-    Line { times: times.map(mean), tested: tested.map(each), listed: each(listed) }
+    Line { times: times.map(mean), tested: tested.map(each), listed: each(pages) }
 }
 
 const HEAD: &str = "    n b  m r q sketches   row    met   hash listed  library     trie  hashing     rows   planes   /trie  /hash  /scan";
 
 fn print(c: &Case, row: usize, line: &Line) {
-    let sketches = if c.clustered { "clustered" } else { "random" };
+    let sketches = c.kind.name();
     let shown = |x: f64, width: usize, digits: usize| if x.is_nan() { format!(" {:>width$}", "-") } else { format!(" {x:width$.digits$}") };
     let [library, trie, hashing, rows, planes] = line.times;
     let hashed = if hashing.is_nan() { hashing } else { line.tested[2] };
@@ -152,8 +176,19 @@ fn compare(c: &Case, rows: &[usize]) {
     let packed = pages.packed(c.b);
     let mut ways = ways(c, &pages, &packed);
     for &row in rows {
-        print(c, row, &line(c, &mut ways, &queries, row));
+        print(c, row, &line(c, &mut ways, &queries[..row.max(FEW)], row));
     }
+}
+
+/// The library, the trie and the scan of rows, where every page is listed.
+fn wide(c: &Case) {
+    let (pages, queries) = c.pages();
+    let packed = pages.packed(c.b);
+    let mut ways: Ways = [Some(Box::new(Library::new(c, &pages))), Some(Box::new(trie(c, &pages))), None, Some(Box::new(&packed)), None];
+    let line = line(c, &mut ways, &queries[..WIDE_QUERIES], 1);
+    let [library, trie, _, rows, _] = line.times;
+    print!("{} {:2} {} {:9} {:6.0}", c.b, c.m, c.q, c.kind.name(), line.listed);
+    println!(" {library:8.0} {trie:8.0} {rows:8.0}  {:6.2} {:6.2}", library / trie, library / rows);
 }
 
 /// The library's times alone, in the same rows.
@@ -164,41 +199,57 @@ fn own(c: &Case) {
     for row in ROWS {
         let queries = &queries[..row.max(FEW)];
         let mut times = vec![Vec::new(); queries.len()];
+        let mut listed = 0;
         for first in (0..PASSES).flat_map(|_| (0..queries.len()).step_by(row)) {
-            bench.turn(c, &mut library, &queries[first..first + row], &mut times[first..], &mut 0);
+            bench.turn(c, &mut library, &queries[first..first + row], &mut times[first..], |hits| listed += hits.count());
         }
-        println!("{} {} {} {} {} {row} {:.3}", c.b, c.m, c.r, c.q, u8::from(c.clustered), mean(times));
+        let listed = listed as f64 / (PASSES * queries.len()) as f64;
+        println!("{} {} {} {} {} {row} {listed:.1} {:.3}", c.b, c.m, c.r, c.q, c.kind.name(), mean(times));
     }
 }
 
 /// Some searches and nothing else; prints how many pages they listed.
 fn count(given: &[String]) {
     let number = |i: usize| given[i].parse::<usize>().unwrap();
-    let c = case(PAGES, (number(0) as u32, number(1), number(2) as u32, number(3)), given[4] == "clustered");
+    let c = case(PAGES, (number(0) as u32, number(1), number(2) as u32, number(3)), Kind::named(&given[4]));
     let (pages, queries) = c.pages();
     let mut library = Library::new(&c, &pages);
-    let mut list = Vec::new();
+    let (mut hits, mut listed) = (Hits::new(PAGES), 0);
     for query in queries.iter().cycle().take(number(5)) {
-        library.search(OPEN, c.r, query, &mut list);
+        library.search(c.open, c.r, query, &mut hits);
+        listed += hits.count();
     }
-    println!("{}", list.len());
+    println!("{listed}");
+}
+
+/// Each setting with some kinds of sketches.
+fn all(n: usize, settings: &[Setting], kinds: &[Kind], each: impl Fn(&Case)) {
+    for &setting in settings {
+        for &kind in kinds {
+            each(&case(n, setting, kind));
+        }
+    }
 }
 
 /// Random and clustered sketches of each setting.
 fn both(n: usize, settings: &[Setting], each: impl Fn(&Case)) {
-    for &setting in settings {
-        for clustered in [false, true] {
-            each(&case(n, setting, clustered));
-        }
-    }
+    all(n, settings, &[Kind::Random, Kind::Clustered], each);
 }
 
 fn main() {
     let given: Vec<String> = std::env::args().skip(1).collect();
     let mode = given.first().map_or("", String::as_str);
     match mode {
-        "own" => return both(PAGES, &SHOWN, own),
+        "own" => {
+            both(PAGES, &SHOWN, own);
+            return all(PAGES, &SHOWN[..2], &[Kind::Few], own);
+        }
         "count" => return count(&given[1..]),
+        "wide" => {
+            println!("Microseconds a search, radius 64, 65,535 pages, all classes open, threshold 32; the plain programs with sort_unstable.");
+            println!("b  m q sketches  listed  library     trie     rows   /trie  /rows");
+            return both(PAGES, &WIDE.map(|(b, m, q)| (b, m, 64, q)), |c| wide(&Case { open: u64::MAX, ..*c }));
+        }
         _ => head(),
     }
     if mode == "rows" {
