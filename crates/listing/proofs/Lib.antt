@@ -6,3 +6,4 @@ pub mod Puts
 pub mod Words
 pub mod Lists
 pub mod Listed
+pub mod Example
