@@ -5,7 +5,7 @@ use mathlib.Core.Bool.{Bool, false, cond, not}
 use mathlib.Core.List.{List, []}
 use lib.Dec.{eqb}
 -- passed on, for the program's contracts
-pub use Rattle.meaning.specs.Output.{Output, output}
+use Rattle.meaning.specs.Output.{Output}
 use Rattle.meaning.specs.Journal.{Command, next, ended, refused, command-to, refusalLine}
 use Rattle.promises.specs.Tables.{Tables}
 use Rattle.promises.specs.Relation.{Answer, Promised}

@@ -38,7 +38,15 @@ fn find(
 {
     let words = scope.words;
     let mut counts = [0u32; 65];
-    let met = traversal::blocks::meet_blocks(nodes, pages, sketches, query, map, &mut counts, scope);
+    let met = traversal::blocks::meet_blocks(
+        nodes,
+        pages,
+        sketches,
+        query,
+        map,
+        &mut counts,
+        scope,
+    );
     let Tallies::Some(tally) = met else {
         marks::clear_marks(map, words);
         return Found {
@@ -46,7 +54,16 @@ fn find(
             count: 0,
         };
     };
-    listing::list_marks(sketches, query, map, &mut counts, scope, tally.count, output, distances)
+    listing::list_marks(
+        sketches,
+        query,
+        map,
+        &mut counts,
+        scope,
+        tally.count,
+        output,
+        distances,
+    )
 }
 
 // Asks 5, 6, 7, 10 and 11, then searches. Past 6, refused or not, the needed part of the working table is 0 afterwards.
@@ -86,5 +103,14 @@ pub fn search(
     let classes = rights::open_classes(settings, reader as usize);
     let probe = hits::probe_of(h, classes, sketch, radius);
     let scope = Scope { probe, words };
-    find(nodes, pages, sketches, sketch, working, scope, output, distances)
+    find(
+        nodes,
+        pages,
+        sketches,
+        sketch,
+        working,
+        scope,
+        output,
+        distances,
+    )
 }

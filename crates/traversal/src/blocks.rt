@@ -59,7 +59,17 @@ fn meet_block(
     loop {
         let links = batch.links;
         let each = chains_of(&links, batch.n, base, 0);
-        match meet(table, pages, sketches, query, map, counts, scope, each, tally) {
+        match meet(
+            table,
+            pages,
+            sketches,
+            query,
+            map,
+            counts,
+            scope,
+            each,
+            tally,
+        ) {
             Tallies::Some(met) => {
                 tally = met;
             }
@@ -111,7 +121,17 @@ fn meet_exact(
         left: (h.q * h.pages) as u32,
         count: start.count,
     };
-    match meet(table, pages, sketches, query, map, counts, scope, each, most) {
+    match meet(
+        table,
+        pages,
+        sketches,
+        query,
+        map,
+        counts,
+        scope,
+        each,
+        most,
+    ) {
         Tallies::Some(met) => Tallies::Some(Tally {
             left,
             count: met.count,
@@ -144,7 +164,17 @@ pub fn meet_blocks(
         count: 0,
     };
     if radius == 0 {
-        return meet_exact(&table, nodes, pages, sketches, query, map, counts, scope, tally);
+        return meet_exact(
+            &table,
+            nodes,
+            pages,
+            sketches,
+            query,
+            map,
+            counts,
+            scope,
+            tally,
+        );
     }
     let mut j = 0;
     while j < q {
@@ -153,7 +183,17 @@ pub fn meet_blocks(
             radius,
             tally,
         };
-        match meet_block(&table, nodes, pages, sketches, query, map, counts, scope, start) {
+        match meet_block(
+            &table,
+            nodes,
+            pages,
+            sketches,
+            query,
+            map,
+            counts,
+            scope,
+            start,
+        ) {
             Tallies::Some(met) => {
                 tally = met;
             }

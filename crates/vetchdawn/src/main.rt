@@ -5,7 +5,7 @@ use libc::STDOUT_FILENO;
 ghost use Prim.Native.Nat.{_+_, _*_, _≤_};
 ghost use lib.ListN.{length};
 ghost use Rattle.promises.specs.Tables.{tables};
-ghost use Rattle.journal_turns.specs.Turns.{output};
+ghost use Rattle.meaning.specs.Output.{output};
 ghost use Rattle.journal_turns.specs.Runs.{Ended, Completed};
 
 // Two lists for all pages, and a line that has them.

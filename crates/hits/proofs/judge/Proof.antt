@@ -1,14 +1,20 @@
 -- `judge` is `verdict`.
-use mathlib.Core.Path.{_≡_, sym, ap, _∙_}
+use mathlib.Core.Path.{_≡_, refl, sym, ap, _∙_}
+use mathlib.Core.List.{List}
 use mathlib.Core.Logic.{_≢_}
-use Prim.Native.Nat.{_-_}
+use Prim.Native.Nat.{ℕ, _-_}
 use native.Mathlib.Omega.{arith}
 use lib.ListN.{length, getD}
 use borrow.Author.Needs.{needs}
 use borrow.Author.Tests.{not-true, not-false}
+use Rattle.meaning.specs.Sketch.{distance}
+use Rattle.meaning.proofs.Sums.{distance-le}
+use Rattle.layout.specs.Pages.{rowOf}
 use Rattle.rights.specs.Open.{isOpen}
 use Rattle.comparison.specs.Shapes.{shapeOf}
-use Rattle.hits.specs.Hit.{Test, isNear, nearQuery}
+use Rattle.comparison.specs.Verdicts.{verdictOf}
+use Rattle.comparison.proofs.Verdicts.{within}
+use Rattle.hits.specs.Hit.{Test, isNear, nearQuery, verdict}
 use Rattle.hits.specs.Probes.{testBy}
 use Rattle.hits.proofs.Hit.{dead, closed, hidden, judged, page-inside, row-fits, row-long}
 use Rattle.hits.proofs.judge.Statement.{statement}
@@ -72,14 +78,42 @@ returns-3 c =
     let first = passed .before .before in
     hidden (asked (start first)) _ (start first .pre .1 .1 .1) (sym (near-answer (c .before)) ∙ not-true _ (c .if3 .taken))
 
+-- what the row then says
+by-row : (c : tie.Else3) →
+    let begun = start (c .before .before .before .before) in
+    (row : List ℕ) → row ≡ rowOf (begun .args .probe .header .m) (begun .args .sketches .now) (begun .args .p)
+    → verdictOf (distance row (begun .args .query .now)) (begun .args .probe .radius) ≡ verdict (asked begun) (begun .args .p)
+by-row c =
+    let passed = c .before .before in
+    let first = passed .before .before in
+    judged (asked (start first)) _ (start first .pre .1 .1 .1) (alive first) (sym (class-answer (passed .before)) ∙ not-false _ (passed .if2 .left))
+    (sym (near-answer (c .before)) ∙ not-false _ (c .if3 .left))
+
+cast-if4 : tie.Need-cast-if4
+cast-if4 c = search needs
+
+measure-requires : tie.Need-measure-requires
+measure-requires c κs =
+    let begun = start (c .before .before .before .before .before .before .before) in
+    let fit = begun .pre .1 .0 in
+    (fit .limits, (fit .sketches, (fit .query, begun .pre .1 .1 .1)))
+
+returns-4 : tie.Need-returns-4
+returns-4 c =
+    let wide = c .before in
+    let near = wide .before .before .before in
+    let begun = start (near .before .before .before .before) in
+    within _ _ _ (c .measure .ensures) (omega (arith, wide .if4 .taken, begun .pre .1 .0 .query, distance-le (rowOf (begun .args .probe .header .m) (begun .args .sketches .now) (begun .args .p)) (begun .args .query .now)))
+    ∙ by-row near _ refl
+
 row-requires : tie.Need-row-requires
 row-requires c κs =
-    let begun = start (c .before .before .before .before) in
+    let begun = start (c .before .before .before .before .before .before .before) in
     row-fits (asked begun) _ (begun .pre .1 .1 .1) (begun .pre .1 .0)
 
 compare-requires : tie.Need-compare-requires
 compare-requires c κs =
-    let begun = start (c .before .before .before .before .before) in
+    let begun = start (c .before .before .before .before .before .before .before .before) in
     let fit = begun .pre .1 .0 in
     let long = ap length (c .row .ensures .0) ∙ row-long (asked begun) _ (begun .pre .1 .1 .1) fit in (
       record {
@@ -91,15 +125,8 @@ compare-requires c κs =
       long ∙ sym (fit .query),
     )
 
-returns-4 : tie.Need-returns-4
-returns-4 c =
-    let row = c .before in
-    let near = row .before in
-    let passed = near .before .before in
-    let first = passed .before .before in
-    c .compare .ensures
-    ∙ judged (asked (start first)) _ (start first .pre .1 .1 .1) (alive first) (sym (class-answer (passed .before)) ∙ not-false _ (passed .if2 .left))
-    (sym (near-answer (near .before)) ∙ not-false _ (near .if3 .left)) _ (row .row .ensures .0)
+returns-5 : tie.Need-returns-5
+returns-5 c = c .compare .ensures ∙ by-row (c .before .before .before .before .before) _ (c .before .row .ensures .0)
 
 pub judge-spec : {M : Type 1} → statement M
 judge-spec =
@@ -112,6 +139,9 @@ judge-spec =
     returns-2
     is-near-requires
     returns-3
+    cast-if4
+    measure-requires
+    returns-4
     row-requires
     compare-requires
-    returns-4)
+    returns-5)

@@ -6,7 +6,8 @@ use mathlib.Core.List.{List, [], _++_}
 use native.Mathlib.Omega.{arith}
 use lib.ListN.{length}
 use Rattle.promises.specs.Tables.{Tables, tables}
-use Rattle.journal_turns.specs.Turns.{Output, output, State, state, Turned}
+use Rattle.meaning.specs.Output.{Output, output}
+use Rattle.journal_turns.specs.Turns.{State, state, Turned}
 use Rattle.journal_turns.specs.Runs.{events, begins, turns, Ran}
 use Rattle.journal_turns.proofs.Turns.{turn-inside, turn-on}
 use Rattle.vetchdawn.proofs.run_on.Statement.{statement}
