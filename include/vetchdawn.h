@@ -121,9 +121,11 @@ uint32_t vetch_revoke(uint32_t *settings, size_t settings_len, uint32_t group,
  * of distances: the nearest first, and those at one distance by rising page
  * number. On damaged tables some of them may be missing. *count is how many
  * there are, with 13 too: so many places each of the two lists needs, and where
- * either has fewer both keep their contents. With any other refusal it is 0. The
- * needed part of the working table holds zeros afterwards, unless 5 or 6 refused
- * the call. */
+ * either has fewer both keep their contents. With any other refusal it is 0. With
+ * as many places as the page capacity in both, 13 never occurs; neither list can
+ * be left out, and they must not overlap. A distance is at most the radius and at
+ * most m. The needed part of the working table holds zeros afterwards, unless 5
+ * or 6 refused the call. */
 uint32_t vetch_search(const uint32_t *settings, size_t settings_len,
                       const uint32_t *nodes, size_t nodes_len,
                       const uint32_t *pages, size_t pages_len,
