@@ -1,6 +1,6 @@
 -- Laws of tests and of lists of numbers, and of the rows of the live pages among a run of page numbers.
 use mathlib.Core.Path.{_≡_, refl, sym, ap, _∙_, fun-ext}
-use mathlib.Core.Bool.{Bool, true, false, cond, _&&_, not, and-true, or-false, true≢false}
+use mathlib.Core.Bool.{Bool, true, false, cond, _&&_, _||_, not, and-true, or-false, true≢false}
 use mathlib.Core.Logic.{_≢_}
 use mathlib.Core.List.{List, [], _∷_, map}
 use Prim.Native.Nat.{ℕ, zero, suc, _+_, _≤_, _<_}
@@ -306,6 +306,29 @@ pub any-map : (rs : List Row) (p : ℕ) → any (λ r. eqb (r .page) p) rs ≡ a
 unfolding any
 any-map [] p = refl
 any-map (r ∷ rs) p = rw (any-map rs p)
+
+-- ---- a number stands at most once among rising ones
+later : (p : ℕ) (xs : List ℕ) → all (ltb p) xs ≡ true → count (λ n. eqb n p) xs ≡ 0
+unfolding all count
+later p [] h = refl
+later p (x ∷ xs) h =
+    rw (ne-eqb x p (omega (arith, ltb-true p x (and-first (ltb p x) (all (ltb p) xs) h))), later p xs (and-second (ltb p x) (all (ltb p) xs) h))
+    (omega arith)
+
+pub rising-once : (p : ℕ) (xs : List ℕ) → ordered ltb xs ≡ true → count (λ n. eqb n p) xs ≡ cond (any (λ n. eqb n p) xs) 1 0
+unfolding ordered count any
+rising-once p [] h = refl
+rising-once p (x ∷ xs) h = go (eqb x p) refl (rising-once p xs (and-second (all (ltb x) xs) (ordered ltb xs) h))
+  where
+    go : (t : Bool) → eqb x p ≡ t → count (λ n. eqb n p) xs ≡ cond (any (λ n. eqb n p) xs) 1 0
+        → cond t 1 0 + count (λ n. eqb n p) xs ≡ cond (t || any (λ n. eqb n p) xs) 1 0
+    go true e ih = rw (later p xs (rw (eqb-true x p e) at (and-first (all (ltb x) xs) (ordered ltb xs) h))) (omega arith)
+    go false e ih = rw ih (omega arith)
+
+pub count-map : {A : Type 0} (f : A → ℕ) (q : ℕ → Bool) (xs : List A) → count q (map f xs) ≡ count (λ x. q (f x)) xs
+unfolding count
+count-map f q [] = refl
+count-map f q (x ∷ xs) = rw (count-map f q xs)
 
 -- ---- in rows of rising pages each row's sketch is the one found by its page
 module _ (d : List ℕ → ℕ) where

@@ -26,7 +26,7 @@ use Rattle.promises.specs.Relation.{Answer, toShow, Promised}
 use Rattle.promises.proofs.Readings.{number-show}
 use Rattle.history.specs.History.{History, begun, called, foreign, admitted, judged, RightlyPut, Found, sketchIn, Claim, Agree}
 use Rattle.history.proofs.Represents.{found-eq, number-eq}
-use Rattle.history.proofs.Searches.{all-near, nearest-above, refuses, finds, shows-row}
+use Rattle.history.proofs.Searches.{all-near, nearest-above, listed-once, refuses, finds, shows-row}
 use Rattle.history.proofs.Searches.{agreed as agreed-in}
 use Rattle.history.proofs.Numbers.{Shows, numbers}
 use Rattle.history.proofs.Keeps.{begins, zeros-left, goes-on}
@@ -72,7 +72,8 @@ unfolding entered judged admitted asked firstNo
 theorem {es} {T} h = record {
   refusals = numbers T L F W;
   searches = found T L F W;
-  once = nearest-above T L (W .tables);
+  once = listed-once T L (W .tables);
+  in-order = nearest-above T L (W .tables);
   all-listed = λ reader radius x q. count-nearest q (far x) radius (calledFor L reader radius x) (all-near L reader radius x);
   shows = λ reader q a T′ p. p .0 .1 ∙ row-shown T L F W reader q;
   checks = λ a T′ p. p .0 .whole (numbers T L F W (reading check) a T′ p) F (W .store);

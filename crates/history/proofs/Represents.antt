@@ -157,7 +157,7 @@ module _ (T : Tables) (L : Ledger) (R : Represents T L) where
       ∙ sym (rows-any live row (λ i. refl) (λ r. openTo (L .register) reader (r .class)) p 0 (L .settings .pages) (omega arith) (omega arith)))
 
   -- the pages of the rows called for
-  pub scan-eq : (reader radius : ℕ) (x : List ℕ) → reader < 256 → scan T reader radius x ≡ map (λ r. r .page) (calledFor L reader radius x)
+  scan-eq : (reader radius : ℕ) (x : List ℕ) → reader < 256 → scan T reader radius x ≡ map (λ r. r .page) (calledFor L reader radius x)
   unfolding scan calledFor pageRow upto
   scan-eq reader radius x hr =
       rw (given-eq, rows-eq)

@@ -9,7 +9,7 @@ use native.Mathlib.Omega.{arith}
 use lib.Dec.{ltb, leb, eqb}
 use lib.ListN.{length}
 use borrow.Author.Tests.{eqb-true, ltb-true, leb-true, eq-eqb, lt-ltb, le-leb}
-use Rattle.meaning.specs.Lists.{all, ordered}
+use Rattle.meaning.specs.Lists.{all, any, count, ordered}
 use Rattle.meaning.specs.Refusal.{firstNo}
 use Rattle.meaning.specs.Sketch.{distance, inRange}
 use Rattle.meaning.specs.Output.{Output, hasRoom, nearest, listing, bothLeft}
@@ -23,8 +23,8 @@ use Rattle.promises.specs.Tables.{Tables, pageRow, pageDistance, isShown, scan}
 use Rattle.promises.specs.Answers.{number}
 use Rattle.promises.specs.Readings.{Lists}
 use Rattle.history.specs.History.{admitted, judged, RightlyPut, Found, sketchIn, Agree}
-use Rattle.meaning.proofs.Nearest.{keep-all, ordered-nearest, ordered-map, listing-pages}
-use Rattle.history.proofs.Lists.{passed, not-by, rows-sketch, rows-keep, rising-keep, rising-ext, any-map, own-sketch}
+use Rattle.meaning.proofs.Nearest.{keep-all, count-nearest, ordered-nearest, ordered-map, listing-pages}
+use Rattle.history.proofs.Lists.{passed, not-by, rows-sketch, rows-keep, rising-keep, rising-ext, any-map, rising-once, count-map, own-sketch}
 use Rattle.history.proofs.Pages.{rowAt}
 use Rattle.history.proofs.Represents.{Represents, given-eq, rows-eq, shown-eq, found-eq, listed-eq, number-eq}
 
@@ -42,6 +42,12 @@ put-rightly T L F reader radius x o n e not7 not10 not11 =
       whole = eqb-true (length x) (L .settings .symbols) (h10 .0);
       symbols = h11 .0;
     }
+
+-- all rows called for are within the radius
+pub all-near : (L : Ledger) (reader radius : ℕ) (x : List ℕ) → all (λ r. leb (far x r) radius) (calledFor L reader radius x) ≡ true
+unfolding calledFor
+all-near L reader radius x =
+    keep-all (λ r. leb (far x r) radius) _ (λ r. and-second (openTo (L .register) reader (r .class)) (leb (far x r) radius)) (L .rows)
 
 module _ (T : Tables) (L : Ledger) (R : Represents T L) where
   -- the rows called for, by their pages
@@ -61,6 +67,18 @@ module _ (T : Tables) (L : Ledger) (R : Represents T L) where
   nearest-above reader radius x =
       ordered-nearest (far x) (λ r s. ltb (r .page) (s .page)) radius (calledFor L reader radius x)
       (sym (ordered-map (λ r. r .page) ltb (calledFor L reader radius x)) ∙ rising-pages reader radius x)
+
+  -- each page once
+  pub listed-once : (reader radius : ℕ) (x : List ℕ) (p : ℕ)
+      → count (λ n. eqb n p) (listed L reader radius x .pages) ≡ cond (any (λ r. eqb (r .page) p) (calledFor L reader radius x)) 1 0
+  unfolding listed listing
+  listed-once reader radius x p =
+      let rows = calledFor L reader radius x in
+      count-map (λ r. r .page) (λ n. eqb n p) (nearest (far x) radius rows)
+      ∙ count-nearest (λ r. eqb (r .page) p) (far x) radius rows (all-near L reader radius x)
+      ∙ sym (count-map (λ r. r .page) (λ n. eqb n p) rows)
+      ∙ rising-once p (map (λ r. r .page) rows) (rising-pages reader radius x)
+      ∙ ap (λ t. cond t 1 0) (sym (any-map rows p))
 
   module _ (F : List Tree) (reader radius : ℕ) (x : List ℕ) (o : Output) (put : RightlyPut L reader radius x) where
     pub refuses : number T F (reading (search reader radius x o)) ≡ cond (hasRoom (length (calledFor L reader radius x)) o) 0 13
@@ -104,12 +122,6 @@ module _ (T : Tables) (L : Ledger) (R : Represents T L) (F : List Tree) (reader 
       go : (t : Bool) → eqb (judged T L F (reading (show reader p))) 0 ≡ t → cond t (pageRow T p) [] ≡ cond t (sketchIn (L .rows) p) []
       go true e = row (live-shown (eqb-true (judged T L F (reading (show reader p))) 0 e))
       go false e = refl
-
--- all rows called for are within the radius
-pub all-near : (L : Ledger) (reader radius : ℕ) (x : List ℕ) → all (λ r. leb (far x r) radius) (calledFor L reader radius x) ≡ true
-unfolding calledFor
-all-near L reader radius x =
-    keep-all (λ r. leb (far x r) radius) _ (λ r. and-second (openTo (L .register) reader (r .class)) (leb (far x r) radius)) (L .rows)
 
 -- ---- two ledgers
 

@@ -72,10 +72,12 @@ pub record Claim (T : Tables) (L : Ledger) (F : List Tree) : Type 0 where
   -- a search rightly put
   pub searches : (reader radius : ℕ) (x : List ℕ) (o : Output) (a : Answer) (T′ : Tables) → Promised (reading (search reader radius x o)) T a T′
       → RightlyPut L reader radius x → Found L reader radius x o (a .number) (a .count) (a .output)
-  -- what is listed is, by definition, the pages and the distances of these rows: nearer rows above, and rows that are as far in rising
-  -- pages, none twice
-  pub once : (reader radius : ℕ) (x : List ℕ) → ordered (above x) (nearest (far x) radius (calledFor L reader radius x)) ≡ true
-  -- every row called for stands there: as many pass a test as of those called for, whatever the test
+  -- each page called for stands in its list once, and no other page stands there
+  pub once : (reader radius : ℕ) (x : List ℕ) (p : ℕ)
+      → count (λ n. eqb n p) (listed L reader radius x .pages) ≡ cond (any (λ r. eqb (r .page) p) (calledFor L reader radius x)) 1 0
+  -- what is listed is, by definition, the pages and the distances of these rows: nearer rows above, and rows that are as far in rising pages
+  pub in-order : (reader radius : ℕ) (x : List ℕ) → ordered (above x) (nearest (far x) radius (calledFor L reader radius x)) ≡ true
+  -- they are the rows called for: as many pass a test, whatever the test
   pub all-listed : (reader radius : ℕ) (x : List ℕ) (q : Row → Bool)
       → count q (nearest (far x) radius (calledFor L reader radius x)) ≡ count q (calledFor L reader radius x)
   -- a show gives the page's row, and nothing where it is refused

@@ -17,7 +17,6 @@ use Rattle.layout.specs.Lengths.{pagesLength, sketchesLength}
 use Rattle.layout.specs.Pages.{isLive, classOf, signatureAt, rowOf}
 use Rattle.layout.proofs.Rows.{row-inside, length-row}
 use Rattle.rights.specs.Open.{isOpen}
-use Rattle.comparison.specs.declared.Verdict.{Verdict}
 use Rattle.comparison.specs.declared.Verdict.the-variants.{Within, Beyond}
 use Rattle.comparison.specs.Verdicts.{verdictOf}
 use Rattle.signature.proofs.Most.{signature-most}

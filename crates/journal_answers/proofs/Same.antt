@@ -12,10 +12,10 @@ use Rattle.journal.specs.Steps.{meant}
 use Rattle.journal.specs.declared.commands.Command.{Command}
 use Rattle.journal.proofs.commands.Command.{the-type}
 use Rattle.journal.specs.declared.commands.Command.the-variants.{Open, Add, Drop, Register, Search}
-use Rattle.journal_answers.specs.Lines.{symbolsAfter, listing, lineOf}
+use Rattle.journal_answers.specs.Lines.{symbolsAfter, acceptedLine, lineOf}
 
-pub same-listing : (m : ℕ) (bytes : List ℕ) (c : Command) (a : Answer) → listing (meant 0 [] c) a ≡ listing (meant m bytes c) a
-unfolding meant listing
+pub same-listing : (m : ℕ) (bytes : List ℕ) (c : Command) (a : Answer) → acceptedLine (meant 0 [] c) a ≡ acceptedLine (meant m bytes c) a
+unfolding meant acceptedLine
 same-listing m bytes (Open b n q t) a = refl
 same-listing m bytes (Add p c s) a = refl
 same-listing m bytes (Drop p) a = refl
@@ -41,8 +41,8 @@ not-last = 0 ∷ 1 ∷ 2 ∷ 3 ∷ []
 abbrev pub not-first : List ℕ
 not-first = 1 ∷ 2 ∷ 3 ∷ 4 ∷ []
 
-pub no-listing : (c : Command) (a : Answer) → OneOf not-last (tagOf the-type c) → listing (meant 0 [] c) a ≡ []
-unfolding meant listing
+pub no-listing : (c : Command) (a : Answer) → OneOf not-last (tagOf the-type c) → acceptedLine (meant 0 [] c) a ≡ []
+unfolding meant acceptedLine
 no-listing (Open b n q t) a h = refl
 no-listing (Add p c s) a h = refl
 no-listing (Drop p) a h = refl

@@ -19,9 +19,9 @@ abbrev pub cut : ℕ → Output → Output
 cut n o = output (take n (o .pages)) (take n (o .distances))
 
 -- what an accepted command writes
-unfoldable pub listing : Command → Answer → List ℕ
-listing c a = ifSearch c (λ r. searchLine r (cut (a .count) (a .output))) []
+unfoldable pub acceptedLine : Command → Answer → List ℕ
+acceptedLine c a = ifSearch c (λ r. searchLine r (cut (a .count) (a .output))) []
 
 -- what a command at an offset writes: a refused one its E line
 unfoldable pub lineOf : ℕ → Command → Answer → List ℕ
-lineOf at c a = cond (eqb (a .number) 0) (listing c a) (refusalLine at (a .number))
+lineOf at c a = cond (eqb (a .number) 0) (acceptedLine c a) (refusalLine at (a .number))

@@ -7,7 +7,7 @@ ghost use lib.Seq.{sets};
 ghost use Rattle.meaning.specs.Output.{output};
 ghost use Rattle.journal.specs.Steps.{meant};
 ghost use Rattle.journal_answers.specs.Answers.{answer};
-ghost use Rattle.journal_answers.specs.Lines.{symbolsAfter, listing, lineOf};
+ghost use Rattle.journal_answers.specs.Lines.{symbolsAfter, acceptedLine, lineOf};
 use journal::commands::Command;
 use journal_lines::refusal_line;
 use journal_lines::search_line;
@@ -23,8 +23,8 @@ fn listing_line(
     requires { ⌜ (count ≤ length (now found)) × (count ≤ length (now distances)) ⌝ }
     requires { ⌜ length (now found) ≤ 65535 ⌝ }
     requires { ⌜ 24 + 22 * length (now found) ≤ length (now line) ⌝ }
-    ensures { λ r. ⌜ now (line .exit) ≡ sets (now (line .entry)) 0 (listing (meant 0 [] command) (answer 0 count (output (now (found .entry)) (now (distances .entry))))) ⌝ }
-    ensures { λ r. ⌜ r ≡ length (listing (meant 0 [] command) (answer 0 count (output (now (found .entry)) (now (distances .entry))))) ⌝ }
+    ensures { λ r. ⌜ now (line .exit) ≡ sets (now (line .entry)) 0 (acceptedLine (meant 0 [] command) (answer 0 count (output (now (found .entry)) (now (distances .entry))))) ⌝ }
+    ensures { λ r. ⌜ r ≡ length (acceptedLine (meant 0 [] command) (answer 0 count (output (now (found .entry)) (now (distances .entry))))) ⌝ }
     ensures { λ r. ⌜ r ≤ length (now (line .exit)) ⌝ }
 {
     match command {

@@ -16,7 +16,7 @@ use Rattle.promises.specs.Tables.{Tables}
 use Rattle.promises.specs.Relation.{Answer, Promised}
 use Rattle.history.specs.History.{History, event, Claim}
 use Rattle.history.proofs.Main.{theorem}
-use Rattle.journal_answers.specs.Answers.{made}
+use Rattle.journal_answers.specs.Answers.{pageCapacity, made}
 use Rattle.journal_turns.specs.Turns.{State, state, goesOn, Carried, ends, refuses, carries}
 use Rattle.journal_turns.specs.Runs.{Run, begins, turns, opened, Roomy, Ended, Completed}
 use Rattle.journal_turns.proofs.Reading.{first-opens}
@@ -123,13 +123,15 @@ module _ {bytes : List ℕ} {T : Tables} {found : Output} (long : Roomy T) where
   two-opened (turns {es = []} r line going s′ (carries c to a e h)) l = absurd (omega arith)
   two-opened (turns {es = x ∷ es} r line going s′ (carries c to a e h)) l = going-opened r refl refl
 
-  pub completes : {T′ : Tables} {found′ : Output} {at : ℕ} → Ended bytes T found T′ found′ at → Completed bytes at
-  completes {T′} {found′} e = record {
+  pub completes : {T′ : Tables} {found′ : Output} {at : ℕ} → (pageCapacity ≤ length (found .pages)) × (pageCapacity ≤ length (found .distances))
+      → Ended bytes T found T′ found′ at → Completed bytes at
+  completes {T′} {found′} l e = record {
     before = T;
     after = T′;
     found = found;
     found′ = found′;
     roomy = long;
+    places = l;
     ended = e;
     history = is-history (e .ran .run);
     claim = run-claim (e .ran .run);

@@ -72,6 +72,8 @@ pub record Completed (bytes : List ℕ) (at : ℕ) : Type 0 where
   pub found : Output
   pub found′ : Output
   pub roomy : Roomy before
+  -- each list has a place for every page, so that no search of it gives 13
+  pub places : (pageCapacity ≤ length (found .pages)) × (pageCapacity ≤ length (found .distances))
   pub ended : Ended bytes before found after found′ at
   -- where its I was accepted it is a history of these calls, and the claim about histories holds of the tables that it leaves
   pub history : opened (ended .ran .calls) ≡ true → History (ended .ran .calls) after

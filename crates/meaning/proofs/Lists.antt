@@ -1,4 +1,4 @@
--- Tests of two parts; laws of `all`, `any`, `keep`, `count` and `onto`, and of the numbers k, k + 1, ..
+-- Tests of two parts; laws of `all`, `any`, `keep`, `count`, `onto` and `sum`, and of the numbers k, k + 1, ..
 use Prim.Native.Nat.{ℕ, zero, suc, _+_, _≤_, _<_}
 use native.Mathlib.Omega.{arith}
 use mathlib.Core.Path.{_≡_, refl, sym, ap, _∙_}
@@ -7,7 +7,7 @@ use mathlib.Core.List.{List, [], _∷_, _++_, map}
 use lib.Dec.{eqb}
 use lib.ListN.{length, getD, drop, length-append, length-drop, length-map}
 use borrow.Author.Tests.{eqb-true, eqb-false, eq-eqb, ne-eqb}
-use Rattle.meaning.specs.Lists.{all, any, keep, count, onto, from, upto}
+use Rattle.meaning.specs.Lists.{all, any, keep, count, onto, from, upto, sum}
 
 pub not-so : (t : Bool) → (t ≡ true → ⊥) → t ≡ false
 not-so true h = absurd (h refl)
@@ -67,11 +67,34 @@ module _ {A : Type 0} (p : A → Bool) where
       go true h = omega arith
       go false h = omega arith
 
+  pub length-keep : (xs : List A) → length (keep p xs) ≡ count p xs
+  unfolding keep count
+  length-keep [] = refl
+  length-keep (x ∷ xs) = go (p x) (length-keep xs)
+    where
+      go : (t : Bool) → length (keep p xs) ≡ count p xs → length (cond t (x ∷ keep p xs) (keep p xs)) ≡ cond t 1 0 + count p xs
+      go true h = omega arith
+      go false h = omega arith
+
+  pub keep-append : (xs ys : List A) → keep p (xs ++ ys) ≡ keep p xs ++ keep p ys
+  unfolding keep
+  keep-append [] ys = refl
+  keep-append (x ∷ xs) ys = rw (keep-append xs ys) (go (p x))
+    where
+      go : (t : Bool) → cond t (x ∷ (keep p xs ++ keep p ys)) (keep p xs ++ keep p ys) ≡ cond t (x ∷ keep p xs) (keep p xs) ++ keep p ys
+      go true = refl
+      go false = refl
+
 -- all of them
 pub count-every : {A : Type 0} (xs : List A) → count (λ x. true) xs ≡ length xs
 unfolding count
 count-every [] = refl
 count-every (x ∷ xs) = omega (arith, count-every xs)
+
+pub sum-append : (xs ys : List ℕ) → sum (xs ++ ys) ≡ sum xs + sum ys
+unfolding sum
+sum-append [] ys = omega arith
+sum-append (x ∷ xs) ys = omega (arith, sum-append xs ys)
 
 pub length-onto : (xs table : List ℕ) → length xs ≤ length table → length (onto xs table) ≡ length table
 unfolding onto

@@ -4,7 +4,7 @@ use native.Mathlib.Omega.{arith}
 use mathlib.Core.Path.{_≡_, refl, sym, ap, _∙_}
 use mathlib.Core.Bool.{Bool, true, false, cond, _&&_, _||_}
 use mathlib.Core.Logic.{_≢_}
-use mathlib.Core.List.{List, [], _∷_, _++_, map}
+use mathlib.Core.List.{List, [], _∷_, _++_, map, map-append, map-map, map-id}
 use lib.Dec.{ltb, leb, eqb}
 use lib.ListN.{length}
 use borrow.Author.Tests.{eqb-true, eqb-false, ltb-true, leb-true, eq-eqb, ne-eqb, lt-ltb}
@@ -221,10 +221,6 @@ module _ {A : Type 0} (f g : A → ℕ) where
       )
 
 module _ {A B : Type 0} (h : A → B) where
-  map-append : (xs ys : List A) → map h (xs ++ ys) ≡ map h xs ++ map h ys
-  map-append [] ys = refl
-  map-append (x ∷ xs) ys = rw (map-append xs ys)
-
   map-keep : (p : B → Bool) (xs : List A) → map h (keep (λ x. p (h x)) xs) ≡ keep p (map h xs)
   unfolding keep
   map-keep p [] = refl
@@ -239,7 +235,7 @@ module _ {A B : Type 0} (h : A → B) where
   unfolding grouped
   map-grouped f [] xs = refl
   map-grouped f (n ∷ ns) xs =
-      map-append (keep (λ x. eqb (f (h x)) n) xs) (grouped (λ x. f (h x)) ns xs)
+      map-append h (keep (λ x. eqb (f (h x)) n) xs) (grouped (λ x. f (h x)) ns xs)
       ∙ rw (map-keep (λ y. eqb (f y) n) xs, map-grouped f ns xs)
 
   all-of : (p : B → Bool) (xs : List A) → all p (map h xs) ≡ all (λ x. p (h x)) xs
@@ -252,14 +248,6 @@ module _ {A B : Type 0} (h : A → B) where
   ordered-map over [] = refl
   ordered-map over (x ∷ xs) = rw (all-of (over (h x)) xs, ordered-map over xs)
 
-  map-map : (f : B → ℕ) (xs : List A) → map (λ x. f (h x)) xs ≡ map f (map h xs)
-  map-map f [] = refl
-  map-map f (x ∷ xs) = rw (map-map f xs)
-
-map-itself : (xs : List ℕ) → map (λ x. x) xs ≡ xs
-map-itself [] = refl
-map-itself (x ∷ xs) = rw (map-itself xs)
-
 -- elements that are as far as their page numbers say are listed as these numbers would be
 pub listing-pages : {A : Type 0} (page far : A → ℕ) (h : ℕ → ℕ) (radius : ℕ) (xs : List A) → all (λ x. eqb (far x) (h (page x))) xs ≡ true
     → listing page far radius xs ≡ listing (λ p. p) h radius (map page xs)
@@ -267,7 +255,7 @@ unfolding listing nearest
 listing-pages page far h radius xs e =
     listing-same far (λ x. h (page x)) page radius xs e
     ∙ rw (
-      map-map page h (grouped (λ x. h (page x)) (upto (suc radius)) xs),
+      ← map-map h page (grouped (λ x. h (page x)) (upto (suc radius)) xs),
       map-grouped page h (upto (suc radius)) xs,
-      map-itself (grouped h (upto (suc radius)) (map page xs)),
+      map-id (grouped h (upto (suc radius)) (map page xs)),
     )

@@ -19,7 +19,7 @@ unfoldable pub hasRoom : ℕ → Output → Bool
 hasRoom n o = leb n (length (o .pages)) && leb n (length (o .distances))
 
 module _ {A : Type 0} where
-  -- for each distance from 0 to the radius those that are so far, in the order in which they stand
+  -- for each distance from 0 to the radius those that are so far, in the order in which they stand: a stable sort by distance
   unfoldable pub nearest : (A → ℕ) → ℕ → List A → List A
   nearest far radius xs = grouped far (upto (suc radius)) xs
 

@@ -22,7 +22,7 @@ use Rattle.meeting.specs.Mets.{Kept, Met}
 use Rattle.meeting.specs.Turns.{Turned}
 
 -- ---- what is kept
-pub kept-same : (words : ℕ) (map : List ℕ) → Kept words map map
+kept-same : (words : ℕ) (map : List ℕ) → Kept words map map
 kept-same words map = record { long = refl; behind = refl }
 
 pub kept-on : {words : ℕ} {a b c : List ℕ} → Kept words a b → Kept words b c → Kept words a c

@@ -2,10 +2,10 @@
 use Prim.Native.Nat.{ℕ, _*_, _≤_, _<_}
 use native.Mathlib.Omega.{arith}
 use mathlib.Core.Path.{_≡_, refl, sym, ap, _∙_}
-use mathlib.Core.Bool.{Bool, true, false, _&&_}
+use mathlib.Core.Bool.{true, false, _&&_}
 use mathlib.Core.List.{List, []}
 use lib.Dec.{ltb, leb, eqb}
-use lib.ListN.{length, getD, replicate, getD-replicate, length-replicate}
+use lib.ListN.{length, replicate, getD-replicate, length-replicate}
 use borrow.Author.Tests.{lt-ltb, le-leb}
 use Rattle.meaning.specs.Lists.{all, any, count, upto}
 use Rattle.meaning.specs.Output.{Output}
@@ -50,13 +50,13 @@ answers-listed m t out ps k n count after e l = record {
 
 -- the walks ended
 module _ {t : Test} {words : ℕ} {m : Meets} {map after counts : List ℕ} {a : Tallies} (r : Meeting t words m map after counts a) (n : Tally) (e : a ≡ Some n) where
-  pub found-summary : Summarised map words → Summarised after words
+  found-summary : Summarised map words → Summarised after words
   found-summary = r .some n e .2 .summarised
 
   pub found-count : n .count ≡ length (listOf after words)
   found-count = r .some n e .3 .all
 
-  pub found-counts : Counts (far t) after words counts
+  found-counts : Counts (far t) after words counts
   found-counts = r .some n e .3 .each
 
   -- no page was marked before
@@ -94,9 +94,7 @@ module _ {pages sketches query map after counts : List ℕ} {s : Scope} (ready :
   found-listable r n e none summary = record {
     room = kept-room (r .kept) (ready .room);
     summarised = found-summary r n e summary;
-    limits = ready .fitting .limits;
-    rows = ready .fitting .sketches;
-    query = ready .fitting .query;
+    measurable = record { limits = ready .fitting .limits; rows = ready .fitting .sketches; query = ready .fitting .query };
     counts = found-counts r n e;
     near = found-near r n e none (ready .bits);
   }

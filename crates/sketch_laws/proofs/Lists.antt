@@ -9,7 +9,7 @@ use mathlib.Core.Bool.{Bool, true, false, cond, _&&_, _||_, and-true, false≢tr
 use mathlib.Core.List.{List, [], _∷_, _++_, map, map-append}
 use lib.Dec.{eqb}
 use Rattle.meaning.specs.Lists.{all, any, count, from, upto, sum}
-use Rattle.meaning.proofs.Lists.{and-intro, or-first, or-second, not-so, all-append, any-append, count-append, upto-suc, upto-all}
+use Rattle.meaning.proofs.Lists.{and-intro, or-first, or-second, not-so, all-append, any-append, count-append, upto-suc, upto-all, sum-append}
 
 pub or-cases : (s t : Bool) → s || t ≡ true → (s ≡ true) ⊎ (t ≡ true)
 or-cases true t h = inl refl
@@ -74,11 +74,6 @@ count-same p q (suc n) h =
     ∙ sym (count-suc q n)
 
 -- ---- sums
-pub sum-append : (xs ys : List ℕ) → sum (xs ++ ys) ≡ sum xs + sum ys
-unfolding sum
-sum-append [] ys = omega arith
-sum-append (x ∷ xs) ys = omega (arith, sum-append xs ys)
-
 pub sum-suc : (f : ℕ → ℕ) (n : ℕ) → sum (map f (upto (suc n))) ≡ sum (map f (upto n)) + f n
 unfolding sum
 sum-suc f n =

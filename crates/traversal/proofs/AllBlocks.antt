@@ -35,7 +35,7 @@ module _ (h : Header) (N P x : List ℕ) (r : ℕ) where
   blocks-exact radius nodes e z n = rw (← e, z, n)
 
   -- a block leaves no more of the nodes than it was given
-  pub block-left : (j nodes : ℕ) (ps : List ℕ) (k : ℕ) → meetBlock h N P x r j nodes ≡ met ps k → k ≤ nodes
+  block-left : (j nodes : ℕ) (ps : List ℕ) (k : ℕ) → meetBlock h N P x r j nodes ≡ met ps k → k ≤ nodes
   unfolding meetBlock
   block-left j nodes ps k = go (walkFrom (walkOf h N P x j) j r nodes) refl
     where

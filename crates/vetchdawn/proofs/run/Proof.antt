@@ -1,4 +1,4 @@
--- The program's tables are as long as `Roomy` asks, so that a run on them is complete.
+-- The program's tables are as long as `Roomy` asks, and its lists have a place for every page, so that a run on them is complete.
 use borrow.Author.Needs.{needs}
 use Rattle.journal_turns.proofs.Runs.{completes}
 use Rattle.vetchdawn.proofs.run.Statement.{statement}
@@ -34,7 +34,7 @@ run-on-requires c κs = search needs
 returns : tie.Need-returns
 returns c =
     let e = c .before .before .before .before .before .before .before .before .run-on .ensures in
-    (completes (record { settings = search needs; nodes = search needs; pages = search needs; sketches = search needs; working = search needs }) (e .0), e .1)
+    (completes (record { settings = search needs; nodes = search needs; pages = search needs; sketches = search needs; working = search needs }) (search needs, search needs) (e .0), e .1)
 
 pub run-spec : {M : Type 1} → statement M
 run-spec =

@@ -1,4 +1,4 @@
--- `command_line`: a refused command has its E line, an accepted one its listing.
+-- `command_line`: a refused command has its E line, an accepted one what it writes.
 use borrow.Author.Needs.{needs}
 use borrow.Author.Tests.{ne-eqb}
 use Rattle.journal_answers.specs.Lines.{lineOf}

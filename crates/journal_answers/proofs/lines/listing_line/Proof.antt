@@ -4,7 +4,7 @@ use native.Mathlib.Omega.{arith}
 use lib.Seq.{length-take-le}
 use borrow.Author.Needs.{needs}
 use Rattle.journal.specs.Steps.{meant}
-use Rattle.journal_answers.specs.Lines.{listing}
+use Rattle.journal_answers.specs.Lines.{acceptedLine}
 use Rattle.journal_answers.proofs.Same.{no-listing}
 use Rattle.journal_answers.proofs.lines.listing_line.Statement.{statement}
 use Rattle.journal_answers.proofs.lines.listing_line.Tie as tie
@@ -29,7 +29,7 @@ same-length : tie.Need-same-length
 same-length c = search needs
 
 returns : tie.Need-returns
-unfolding meant listing
+unfolding meant acceptedLine
 returns c =
     let e = c .before .before .search-line .ensures in
     rw (c .before .before .before .before .before .before .before .command .given .1) (e .0, (e .1 .0, e .1 .1))

@@ -1,9 +1,8 @@
 -- `meet_blocks`: the blocks from j on are still to be walked, with what is left of the nodes.
 use Prim.Native.Nat.{_-_, _≤_, _<_}
 use native.Mathlib.Omega.{arith}
-use mathlib.Core.Path.{refl, sym, ap}
+use mathlib.Core.Path.{refl, sym}
 use borrow.Author.Needs.{needs}
-use lib.ListN.{length}
 use Rattle.hits.specs.Probes.{testBy}
 use Rattle.traversal.specs.Meets.{meetFrom, meetBlocks}
 use Rattle.traversal.proofs.Going.{Going, going-start, going-same, meeting-same}
