@@ -15,17 +15,45 @@ fn symbols_fit(b: u32, x: &[u8]) -> bool {
     x.iter().all(|&s| u32::from(s) < 1 << b)
 }
 
-/// The number of places where two sketches differ.
-#[inline(never)]
-pub fn measure(b: u32, m: u32, x: &[u8], y: &[u8]) -> Answer<u32> {
+fn pair_asked(b: u32, m: u32, x: &[u8], y: &[u8]) -> Answer<()> {
     limits(b, m)?;
-    if x.len() != m as usize || y.len() != m as usize {
-        return Err(10);
-    }
+    if x.len() == m as usize && y.len() == m as usize { Ok(()) } else { Err(10) }
+}
+
+/// The number of places where two sketches differ.
+pub fn measure(b: u32, m: u32, x: &[u8], y: &[u8]) -> Answer<u32> {
+    pair_asked(b, m, x, y)?;
     if !symbols_fit(b, x) || !symbols_fit(b, y) {
         return Err(11);
     }
-    Ok(x.iter().zip(y).filter(|(a, b)| a != b).count() as u32)
+    Ok(distance(x, y))
+}
+
+/// The same in one loop: at each place the range of both symbols and their difference. A symbol out of range ends it.
+#[inline(never)]
+pub fn measure_by_places(b: u32, m: u32, x: &[u8], y: &[u8]) -> Answer<u32> {
+    pair_asked(b, m, x, y)?;
+    let limit = 1u32 << b;
+    let mut differing = 0;
+    for (&s, &t) in x.iter().zip(y) {
+        if u32::from(s) >= limit || u32::from(t) >= limit {
+            return Err(11);
+        }
+        differing += u32::from(s != t);
+    }
+    Ok(differing)
+}
+
+/// The same in one loop without a branch: it goes on to the last place, and the range of all symbols is asked behind it.
+#[inline(never)]
+pub fn measure_to_the_end(b: u32, m: u32, x: &[u8], y: &[u8]) -> Answer<u32> {
+    pair_asked(b, m, x, y)?;
+    let (mut bits, mut differing) = (0u8, 0u8);
+    for (&s, &t) in x.iter().zip(y) {
+        bits |= s | t;
+        differing += u8::from(s != t);
+    }
+    if u32::from(bits) < 1 << b { Ok(differing.into()) } else { Err(11) }
 }
 
 /// How far apart two rows of equal lengths are, whatever their symbols.

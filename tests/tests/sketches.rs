@@ -1,5 +1,6 @@
 //! Measuring, packing and unpacking through C, against plain Rust.
 use vetchdawn_tests::calls::{self, Given};
+use vetchdawn_tests::guard::Guarded;
 use vetchdawn_tests::plain;
 use vetchdawn_tests::random::Random;
 
@@ -39,9 +40,11 @@ fn known(n: u32, most: u32) -> u32 {
     n.clamp(1, most)
 }
 
+/// With a guard behind either sketch; and the plain programs of the benchmark answer the same.
 #[test]
 fn measuring() {
     let mut random = Random::new(1);
+    let mut lent = [Guarded::new(&[0u8; 80]), Guarded::new(&[0u8; 80])];
     for _ in 0..400_000 {
         let (b, m) = settings(&mut random);
         let near = known(m, 64) as usize;
@@ -54,11 +57,43 @@ fn measuring() {
                 y[i] = x[i];
             }
         }
-        let want = match plain::measure(b, m, &x, &y) {
+        lent[0].set(&x);
+        lent[1].set(&y);
+        let plain = plain::measure(b, m, &x, &y);
+        let want = match plain {
             Ok(d) => given(0, d as usize),
             Err(number) => given(number, 0),
         };
-        assert_eq!(calls::measure(b, m, &x, &y), want, "b {b} m {m} {x:?} {y:?}");
+        assert_eq!(calls::measure(b, m, lent[0].get(), lent[1].get()), want, "b {b} m {m} {x:?} {y:?}");
+        assert_eq!(plain::measure_by_places(b, m, &x, &y), plain, "b {b} m {m} {x:?} {y:?}");
+        assert_eq!(plain::measure_to_the_end(b, m, &x, &y), plain, "b {b} m {m} {x:?} {y:?}");
+    }
+}
+
+/// Every b and m, and each place of either sketch: the difference there is counted, and a symbol out of range there is refused, with a
+/// difference at every place or at none, but only where both lengths are right.
+#[test]
+fn every_place() {
+    for b in 1..=8u32 {
+        for m in 1..=64u32 {
+            let zeros = vec![0u8; m as usize];
+            let ones = vec![1u8; m as usize];
+            for i in 0..m as usize {
+                let mut x = zeros.clone();
+                x[i] = 1;
+                assert_eq!(calls::measure(b, m, &x, &zeros), given(0, 1), "b {b} m {m} place {i}");
+                assert_eq!(calls::measure(b, m, &ones, &x), given(0, m as usize - 1), "b {b} m {m} place {i}");
+                for high in (1 << b..256u32).step_by(1 << b) {
+                    x[i] = high as u8;
+                    for other in [&zeros, &ones, &x.clone()] {
+                        assert_eq!(calls::measure(b, m, &x, other), given(11, 0), "b {b} m {m} place {i} {high}");
+                        assert_eq!(calls::measure(b, m, other, &x), given(11, 0), "b {b} m {m} place {i} {high}");
+                        assert_eq!(calls::measure(b, m, &x, &other[1..]), given(10, 0), "b {b} m {m} place {i} {high}");
+                        assert_eq!(calls::measure(b, m, &other[1..], &x), given(10, 0), "b {b} m {m} place {i} {high}");
+                    }
+                }
+            }
+        }
     }
 }
 

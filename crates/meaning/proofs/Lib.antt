@@ -5,6 +5,7 @@ pub mod Sums
 pub mod Stacks
 pub mod Journal
 pub mod Questions
+pub mod Measuring
 pub mod Rights
 pub mod Pruning
 pub mod Searches

@@ -1,8 +1,9 @@
-// Symbols: their range, whether all are 0, and the distance of two sketches.
+// Symbols: their range, whether all are 0, and a pass over two sketches.
 ghost use mathlib.Core.Path.{_≡_};
 ghost use Prim.Native.Nat.{_≤_};
 ghost use lib.ListN.{length};
 ghost use Rattle.meaning.specs.Sketch.{distance, inRange, blank};
+ghost use Rattle.sketch.specs.Pass.{PassedOver};
 ghost use Rattle.sketch.specs.Settings.{Bits};
 
 // Whether every symbol is below 2^b. Of the symbols together, bit by bit, that is one test.
@@ -33,17 +34,34 @@ pub fn blank(xs: &[u8]) -> bool
     true
 }
 
+// What a pass over two sketches gives: the bits of all symbols, joined, and the number of places where the two differ.
+pub struct Pass {
+    pub bits: u8,
+    pub differing: u8,
+}
+
+// One pass over two sketches, range and difference together. No branch is in it, so that many places are taken at a time.
+pub fn pass_over(xs: &[u8], ys: &[u8]) -> Pass
+    requires { ⌜ length (now xs) ≡ length (now ys) ⌝ }
+    requires { ⌜ length (now xs) ≤ 64 ⌝ }
+    ensures { λ r. ⌜ PassedOver (now (xs .entry)) (now (ys .entry)) (r .bits) (r .differing) ⌝ }
+{
+    let mut bits: u8 = 0;
+    let mut d: u8 = 0;
+    let mut i = 0;
+    while i < xs.len() {
+        bits |= xs[i] | ys[i];
+        d += (xs[i] != ys[i]) as u8;
+        i += 1;
+    }
+    Pass { bits, differing: d }
+}
+
 // The number of places where two sketches differ.
 pub fn distance(xs: &[u8], ys: &[u8]) -> u32
     requires { ⌜ length (now xs) ≡ length (now ys) ⌝ }
     requires { ⌜ length (now xs) ≤ 64 ⌝ }
     ensures { λ r. ⌜ r ≡ distance (now (xs .entry)) (now (ys .entry)) ⌝ }
 {
-    let mut d: u8 = 0;
-    let mut i = 0;
-    while i < xs.len() {
-        d += (xs[i] != ys[i]) as u8;
-        i += 1;
-    }
-    d as u32
+    pass_over(xs, ys).differing as u32
 }

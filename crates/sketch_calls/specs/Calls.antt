@@ -5,6 +5,10 @@ use Prim.Native.Nat.{ℕ}
 use Rattle.meaning.specs.SketchCalls.{measureNumber, measureValue, packNumber, packLength, packLeft, unpackNumber, unpackLength, unpackLeft}
 use Rattle.sketch_calls.specs.declared.calls.Answer.{Answer}
 
+-- a call carried out, and what it gives
+abbrev pub carriedOut : ℕ → Answer
+carriedOut v = record { number = 0; value = v }
+
 -- a refusal that gives no length
 abbrev pub refusal : ℕ → Answer
 refusal n = record { number = n; value = 0 }

@@ -4,10 +4,14 @@ use sketch::limits::within_limits;
 use sketch::packing::all_packable;
 use sketch::packing::pack_into;
 use sketch::packing::unpack_into;
-use sketch::symbols::distance;
 use sketch::symbols::in_range;
+use sketch::symbols::pass_over;
 ghost use mathlib.Core.Path.{_≡_};
+ghost use Prim.Native.Nat.{_<_, _≤_};
+ghost use lib.ListN.{length};
+ghost use Rattle.sketch.specs.Settings.{Bits};
 ghost use Rattle.sketch_calls.specs.Calls.{refusal, Measured, Packed, Unpacked};
+ghost use Rattle.sketch_calls.specs.Measuring.{ending};
 
 // The numbers of the questions, and of none.
 const LIMITS: u32 = 4;
@@ -20,6 +24,9 @@ const ROOM: u32 = 13;
 
 const CARRIED_OUT: u32 = 0;
 
+// The places that a turn of `measure_symbols` takes: as many as the machine compares side by side.
+const STRIP: usize = 32;
+
 // The number of the first "no", 0 where there is none; and what was measured, written or is needed.
 pub struct Answer {
     pub number: u32,
@@ -31,6 +38,44 @@ fn refused(number: u32) -> Answer
     ensures { λ r. ⌜ r ≡ refusal number ⌝ }
 {
     Answer { number, value: 0 }
+}
+
+// Where the strip that begins at place k ends, of n places.
+fn strip_end(k: usize, n: usize) -> usize
+    requires { ⌜ k < n ⌝ }
+    ensures { λ r. ⌜ (k < r) × (r ≤ n) ⌝ }
+{
+    if n - k < STRIP {
+        return n;
+    }
+    k + STRIP
+}
+
+// The places of two sketches in one loop, range and difference together. After k places all symbols so far are in range, and d is the
+// distance of the first k (`After`); a symbol out of range ends it. A turn takes a strip: with a branch at each place it takes two to five
+// times as long.
+fn measure_symbols(b: u32, x: &[u8], y: &[u8]) -> Answer
+    requires { ⌜ Bits b ⌝ }
+    requires { ⌜ length (now x) ≡ length (now y) ⌝ }
+    requires { ⌜ length (now x) ≤ 64 ⌝ }
+    ensures { λ r. ⌜ r ≡ ending b (now (x .entry)) (now (y .entry)) ⌝ }
+{
+    let limit = 1u32 << b;
+    let mut d: u32 = 0;
+    let mut k = 0;
+    while k < x.len() {
+        let end = strip_end(k, x.len());
+        let strip = pass_over(&x[k..end], &y[k..end]);
+        if strip.bits as u32 >= limit {
+            return refused(RANGE);
+        }
+        d += strip.differing as u32;
+        k = end;
+    }
+    Answer {
+        number: CARRIED_OUT,
+        value: d,
+    }
 }
 
 // The distance of two sketches.
@@ -47,16 +92,7 @@ pub fn measure(b: u32, m: u32, x: &[u8], y: &[u8]) -> Answer
     if y.len() != n {
         return refused(LENGTH);
     }
-    if !in_range(b, x) {
-        return refused(RANGE);
-    }
-    if !in_range(b, y) {
-        return refused(RANGE);
-    }
-    Answer {
-        number: CARRIED_OUT,
-        value: distance(x, y),
-    }
+    measure_symbols(b, x, y)
 }
 
 // A sketch packed into the beginning of out.

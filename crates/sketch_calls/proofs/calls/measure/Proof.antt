@@ -7,7 +7,7 @@ use borrow.Author.Tests.{eq-eqb, ne-eqb, not-true, not-false}
 use Rattle.meaning.specs.Refusal.{firstNo}
 use Rattle.meaning.specs.Sketch.{inRange}
 use Rattle.meaning.specs.SketchCalls.{sketchLimits, measureNumber}
-use Rattle.sketch_calls.proofs.Answers.{within, measured}
+use Rattle.sketch_calls.proofs.Answers.{within, measured, loop-answers}
 use Rattle.sketch_calls.proofs.calls.measure.Statement.{statement}
 use Rattle.sketch_calls.proofs.calls.measure.Tie as tie
 
@@ -50,43 +50,13 @@ past : (c : tie.Else3) →
 unfolding measureNumber firstNo
 past c = rw (limits (c .before .before), eq-eqb _ _ (c .before .if2 .left), eq-eqb _ _ (c .if3 .left))
 
-in-range-requires : tie.Need-in-range-requires
-in-range-requires c κs = within _ _ (limits (c .before .before)) .0
-
-refused-requires-4 : tie.Need-refused-requires-4
-refused-requires-4 c = search needs
+measure-symbols-requires : tie.Need-measure-symbols-requires
+measure-symbols-requires c κs =
+    let limited = within _ _ (limits (c .before .before)) in
+    (limited .0, (c .before .if2 .left ∙ sym (c .if3 .left), omega (arith, limited .1)))
 
 returns-4 : tie.Need-returns-4
-returns-4 c =
-    let first = sym (c .before .before .in-range .ensures) ∙ not-true _ (c .before .if4 .taken) in
-    rw (c .refused4 .ensures) (measured _ _ _ _ 0 (past (c .before .before .before) ∙ rw first) refl)
-
-in-range-requires-2 : tie.Need-in-range-requires-2
-in-range-requires-2 c κs = within _ _ (limits (c .before .before .before .before)) .0
-
--- the first sketch is in range
-first : (c : tie.Else4) →
-    let args = c .before .before .before .before .before .before .before .before .args in
-    inRange (args .b) (args .x .now) ≡ true
-first c = sym (c .before .in-range .ensures) ∙ not-false _ (c .if4 .left)
-
-refused-requires-5 : tie.Need-refused-requires-5
-refused-requires-5 c = search needs
-
-returns-5 : tie.Need-returns-5
-returns-5 c =
-    let second = sym (c .before .before .in-range2 .ensures) ∙ not-true _ (c .before .if5 .taken) in
-    rw (c .refused5 .ensures) (measured _ _ _ _ 0 (past (c .before .before .before .before .before) ∙ rw (first (c .before .before .before), second)) refl)
-
-distance-requires : tie.Need-distance-requires
-distance-requires c κs =
-    let limited = within _ _ (limits (c .before .before .before .before .before .before)) in
-    (c .before .before .before .before .before .if2 .left ∙ sym (c .before .before .before .before .if3 .left), omega arith)
-
-returns-6 : tie.Need-returns-6
-returns-6 c =
-    let second = sym (c .before .before .in-range2 .ensures) ∙ not-false _ (c .before .if5 .left) in
-    measured _ _ _ _ _ (past (c .before .before .before .before .before) ∙ rw (first (c .before .before .before), second)) (c .distance .ensures)
+returns-4 c = rw (c .measure-symbols .ensures) (loop-answers _ _ _ _ (past (c .before)))
 
 pub measure-spec : {M : Type 1} → statement M
 measure-spec =
@@ -99,11 +69,5 @@ measure-spec =
     returns-2
     refused-requires-3
     returns-3
-    in-range-requires
-    refused-requires-4
-    returns-4
-    in-range-requires-2
-    refused-requires-5
-    returns-5
-    distance-requires
-    returns-6)
+    measure-symbols-requires
+    returns-4)
