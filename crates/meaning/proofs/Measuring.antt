@@ -34,6 +34,7 @@ pub record Measuring : Type 0 where
   pub first-short : measureNumber 2 4 short high ≡ 10
   pub second-short : measureNumber 2 4 high short ≡ 10
   pub nine-bits : measureNumber 9 4 high short ≡ 4
+  pub none-given : measureValue 2 4 high short ≡ 0
 
 pub measuring : Measuring
 unfolding measureNumber measureValue sketchLimits firstNo all inRange distance
@@ -46,4 +47,5 @@ measuring = record {
   first-short = refl;
   second-short = refl;
   nine-bits = refl;
+  none-given = refl;
 }

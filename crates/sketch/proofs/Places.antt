@@ -1,7 +1,7 @@
 -- Distance, range and blank sketches, place by place.
 use mathlib.Core.Bool.{Bool, true, false, cond, not, _&&_, and-assoc, and-true}
 use mathlib.Core.Logic.{_≢_}
-use mathlib.Core.List.{List}
+use mathlib.Core.List.{List, _++_}
 use mathlib.Core.Path.{_≡_, sym, _∙_}
 use Prim.Native.Nat.{ℕ, suc, _+_, _^_, _<_, _≤_}
 use native.Mathlib.Nat.{add-zero, zero-add}
@@ -15,6 +15,7 @@ use lib.Seq.{drop-cons}
 use mir.Val.{boolByte}
 use Rattle.meaning.specs.Lists.{all}
 use Rattle.meaning.specs.Sketch.{distance, inRange, blank}
+use Rattle.meaning.proofs.Lists.{all-append}
 use Rattle.words.proofs.Bits.{or-below}
 use Rattle.sketch.proofs.Lists.{all-take, all-drop}
 
@@ -82,6 +83,10 @@ range-end b t xs i h = rw (drop-of-length-le xs h, and-true)
 pub range-more : (b bits : ℕ) (xs : List ℕ) (i : ℕ) → i < length xs
     → ltb (bitOr bits (getD xs i 0)) (2 ^ b) && inRange b (drop (i + 1) xs) ≡ ltb bits (2 ^ b) && inRange b (drop i xs)
 range-more b bits xs i h = rw (or-below b bits (getD xs i 0), range-step b xs i h, and-assoc)
+
+pub range-append : (b : ℕ) (xs ys : List ℕ) → inRange b (xs ++ ys) ≡ inRange b xs && inRange b ys
+unfolding inRange
+range-append b = all-append (λ x. ltb x (2 ^ b))
 
 -- a part of symbols in range is in range
 pub part-range : (b a n : ℕ) (xs : List ℕ) → inRange b xs ≡ true → inRange b (take n (drop a xs)) ≡ true

@@ -3,7 +3,7 @@ ghost use mathlib.Core.Path.{_≡_};
 ghost use Prim.Native.Nat.{_≤_};
 ghost use lib.ListN.{length};
 ghost use Rattle.meaning.specs.Sketch.{distance, inRange, blank};
-ghost use Rattle.sketch.specs.Pass.{PassedOver};
+ghost use Rattle.sketch.specs.Pass.{GoneOver};
 ghost use Rattle.sketch.specs.Settings.{Bits};
 
 // Whether every symbol is below 2^b. Of the symbols together, bit by bit, that is one test.
@@ -40,11 +40,11 @@ pub struct Pass {
     pub differing: u8,
 }
 
-// One pass over two sketches, range and difference together. No branch is in it, so that many places are taken at a time.
-pub fn pass_over(xs: &[u8], ys: &[u8]) -> Pass
+// One pass over two sketches, range and difference together. There is no branch at a place, so that many are taken at a time.
+pub fn go_over(xs: &[u8], ys: &[u8]) -> Pass
     requires { ⌜ length (now xs) ≡ length (now ys) ⌝ }
     requires { ⌜ length (now xs) ≤ 64 ⌝ }
-    ensures { λ r. ⌜ PassedOver (now (xs .entry)) (now (ys .entry)) (r .bits) (r .differing) ⌝ }
+    ensures { λ r. ⌜ GoneOver (now (xs .entry)) (now (ys .entry)) (r .bits) (r .differing) ⌝ }
 {
     let mut bits: u8 = 0;
     let mut d: u8 = 0;
@@ -63,5 +63,5 @@ pub fn distance(xs: &[u8], ys: &[u8]) -> u32
     requires { ⌜ length (now xs) ≤ 64 ⌝ }
     ensures { λ r. ⌜ r ≡ distance (now (xs .entry)) (now (ys .entry)) ⌝ }
 {
-    pass_over(xs, ys).differing as u32
+    go_over(xs, ys).differing as u32
 }

@@ -2,23 +2,18 @@
 use mathlib.Core.Bool.{true, false, _&&_, and-eq-true-iff, true≢false}
 use mathlib.Core.List.{List, _++_}
 use mathlib.Core.Path.{_≡_, refl, sym, ap, ap₂, _∙_}
-use Prim.Native.Nat.{ℕ, _+_, _-_, _^_, _≤_}
+use Prim.Native.Nat.{ℕ, _+_, _-_, _≤_}
 use native.Mathlib.Nat.{add-sub-of-le}
 use native.Mathlib.Omega.{arith}
-use lib.Dec.{ltb}
 use lib.ListN.{length, take, drop, length-take}
 use lib.Seq.{take-add, take-all}
 use Rattle.meaning.specs.Lists.{all}
 use Rattle.meaning.specs.Sketch.{distance, inRange}
-use Rattle.meaning.proofs.Lists.{not-so, all-append}
-use Rattle.sketch.proofs.Places.{part-range}
-use Rattle.sketch_laws.proofs.Distance.{distance-le, distance-append}
+use Rattle.meaning.proofs.Lists.{not-so}
+use Rattle.sketch.proofs.Places.{range-append, part-range}
+use Rattle.sketch_laws.proofs.Distance.{distance-first, distance-append}
 use Rattle.sketch_calls.specs.Calls.{refusal, carriedOut}
 use Rattle.sketch_calls.specs.Measuring.{After, ending}
-
-range-append : (b : ℕ) (xs ys : List ℕ) → inRange b (xs ++ ys) ≡ inRange b xs && inRange b ys
-unfolding inRange
-range-append b xs ys = all-append (λ x. ltb x (2 ^ b)) xs ys
 
 module _ (b : ℕ) (x y : List ℕ) where
   pub after-none : After b x y 0 0
@@ -26,7 +21,7 @@ module _ (b : ℕ) (x y : List ℕ) where
   after-none = record { first = refl; second = refl; number = refl }
 
   pub after-most : (k d : ℕ) → After b x y k d → d ≤ k
-  after-most k d a = omega (arith, a .number, distance-le (take k x) (take k y), length-take k x)
+  after-most k d a = omega (arith, a .number, distance-first k x y)
 
   -- the places from k to e, too
   pub after-more : (k e d f : ℕ) → k ≤ e → length x ≡ length y → After b x y k d

@@ -4,10 +4,10 @@ use sketch::limits::within_limits;
 use sketch::packing::all_packable;
 use sketch::packing::pack_into;
 use sketch::packing::unpack_into;
+use sketch::symbols::go_over;
 use sketch::symbols::in_range;
-use sketch::symbols::pass_over;
 ghost use mathlib.Core.Path.{_≡_};
-ghost use Prim.Native.Nat.{_<_, _≤_};
+ghost use Prim.Native.Nat.{_+_, min, _<_, _≤_};
 ghost use lib.ListN.{length};
 ghost use Rattle.sketch.specs.Settings.{Bits};
 ghost use Rattle.sketch_calls.specs.Calls.{refusal, Measured, Packed, Unpacked};
@@ -24,7 +24,7 @@ const ROOM: u32 = 13;
 
 const CARRIED_OUT: u32 = 0;
 
-// The places that a turn of `measure_symbols` takes: as many as the machine compares side by side.
+// The places that a turn of `measure_symbols` takes: as many as go into one run of instructions, without a loop.
 const STRIP: usize = 32;
 
 // The number of the first "no", 0 where there is none; and what was measured, written or is needed.
@@ -43,7 +43,7 @@ fn refused(number: u32) -> Answer
 // Where the strip that begins at place k ends, of n places.
 fn strip_end(k: usize, n: usize) -> usize
     requires { ⌜ k < n ⌝ }
-    ensures { λ r. ⌜ (k < r) × (r ≤ n) ⌝ }
+    ensures { λ r. ⌜ r ≡ min (k + 32) n ⌝ }
 {
     if n - k < STRIP {
         return n;
@@ -52,8 +52,8 @@ fn strip_end(k: usize, n: usize) -> usize
 }
 
 // The places of two sketches in one loop, range and difference together. After k places all symbols so far are in range, and d is the
-// distance of the first k (`After`); a symbol out of range ends it. A turn takes a strip: with a branch at each place it takes two to five
-// times as long.
+// distance of the first k (`After`); a symbol out of range ends it. A turn takes a strip, and asks at its end: with a branch at each place
+// long sketches take five times as long.
 fn measure_symbols(b: u32, x: &[u8], y: &[u8]) -> Answer
     requires { ⌜ Bits b ⌝ }
     requires { ⌜ length (now x) ≡ length (now y) ⌝ }
@@ -65,7 +65,7 @@ fn measure_symbols(b: u32, x: &[u8], y: &[u8]) -> Answer
     let mut k = 0;
     while k < x.len() {
         let end = strip_end(k, x.len());
-        let strip = pass_over(&x[k..end], &y[k..end]);
+        let strip = go_over(&x[k..end], &y[k..end]);
         if strip.bits as u32 >= limit {
             return refused(RANGE);
         }

@@ -5,7 +5,7 @@ use mathlib.Core.Path.{_≡_, refl, ap, fun-ext}
 use mathlib.Core.Bool.{Bool, true, false, cond}
 use mathlib.Core.List.{List, [], _∷_, _++_}
 use lib.Dec.{eqb}
-use lib.ListN.{length, getD, take, drop}
+use lib.ListN.{length, getD, take, drop, length-take}
 use borrow.Author.Tests.{eq-eqb}
 use Rattle.meaning.specs.Sketch.{distance}
 use Rattle.meaning.proofs.Lists.{eqb-comm}
@@ -52,6 +52,9 @@ distance-split n xs ys = rw as-pairs (pairs-split other n xs ys)
 
 pub distance-take : (n : ℕ) (xs ys : List ℕ) → distance (take n xs) (take n ys) ≤ distance xs ys
 distance-take n xs ys = rw as-pairs (pairs-take other n xs ys)
+
+pub distance-first : (n : ℕ) (xs ys : List ℕ) → distance (take n xs) (take n ys) ≤ n
+distance-first n xs ys = omega (arith, distance-le (take n xs) (take n ys), length-take n xs)
 
 -- one place more
 pub distance-suc : (n : ℕ) (xs ys : List ℕ) → n < length xs → n < length ys

@@ -1,6 +1,6 @@
 -- What the machine's operations on words give, in the terms of the definitions.
 use mathlib.Core.Path.{_≡_, refl, _∙_}
-use mathlib.Core.Bool.{Bool, true, false, cond}
+use mathlib.Core.Bool.{Bool, true, false, cond, not}
 use mathlib.Core.Logic.{_≢_}
 use mathlib.Core.List.{List, [], _∷_, _++_, map}
 use Prim.Native.Nat.{ℕ, zero, suc, _+_, _-_, _*_, _/_, _%_, _^_, _<_}
@@ -10,9 +10,16 @@ use lib.Pow.{shl-exact}
 use lib.Bits.{bitAnd, bitOr, and-step, and-self}
 use lib.ListN.{length, getD, set, length-map, List·getD-map}
 use lib.Count
+use mir.Val.{boolByte}
 use Rattle.words.specs.Bits.{bit, withBit, rising, bitsOf, lowest, ones, withFlag}
 use Rattle.words.proofs.Bits.{digit, bit-half, half-lt, with-sum, with-or, with-and, lowest-set}
 use Rattle.words.proofs.Rising.{rising-map}
+
+-- ---- a test as a number
+
+pub not-byte : (t : Bool) → boolByte (not t) ≡ cond t 0 1
+not-byte true = refl
+not-byte false = refl
 
 -- ---- a shifted 1
 
