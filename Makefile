@@ -34,7 +34,7 @@ $(PROGRAM): $(SOURCES)
 	@touch $@
 
 # what the proved crates offer to C, each as an archive, and all of it in one
-ARCHIVES = sketch_calls journal_form capi_changes capi_readings
+ARCHIVES = version sketch_calls journal_form capi_changes capi_readings
 LIBRARY = target/staticlib/libvetchdawn.a
 archives: $(LIBRARY)
 $(LIBRARY): $(SOURCES)

@@ -1,39 +1,32 @@
 /* Vetchdawn: an index for archives.
  *
  * Each call returns 0, or the number of the first question that its input fails:
+ * enum vetch_refusal names them. A refused call changes nothing but the working
+ * table, and 14 as said there. docs/OPERATING.md says what to do about each.
+ * vetchdawn_tables.h has the same calls with the five tables in one struct.
  *
- *    4  settings, capacities or the count of thresholds are out of their limits
- *    5  the settings table is too short or, on opening, any other table
- *    6  the settings table shows no opening, or a table is too short for it
- *    7  reader, group, class or radius is out of range
- *    8  the page number is not below the capacity
- *    9  add: the page is live; drop: it is not; show: it is not live, or not
- *       open to this reader
- *   10  a sketch has not m symbols, or a packing not the bytes that m needs
- *   11  a symbol is not below 2^b, or a byte is none that packing gives
- *   12  the trees would have more nodes than the capacity
- *   13  the output is too short; of a search, either list
- *   14  the tables are damaged: a link that was followed leads outside its table
- *       or to a free node, an inner node stands where no byte is left, or more
- *       nodes or pages were passed than a sound store has. Drop: the page is in
- *       no leaf on its path. Add: a leaf to be split has a child, which is no
- *       leaf, or the free nodes ran out after all. Add and drop may have changed
- *       words of the trees, and add the page's row. It never occurs on tables
- *       that only these calls have written
- *   15  add: the page is blank, every symbol of its sketch is 0. Asked between
- *       11 and 12, and so before 14. A search for such a sketch is not refused
- *       for that; blank pages that tables hold from before stay
+ * What is lent
  *
- * and 1 to 3 of a journal command's form. docs/OPERATING.md says what to do.
- *
- * Any numbers and any contents may be handed over. A slice or table is a pointer
- * and a length; the pointer is not read where the length is 0. A pointer to a
- * single number must not be null. What a call writes must not overlap what else
- * it is lent. A longer table, and an output, keeps its rest as it was; a refused
- * call changes nothing but the working table, and 14 as said.
- *
- * The calls keep nothing between them and take no lock: see to it that no call
- * runs on tables that another one writes (docs/OPERATING.md).
+ * - Any numbers and any contents may be handed over. A slice or table is a
+ *   pointer and a length, counted in its elements. Where the length is 0 the
+ *   pointer is not read, and may be null. A longer table, and an output, keeps
+ *   its rest as it was.
+ * - A result, as *count or *distance, is written to memory of the caller. Its
+ *   pointer must be valid, and those of one call distinct. A null one is no
+ *   refusal but a fault.
+ * - Words of 32 bits lie at addresses that 4 divides, those of 16 bits at even
+ *   ones, as from malloc.
+ * - What a call writes must not overlap what else it is lent. What it only reads
+ *   may.
+ * - The tables are the caller's. The library allocates and frees nothing, keeps
+ *   no pointer when a call returns, and no table holds an address: tables may be
+ *   copied, moved, saved and loaded between calls.
+ * - The working table need not be zero at first. Several indexes may use one,
+ *   each in turn.
+ * - The calls take no lock: see to it that none runs on tables that another one
+ *   writes. A search and a check write their working table, and it alone.
+ * - A search takes up to 8 kB of stack, any other call up to 2 kB; no call
+ *   recurses. Where symbols are bound lazily, a first call takes 3 kB more.
  */
 #ifndef VETCHDAWN_H
 #define VETCHDAWN_H
@@ -41,13 +34,132 @@
 #include <stddef.h>
 #include <stdint.h>
 
+/* ---- Versions: the major one changes where a call is declared otherwise or the
+ * tables are laid out otherwise, and is that of the shared library. CHANGELOG.md
+ * has what changed. */
+
+#define VETCHDAWN_VERSION_MAJOR 1
+#define VETCHDAWN_VERSION_MINOR 0
+#define VETCHDAWN_VERSION_PATCH 0
+#define VETCHDAWN_VERSION                                                    \
+    (VETCHDAWN_VERSION_MAJOR * 10000 + VETCHDAWN_VERSION_MINOR * 100 +       \
+     VETCHDAWN_VERSION_PATCH)
+
+/* The first word of a settings table that was opened. Tables with another mark
+ * are laid out otherwise, and every call on them gives 6. All versions 1 have
+ * this one. */
+#define VETCHDAWN_LAYOUT_MARK 0x56440002u
+
+/* ---- Limits */
+
+#define VETCH_MAX_BITS 8       /* b, from 1 */
+#define VETCH_MAX_SYMBOLS 64   /* m, from 1 */
+#define VETCH_MAX_BLOCKS 8     /* q, from 1, and at most m */
+#define VETCH_MAX_PAGES 65535  /* page capacity, from 1 */
+#define VETCH_MAX_NODES 262144 /* node capacity, from q */
+#define VETCH_THRESHOLDS 64    /* as many, one for each level */
+#define VETCH_MAX_RADIUS 64    /* of a search, from 0 */
+#define VETCH_READERS 256      /* readers are 0 to 255 */
+#define VETCH_GROUPS 32        /* groups are 0 to 31 */
+#define VETCH_CLASSES 64       /* classes are 0 to 63 */
+
+/* ---- Refusals, in the order in which the questions are asked; but 15 and then 14
+ * are asked between 11 and 12 */
+
+enum vetch_refusal {
+    VETCH_ACCEPTED = 0,
+    /* Of a journal command: its byte is unknown; it is I but not the first, or
+     * the first but not I; operands are missing. */
+    VETCH_UNKNOWN_COMMAND = 1,
+    VETCH_MISPLACED_COMMAND = 2,
+    VETCH_CUT_COMMAND = 3,
+    /* Settings, capacities or the count of thresholds are out of their limits. */
+    VETCH_BAD_SETTINGS = 4,
+    /* The settings table is too short or, on opening, any other table. */
+    VETCH_SHORT_TABLE = 5,
+    /* The settings table shows no opening, or a table is too short for it. */
+    VETCH_NO_OPENING = 6,
+    /* Reader, group, class or radius is out of range. */
+    VETCH_OUT_OF_RANGE = 7,
+    /* The page number is not below the capacity. */
+    VETCH_NO_SUCH_PAGE = 8,
+    /* Add: the page is live. Drop: it is not. Show: it is not live, or not open
+     * to this reader; which of the two is not told. */
+    VETCH_PAGE_STATE = 9,
+    /* A sketch has not m symbols, or a packing not the bytes that m needs. */
+    VETCH_BAD_LENGTH = 10,
+    /* A symbol is not below 2^b, or a byte is none that packing gives. */
+    VETCH_BAD_SYMBOL = 11,
+    /* The trees would have more nodes than the capacity. */
+    VETCH_NO_ROOM = 12,
+    /* The output is too short; of a search, either list. */
+    VETCH_SHORT_OUTPUT = 13,
+    /* The tables are damaged: a link that was followed leads outside its table
+     * or to a free node, an inner node stands where no byte is left, or more
+     * nodes or pages were passed than a sound store has. Drop: the page is in no
+     * leaf on its path. Add: a leaf to be split has a child, which is no leaf, or
+     * the free nodes ran out after all. Add and drop may have changed words of
+     * the trees, and add the page's row. It never occurs on tables that only
+     * these calls have written. */
+    VETCH_DAMAGED = 14,
+    /* Add: the page is blank, every symbol of its sketch is 0. A search for such
+     * a sketch is not refused for that; blank pages that tables hold from before
+     * stay. */
+    VETCH_BLANK_PAGE = 15,
+    /* No question, and no answer of a call here: vetchdawn_tables.h alone
+     * allocates memory. */
+    VETCH_NO_MEMORY = 1000
+};
+
+#if defined(__cplusplus)
+#define VETCH_INLINE static inline
+#elif defined(__STDC_VERSION__) && __STDC_VERSION__ >= 199901L
+#define VETCH_INLINE static inline
+#elif defined(__GNUC__)
+#define VETCH_INLINE static __inline__
+#else
+#define VETCH_INLINE static
+#endif
+
+/* A refusal in words, for a log. */
+VETCH_INLINE const char *vetch_refusal_text(uint32_t number)
+{
+    switch (number) {
+    case VETCH_ACCEPTED: return "accepted";
+    case VETCH_UNKNOWN_COMMAND: return "unknown journal command";
+    case VETCH_MISPLACED_COMMAND: return "journal command out of place";
+    case VETCH_CUT_COMMAND: return "journal command cut short";
+    case VETCH_BAD_SETTINGS: return "settings or capacities out of limits";
+    case VETCH_SHORT_TABLE: return "table too short";
+    case VETCH_NO_OPENING: return "no opening, or a table too short for it";
+    case VETCH_OUT_OF_RANGE: return "reader, group, class or radius out of range";
+    case VETCH_NO_SUCH_PAGE: return "page number not below the capacity";
+    case VETCH_PAGE_STATE: return "page live, missing or closed";
+    case VETCH_BAD_LENGTH: return "wrong number of symbols or bytes";
+    case VETCH_BAD_SYMBOL: return "symbol or packed byte out of range";
+    case VETCH_NO_ROOM: return "too few nodes";
+    case VETCH_SHORT_OUTPUT: return "output too short";
+    case VETCH_DAMAGED: return "damaged tables";
+    case VETCH_BLANK_PAGE: return "blank page";
+    case VETCH_NO_MEMORY: return "no memory";
+    default: return "unknown number";
+    }
+}
+
 #ifdef __cplusplus
 extern "C" {
 #endif
 
-/* ---- Sketches: m symbols (1 to 64), a byte each, each below 2^b (b from 1 to 8) */
+/* VETCHDAWN_VERSION of the library that is linked. Its name ends in the major
+ * version: a program that calls it does not link with a library of another. */
+uint32_t vetch_version_1(void);
+#define vetch_version vetch_version_1
 
-/* The number of places where two sketches differ, in *distance; 0 there with a refusal. */
+/* ---- Sketches: m symbols, a byte each, each below 2^b */
+
+/* The number of places where two sketches differ, in *distance; 0 there with a
+ * refusal. x and y may be one sketch or overlap. 10 and 11 do not tell which of
+ * the two failed. */
 uint32_t vetch_measure(uint32_t b, uint32_t m, const uint8_t *x, size_t x_len,
                        const uint8_t *y, size_t y_len, uint32_t *distance);
 
@@ -71,15 +183,15 @@ uint32_t vetch_form(uint8_t m, uint8_t first, const uint8_t *bytes,
 /* ---- The tables of an index; docs/LAYOUT.md says what they hold */
 
 /* How long the tables must be: words of 32 bits, of the sketch table bytes. With
- * a refusal (4) all are 0. */
+ * a refusal (4) all are 0. b is bits a symbol, m symbols a sketch, q blocks. */
 uint32_t vetch_lengths(uint32_t b, uint32_t m, uint32_t q,
                        uint32_t page_capacity, uint32_t node_capacity,
                        uint32_t *settings, uint32_t *nodes, uint32_t *pages,
                        uint32_t *sketches, uint32_t *working);
 
-/* Sets up an index, whatever the tables held: b bits a symbol, m symbols a
- * sketch, q blocks (1 to 8, at most m), 1 to 65,535 pages, q to 262,144 nodes,
- * and 64 split thresholds, by level. */
+/* Sets up an index, whatever the tables held, with VETCH_THRESHOLDS split
+ * thresholds, by level. Of the sketch and the working table only the length is
+ * asked. */
 uint32_t vetch_open(uint32_t *settings, size_t settings_len, uint32_t *nodes,
                     size_t nodes_len, uint32_t *pages, size_t pages_len,
                     const uint8_t *sketches, size_t sketches_len,

@@ -7,6 +7,7 @@ pub mod journal;
 pub mod lists;
 pub mod outcomes;
 pub mod plain;
+pub mod programs;
 pub mod random;
 pub mod sound;
 pub mod stores;
