@@ -9,6 +9,7 @@ use Rattle.meaning.specs.Lists.{count, from, upto, sum}
 use Rattle.meaning.specs.Sketch.{distance, perByte, packedLength, packByte, packBytes, pack, group, byteDistance}
 use Rattle.words.specs.Bits.{bit}
 use Rattle.layout.specs.Lengths.{pagesLength, sketchesLength}
+use Rattle.layout.specs.Limits.{HeaderLimits}
 use Rattle.layout.specs.Pages.{isLive, classOf, signatureAt, rowOf}
 use Rattle.layout.specs.Signature.{foldedByte, folded, signature}
 use Rattle.rights.specs.Open.{isOpen}
@@ -17,10 +18,10 @@ use Rattle.hits.specs.declared.Probe.{Probe}
 use Rattle.hits.specs.Hit.{Test, Fitting, isHit, isNear, passes}
 use Rattle.hits.specs.Probes.{probeOf, Prepared, testBy}
 
-abbrev query : List ℕ
+abbrev pub query : List ℕ
 query = 1 ∷ 2 ∷ []
 
-abbrev probe : Probe
+abbrev pub probe : Probe
 probe = probeOf (record { b = 2; m = 2; q = 1; pages = 5; nodes = 1 }) (record { low = 32; high = 0 }) query 1
 
 prepared : Prepared query probe
@@ -35,22 +36,25 @@ asked =
     query
     probe
 
+pub in-limits : HeaderLimits (probe .header)
+in-limits = record {
+  bits-least = omega arith;
+  bits-most = omega arith;
+  symbols-least = omega arith;
+  symbols-most = omega arith;
+  blocks-least = omega arith;
+  blocks-most = omega arith;
+  blocks-fit = omega arith;
+  pages-least = omega arith;
+  pages-most = omega arith;
+  nodes-least = omega arith;
+  nodes-most = omega arith;
+}
+
 fitting : Fitting asked
 unfolding pagesLength sketchesLength
 fitting = record {
-  limits = record {
-    bits-least = omega arith;
-    bits-most = omega arith;
-    symbols-least = omega arith;
-    symbols-most = omega arith;
-    blocks-least = omega arith;
-    blocks-most = omega arith;
-    blocks-fit = omega arith;
-    pages-least = omega arith;
-    pages-most = omega arith;
-    nodes-least = omega arith;
-    nodes-most = omega arith;
-  };
+  limits = in-limits;
   pages = omega arith;
   sketches = omega arith;
   query = refl;
