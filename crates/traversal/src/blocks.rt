@@ -58,18 +58,8 @@ fn meet_block(
     let mut batch = walk::batch::begin(nodes, &bytes[..n], trie, j, start.radius, start.tally.left);
     loop {
         let links = batch.links;
-        let each = chains_of(&links, batch.n, base, 0);
-        match meet(
-            table,
-            pages,
-            sketches,
-            query,
-            map,
-            counts,
-            scope,
-            each,
-            tally,
-        ) {
+        let cs = chains_of(&links, batch.n, base, 0);
+        match meet(table, pages, sketches, query, map, counts, scope, cs, tally) {
             Tallies::Some(met) => {
                 tally = met;
             }
