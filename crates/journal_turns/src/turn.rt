@@ -6,7 +6,10 @@ ghost use lib.ListN.{length, take};
 ghost use lib.Seq.{sets};
 ghost use Rattle.meaning.specs.Output.{output};
 ghost use Rattle.promises.specs.Tables.{tables};
-ghost use Rattle.journal_turns.specs.Turns.{goesOn, state, Turned};
+ghost use Rattle.promises.specs.Relation.{Answer};
+ghost use Rattle.journal.specs.Steps.{meant, symbolsEnd};
+ghost use Rattle.journal_turns.specs.Turns.{goesOn, state, Carried, Turned};
+use journal::commands::Command;
 use journal::commands::Step;
 use journal::reading::read;
 use journal_answers::lines::command_line;
@@ -39,6 +42,61 @@ fn offset_after(going: bool, to: usize, at: usize) -> usize
     if going { to } else { at }
 }
 
+// Carries out a command, behind which the offset is `to`, and puts its line at the beginning of a lent buffer.
+fn carry_out(
+    settings: &mut [u32],
+    nodes: &mut [u32],
+    pages: &mut [u32],
+    sketches: &mut [u8],
+    working: &mut [u32],
+    found: &mut [u16],
+    distances: &mut [u16],
+    bytes: &[u8],
+    at: usize,
+    m: u8,
+    command: Command,
+    to: usize,
+    line: &mut [u8],
+) -> Turn
+    requires { ⌜ at ≤ 65536 ⌝ }
+    requires { ⌜ symbolsEnd m command ≤ length (now bytes) ⌝ }
+    requires { ⌜ length (now found) ≤ 65535 ⌝ }
+    requires { ⌜ 24 + 22 * length (now found) ≤ length (now line) ⌝ }
+    ensures { λ r. ⌜ ((a : Answer) × Carried (state (tables (now (settings .entry)) (now (nodes .entry)) (now (pages .entry)) (now (sketches .entry)) (now (working .entry))) (output (now (found .entry)) (now (distances .entry))) at m) (meant m (now (bytes .entry)) command) to a (take (r .length) (now (line .exit))) (r .going) (state (tables (now (settings .exit)) (now (nodes .exit)) (now (pages .exit)) (now (sketches .exit)) (now (working .exit))) (output (now (found .exit)) (now (distances .exit))) (r .at) (r .m))) ⌝ }
+    ensures { λ r. ⌜ now (line .exit) ≡ sets (now (line .entry)) 0 (take (r .length) (now (line .exit))) ⌝ }
+    ensures { λ r. ⌜ r .length ≤ length (now (line .exit)) ⌝ }
+{
+    let outcome = execute(
+        settings,
+        nodes,
+        pages,
+        sketches,
+        working,
+        found,
+        distances,
+        bytes,
+        m,
+        command,
+    );
+    let number = outcome.number;
+    let length = command_line(
+        command,
+        number,
+        outcome.count,
+        at as u32,
+        found,
+        distances,
+        line,
+    );
+    let going = goes_on(number);
+    Turn {
+        at: offset_after(going, to, at),
+        m: symbols_after(command, m),
+        going,
+        length,
+    }
+}
+
 // One turn. The line is put at the beginning of a lent buffer.
 pub fn take_turn(
     settings: &mut [u32],
@@ -62,37 +120,21 @@ pub fn take_turn(
 {
     let step = read(bytes, at, m);
     match step {
-        Step::Taken(command, to) => {
-            let outcome = execute(
-                settings,
-                nodes,
-                pages,
-                sketches,
-                working,
-                found,
-                distances,
-                bytes,
-                m,
-                command,
-            );
-            let number = outcome.number;
-            let length = command_line(
-                command,
-                number,
-                outcome.count,
-                at as u32,
-                found,
-                distances,
-                line,
-            );
-            let going = goes_on(number);
-            Turn {
-                at: offset_after(going, to, at),
-                m: symbols_after(command, m),
-                going,
-                length,
-            }
-        }
+        Step::Taken(command, to) => carry_out(
+            settings,
+            nodes,
+            pages,
+            sketches,
+            working,
+            found,
+            distances,
+            bytes,
+            at,
+            m,
+            command,
+            to,
+            line,
+        ),
         Step::Refused(number) => Turn {
             at,
             m,

@@ -23,16 +23,14 @@ left-same (met qs i) n ps k e = cc
 left-same unmet n ps k e = let z : _≡_ {A = ℕ} 0 1 = cc in absurd (omega arith)
 
 module _ (h : Header) (N P x : List ℕ) (r : ℕ) where
-  pub blocks-start : (radius nodes : ℕ) → r ≡ radius / h .q → nodes ≡ h .nodes - h .q → meetFrom h N P x r (h .q - 0) 0 nodes ≡ meetBlocks h N P x radius
+  pub blocks-all : (radius nodes : ℕ) → r ≡ radius / h .q → nodes ≡ h .nodes - h .q → meetFrom h N P x r (h .q) 0 nodes ≡ meetBlocks h N P x radius
   unfolding meetBlocks
-  blocks-start radius nodes e n =
-      let all : h .q - 0 ≡ h .q = omega arith in
-      rw (e, all, n)
+  blocks-all radius nodes e n = rw (e, n)
 
-  -- a block radius of 0
-  pub blocks-exact : (radius nodes : ℕ) → r ≡ radius / h .q → r ≡ 0 → nodes ≡ h .nodes - h .q → meetFrom h N P x 0 (h .q) 0 nodes ≡ meetBlocks h N P x radius
-  unfolding meetBlocks
-  blocks-exact radius nodes e z n = rw (← e, z, n)
+  pub blocks-start : (nodes : ℕ) → meetFrom h N P x r (h .q) 0 nodes ≡ meetFrom h N P x r (h .q - 0) 0 nodes
+  blocks-start nodes =
+      let all : h .q ≡ h .q - 0 = omega arith in
+      ap (λ k. meetFrom h N P x r k 0 nodes) all
 
   -- a block leaves no more of the nodes than it was given
   block-left : (j nodes : ℕ) (ps : List ℕ) (k : ℕ) → meetBlock h N P x r j nodes ≡ met ps k → k ≤ nodes

@@ -58,18 +58,8 @@ fn meet_block(
     let mut batch = walk::batch::begin(nodes, &bytes[..n], trie, j, start.radius, start.tally.left);
     loop {
         let links = batch.links;
-        let each = chains_of(&links, batch.n, base, 0);
-        match meet(
-            table,
-            pages,
-            sketches,
-            query,
-            map,
-            counts,
-            scope,
-            each,
-            tally,
-        ) {
+        let cs = chains_of(&links, batch.n, base, 0);
+        match meet(table, pages, sketches, query, map, counts, scope, cs, tally) {
             Tallies::Some(met) => {
                 tally = met;
             }
@@ -140,6 +130,55 @@ fn meet_exact(
     }
 }
 
+// Walks the trie of each block in turn, within a block radius that is not 0. What one leaves of the nodes is the next one's.
+fn meet_each(
+    table: &[u8; 2048],
+    nodes: &[u32],
+    pages: &[u32],
+    sketches: &[u8],
+    query: &[u8],
+    map: &mut [u32],
+    counts: &mut [u32; 65],
+    scope: Scope,
+    radius: u32,
+    first: Tally,
+) -> Tallies
+    requires { ⌜ now table ≡ distanceTable ⌝ }
+    requires { ⌜ Prepared (now nodes) (now pages) (now sketches) (now query) (now map) scope ⌝ }
+    requires { ⌜ (0 < radius) × (first .left < scope .probe .header .nodes) ⌝ }
+    requires { ⌜ Tallied (testBy (now pages) (now sketches) (now query) (scope .probe)) (scope .words) (now map) (now counts) (first .count) ⌝ }
+    ensures { λ r. ⌜ Meeting (testBy (now (pages .entry)) (now (sketches .entry)) (now (query .entry)) (scope .probe)) (scope .words) (meetFrom (scope .probe .header) (now (nodes .entry)) (now (pages .entry)) (now (query .entry)) radius (scope .probe .header .q) 0 (first .left)) (now (map .entry)) (now (map .exit)) (now (counts .exit)) r ⌝ }
+{
+    let q = scope.probe.header.q;
+    let mut tally = first;
+    let mut j = 0;
+    while j < q {
+        let start = Start {
+            block: j,
+            radius,
+            tally,
+        };
+        match meet_block(
+            table,
+            nodes,
+            pages,
+            sketches,
+            query,
+            map,
+            counts,
+            scope,
+            start,
+        ) {
+            Tallies::Some(met) => {
+                tally = met;
+            }
+            Tallies::Broken => return Tallies::Broken,
+        }
+        j += 1;
+    }
+    Tallies::Some(tally)
+}
+
 // Walks the tries of all blocks, each within the block radius. One of 0 leaves one path in each. The budget is every node once, the
 // roots counted first. No page is marked yet.
 pub fn meet_blocks(
@@ -159,7 +198,7 @@ pub fn meet_blocks(
     let q = h.q;
     let table = distances::distance_table();
     let radius = scope.probe.radius / (q as u32);
-    let mut tally = Tally {
+    let start = Tally {
         left: (h.nodes - q) as u32,
         count: 0,
     };
@@ -173,33 +212,19 @@ pub fn meet_blocks(
             map,
             counts,
             scope,
-            tally,
+            start,
         );
     }
-    let mut j = 0;
-    while j < q {
-        let start = Start {
-            block: j,
-            radius,
-            tally,
-        };
-        match meet_block(
-            &table,
-            nodes,
-            pages,
-            sketches,
-            query,
-            map,
-            counts,
-            scope,
-            start,
-        ) {
-            Tallies::Some(met) => {
-                tally = met;
-            }
-            Tallies::Broken => return Tallies::Broken,
-        }
-        j += 1;
-    }
-    Tallies::Some(tally)
+    meet_each(
+        &table,
+        nodes,
+        pages,
+        sketches,
+        query,
+        map,
+        counts,
+        scope,
+        radius,
+        start,
+    )
 }
