@@ -72,7 +72,7 @@ static void fill(struct vetch_tables *t)
 static void show_near(struct vetch_tables *t)
 {
     const uint8_t sketch[SYMBOLS] = { 1, 1, 1, 1 };
-    struct vetch_hits hits = { NULL, NULL, 0, 0 };
+    struct vetch_hits hits = { 0 };
     must("search", vetch_tables_search_all(t, READER, 1, sketch, SYMBOLS, &hits));
     for (uint32_t i = 0; i < hits.count; i++)
         printf("page %u at distance %u\n", (unsigned)hits.pages[i], (unsigned)hits.distances[i]);

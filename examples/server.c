@@ -20,7 +20,7 @@ static void must(const char *call, uint32_t number)
 
 static void search(struct vetch_tables *index, const char *name, uint32_t reader, uint32_t radius, const uint8_t *sketch)
 {
-    struct vetch_hits hits = { NULL, NULL, 0, 0 };
+    struct vetch_hits hits = { 0 };
     must("search", vetch_tables_search_all(index, reader, radius, sketch, SYMBOLS, &hits));
     printf("%s, within %u:", name, (unsigned)radius);
     for (uint32_t i = 0; i < hits.count; i++)

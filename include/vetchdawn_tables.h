@@ -5,7 +5,7 @@
  *
  *     struct vetch_settings s = vetch_settings_make(4, 32, 4, 5000, 40000, 8);
  *     struct vetch_tables t;
- *     struct vetch_hits hits = { NULL, NULL, 0, 0 };
+ *     struct vetch_hits hits = { 0 };
  *     uint32_t number = vetch_tables_new(&t, &s);
  *     ..
  *     number = vetch_tables_search_all(&t, reader, 3, sketch, 32, &hits);
@@ -84,7 +84,7 @@ static inline uint32_t vetch_tables_alloc(struct vetch_tables *t,
 {
     uint32_t settings, nodes, pages, sketches, working, number;
     memset(t, 0, sizeof *t);
-    (void)vetch_version(); /* the library is one of this header's calls */
+    (void)vetch_version(); /* another major version does not link */
     number = vetch_lengths(s->b, s->m, s->q, s->page_capacity, s->node_capacity,
                            &settings, &nodes, &pages, &sketches, &working);
     if (number != VETCH_ACCEPTED)

@@ -213,7 +213,7 @@ static void lists(void)
 {
     struct vetch_settings s = small();
     struct vetch_tables t;
-    struct vetch_hits hits = { NULL, NULL, 0, 0 };
+    struct vetch_hits hits = { 0 };
     const uint8_t sketch[SYMBOLS] = { 1, 2, 3, 3, 2, 1 };
     ASSERT_EQ(vetch_tables_new(&t, &s), VETCH_ACCEPTED);
     ASSERT_EQ(vetch_tables_join(&t, 1, 2), VETCH_ACCEPTED);
