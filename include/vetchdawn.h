@@ -38,6 +38,10 @@
 #ifndef VETCHDAWN_H
 #define VETCHDAWN_H
 
+#define VETCHDAWN_VERSION_MAJOR 1
+#define VETCHDAWN_VERSION_MINOR 0
+#define VETCHDAWN_VERSION_PATCH 0
+
 #include <stddef.h>
 #include <stdint.h>
 
