@@ -194,10 +194,11 @@ fn cmake_package() {
         let moved = folder.join("moved");
         done(Command::new("cp").arg("-a").arg(installed()).arg(&moved));
         let lines = format!(
-            "find_package(vetchdawn 1 REQUIRED CONFIG)\n\
+            "find_package(vetchdawn {1} REQUIRED CONFIG)\n\
              add_executable(with_shared {0}/examples/server.c)\ntarget_link_libraries(with_shared vetchdawn::vetchdawn)\n\
              add_executable(with_archive {0}/examples/server.c)\ntarget_link_libraries(with_archive vetchdawn::vetchdawn_static)\n",
-            root().display()
+            root().display(),
+            version()[0]
         );
         done(&mut cmake(&folder, &lines, &moved));
         done(Command::new("cmake").arg("--build").arg(folder.join("built")));
