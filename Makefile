@@ -15,8 +15,8 @@ endif
 # The times are from nothing, on two cores.
 define HELP
 make run               5 min   the program, run on an example, or on another journal: JOURNAL=file
-make archives          5 min   the program, the archive and the shared library: all that install puts in place
-make install           5 min   archives, put in place: PREFIX=/usr/local LIBDIR=lib, and DESTDIR=folder for packages
+make archives          6 min   the program, the archive and the shared library: all that install puts in place
+make install           6 min   archives, put in place: PREFIX=/usr/local LIBDIR=lib, and DESTDIR=folder for packages
 make uninstall                 removes what install put there; with the same PREFIX and DESTDIR
 make prove             6 min   proves every crate that has changed
 make test             18 min   the gate: every crate proved from nothing, the must-fail edits, the tests
@@ -63,9 +63,10 @@ picture: need-python3
 SOURCES := crates.txt $(shell find crates -name '*.rt' -o -name '*.antt')
 PROGRAM = target/bin/vetchdawn
 program: $(PROGRAM)
+# archives has ALSO: the crates of both are proved in one run
 $(PROGRAM): $(SOURCES)
-	@.ci/need rt
-	@$(PROGRESS) target/program.log rt check vetchdawn
+	@.ci/need rt $(if $(ALSO),ar $(firstword $(CC)))
+	@$(PROGRESS) target/program.log rt check vetchdawn $(ALSO)
 	@touch $@
 
 # what the proved crates offer to C, each as an archive, and all of it in one
@@ -91,7 +92,8 @@ $(SHARED): $(LIBRARY) include/vetchdawn.h vetchdawn.map
 	@ln -sfn $(@F) $(@D)/$(SONAME)
 	@ln -sfn $(SONAME) $(@D)/libvetchdawn.so
 
-archives: $(LIBRARY) $(SHARED) $(PROGRAM)
+archives: ALSO = $(ARCHIVES)
+archives: $(PROGRAM) $(LIBRARY) $(SHARED)
 
 check-rust: need-cargo archives
 	@$(CARGO) test $(TESTS) --lib --test '*'
