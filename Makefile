@@ -12,18 +12,21 @@ ifndef BEGAN
 export BEGAN := $(shell date +%s)
 endif
 
-# The times are from nothing, on two cores.
 define HELP
+make help                      this list; minutes are from nothing, on two cores
 make run               5 min   the program, run on an example, or on another journal: JOURNAL=file
+make program           5 min   the program alone
+make library           5 min   the archive alone
 make archives          6 min   the program, the archive and the shared library: all that install puts in place
 make install           6 min   archives, put in place: PREFIX=/usr/local LIBDIR=lib, and DESTDIR=folder for packages
 make uninstall                 removes what install put there; with the same PREFIX and DESTDIR
 make prove             6 min   proves every crate that has changed
+make edits NAME=crate          tries the must-fail edits of one crate
 make test             18 min   the gate: every crate proved from nothing, the must-fail edits, the tests
-make edits NAME=crate          the must-fail edits of one crate
 make check-rust                archives, then the tests alone
 make fuzz                      the archive, then five minutes of calls on any tables
-make bench                     the archive, then the figures of docs/BENCHMARKS.md; make plot draws them
+make bench                     the archive, then the figures of docs/BENCHMARKS.md
+make plot                      draws docs/bench/search.svg from them
 make picture                   README's picture and list, after a change of crates.txt or of definitions
 endef
 export HELP
