@@ -2,11 +2,12 @@
 //! and that `make uninstall` leaves nothing.
 mod installed;
 
-use installed::{compile_server, done, ended, install, installed, make, root, scratch, there, SERVER};
+use installed::{compile_server, install, installed, make, scratch, SERVER};
 use std::collections::BTreeSet;
 use std::fs;
 use std::path::{Path, PathBuf};
 use std::process::Command;
+use vetchdawn_tests::programs::{done, ended, root, there};
 
 const PYTHON: &str = "\
 page 7 again: refused by question 9

@@ -1,9 +1,9 @@
 //! What `make install` puts below a folder, and the tools that tests use on it.
 #![allow(dead_code)]
-use std::io::Write;
 use std::path::{Path, PathBuf};
-use std::process::{Command, Output};
+use std::process::Command;
 use std::sync::{Mutex, OnceLock};
+use vetchdawn_tests::programs::{compile, done, root};
 
 /// What examples/server.c prints.
 pub const SERVER: &str = "\
@@ -16,37 +16,12 @@ Anna, the nearest six dropped, within 2: 28:1 29:1 31:1 32:1 22:2 23:2 25:2 26:2
 the store is sound
 ";
 
-pub fn root() -> PathBuf {
-    Path::new(env!("CARGO_MANIFEST_DIR")).parent().unwrap().to_path_buf()
-}
-
 /// An empty folder of this name.
 pub fn scratch(name: &str) -> PathBuf {
     let folder = Path::new(env!("CARGO_TARGET_TMPDIR")).join(name);
     let _ = std::fs::remove_dir_all(&folder);
     std::fs::create_dir_all(&folder).unwrap();
     folder
-}
-
-pub fn ended(command: &mut Command) -> Output {
-    command.output().unwrap_or_else(|error| panic!("{command:?}: {error}"))
-}
-
-/// What a command prints that must succeed.
-pub fn done(command: &mut Command) -> String {
-    let output = ended(command);
-    assert!(output.status.success(), "{command:?}: {}", String::from_utf8_lossy(&output.stderr));
-    String::from_utf8(output.stdout).unwrap()
-}
-
-/// Whether a tool is there; where it is not, that is said, past the capture of what a test prints.
-pub fn there(tool: &str) -> bool {
-    let found = Command::new(tool).arg("--version").output().is_ok_and(|output| output.status.success());
-    if !found {
-        let test = std::thread::current().name().unwrap_or("a test").to_string();
-        writeln!(std::io::stderr(), "{test}: skipped, there is no {tool}").unwrap();
-    }
-    found
 }
 
 /// `make` in the repository, without what an outer `make` hands on.
@@ -78,7 +53,5 @@ pub fn installed() -> &'static Path {
 
 /// A C compiler that gives no warning, on examples/server.c; what links the library is for the caller to add.
 pub fn compile_server(built: &Path) -> Command {
-    let mut command = Command::new("cc");
-    command.args(["-std=c99", "-pedantic", "-O2", "-Wall", "-Wextra", "-Werror", "-o"]).arg(built).arg(root().join("examples/server.c"));
-    command
+    compile("c99", "examples/server.c", built)
 }
