@@ -1,5 +1,5 @@
 //! The headers as C programs use them: in every C and C++ without a warning; their names for numbers; the calls on the struct of tables; the
-//! stack that calls take; an index saved and loaded.
+//! stack that calls take; README's first program; an index saved and loaded.
 use std::fs;
 use std::path::{Path, PathBuf};
 use std::process::Command;
@@ -43,6 +43,22 @@ fn calls_on_tables() {
 fn stack_of_calls() {
     let program = built(&folder("stack"), "c99", "tests/c/stack.c");
     println!("{}", done(&mut Command::new(program)));
+}
+
+/// The lines of README's first program, which are indented there.
+fn first_program() -> String {
+    let readme = fs::read_to_string(root().join("README.md")).unwrap();
+    let lines = readme.lines().skip_while(|line| *line != "    #include <stdio.h>").take_while(|line| line.is_empty() || line.starts_with("    "));
+    lines.map(|line| line.strip_prefix("    ").unwrap_or(line).to_string() + "\n").collect()
+}
+
+#[test]
+fn first_program_of_the_readme() {
+    let folder = folder("readme");
+    let source = folder.join("first.c");
+    fs::write(&source, first_program()).unwrap();
+    let program = built(&folder, "c99", source.to_str().unwrap());
+    assert_eq!(done(&mut watched(&program)), "page 7 at distance 0\npage 2 at distance 1\n");
 }
 
 /// Saved and loaded; then the file cut, longer, of another byte order, and with one word changed.
