@@ -60,9 +60,10 @@ fn expected(lib: &str) -> BTreeSet<String> {
     all.extend(libraries.map(|name| format!("{lib}/{name}")));
     all.extend([format!("{lib}/libvetchdawn.so.{major}"), format!("{lib}/libvetchdawn.so.{major}.{minor}.{patch}")]);
     all.extend(names("include", ".h", "include/"));
-    all.extend(names("docs", ".md", documents));
-    all.extend(names("examples", "", &format!("{documents}examples/")));
-    all.extend(["README.md", "CHANGELOG.md"].iter().filter(|name| root().join(name).exists()).map(|name| format!("{documents}{name}")));
+    for (folder, ending) in [("docs", ".md"), ("docs", ".svg"), ("examples", ".c"), ("examples", ".py")] {
+        all.extend(names(folder, ending, &format!("{documents}{folder}/")));
+    }
+    all.extend(["README.md", "CHANGELOG.md"].map(|name| format!("{documents}{name}")));
     all
 }
 
