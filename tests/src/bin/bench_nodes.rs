@@ -141,17 +141,21 @@ fn random_sketches(b: u32, m: u32) -> Vec<Vec<u8>> {
 }
 
 /// Clusters of so many pages each, one after the other: a centre with up to six symbols changed.
-fn clustered_sketches(b: u32, m: u32, each: usize) -> Vec<Vec<u8>> {
+fn clusters(b: u32, m: u32, each: usize) -> impl FnMut() -> Vec<u8> {
     let mut random = Random::new(9);
-    let mut centre = Sketches::new(&mut random, b, m, 1);
-    let near = |p: usize| {
-        if p % each == 0 {
-            centre = Sketches::new(&mut random, b, m, 1);
+    let (mut centre, mut left) = (Sketches::new(&mut random, b, m, 1), each);
+    move || {
+        if left == 0 {
+            (centre, left) = (Sketches::new(&mut random, b, m, 1), each);
         }
+        left -= 1;
         centre.near(&mut random, 6)
-    };
-    // a sketch of zeros would be refused
-    (0..PAGES).map(near).map(|mut x| if x.iter().all(|&c| c == 0) { x[0] = 1; x } else { x }).collect()
+    }
+}
+
+fn clustered_sketches(b: u32, m: u32, each: usize) -> Vec<Vec<u8>> {
+    let mut next = clusters(b, m, each);
+    (0..PAGES).map(|_| next()).collect()
 }
 
 fn print_run(s: &Settings, name: &str, run: &Run) {
@@ -231,16 +235,24 @@ fn replaced(s: &Settings, n: usize, times: &[usize], mut sketch: impl FnMut() ->
     ratios
 }
 
+fn print_replaced(s: &Settings, n: usize, name: &str, sketch: impl FnMut() -> Vec<u8>) {
+    print!("{} {:2} {} {:4}  {n:5}  {name:9}", s.b, s.m, s.q, s.thresholds[0]);
+    replaced(s, n, &[1, 10, 50], sketch).iter().for_each(|ratio| print!(" {ratio:6.3}"));
+    println!("   {:6.3}", lasting_bound(s, n) as f64 / n as f64);
+}
+
 fn by_replacing() {
-    println!("Nodes a page, random sketches, after each page was replaced so often, the oldest first. bound: however often.");
-    println!("b  m q    t  pages       0      1     10     50    bound");
+    println!("Nodes a page after each page was replaced so often, the oldest first. bound: however often.");
+    println!("b  m q    t  pages  sketches       0      1     10     50    bound");
     for (b, m, q) in [(4, 32, 4), (1, 64, 4)] {
         for (n, threshold) in [(1_000, 8), (1_000, 32), (5_000, 8), (5_000, 32), (5_000, 128), (20_000, 32), (20_000, 128)] {
-            let (s, mut random) = (settings(b, m, q, threshold), Random::new(7));
-            let ratios = replaced(&s, n, &[1, 10, 50], || random.bytes(m as usize, 1 << b));
-            print!("{b} {m:2} {q} {threshold:4}  {n:5} ");
-            ratios.iter().for_each(|ratio| print!(" {ratio:6.3}"));
-            println!("   {:6.3}", lasting_bound(&s, n) as f64 / n as f64);
+            let mut random = Random::new(7);
+            print_replaced(&settings(b, m, q, threshold), n, "random", || random.bytes(m as usize, 1 << b));
+        }
+    }
+    for (b, m, q) in [(4, 32, 4), (1, 64, 4), (8, 32, 1)] {
+        for threshold in [8, 32] {
+            print_replaced(&settings(b, m, q, threshold), 5_000, "by 100", clusters(b, m, 100));
         }
     }
 }
