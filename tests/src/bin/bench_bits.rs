@@ -11,7 +11,7 @@ use vetchdawn_tests::baselines::{Build, Case, Hits, Kind, Library, Packed, Pages
 const RADII: std::ops::RangeInclusive<u32> = 0..=10;
 const BLOCKS: std::ops::RangeInclusive<usize> = 1..=8;
 const THRESHOLDS: [u16; 3] = [8, 32, 128];
-const PASSES: usize = 5;
+const PASSES: usize = 9;
 /// So many queries, fewer where a pass would take longer than so many microseconds.
 const QUERIES: usize = 1_000;
 const PASS: f64 = 30_000.0;
@@ -133,29 +133,44 @@ fn print_all(settings: &[Setting]) {
     }
 }
 
-/// A time, or none where the machine cannot run the build.
-fn shown(time: Option<f64>) -> String {
-    time.map_or(format!(" {:>8}", "-"), |time| format!(" {time:8.2}"))
+/// The times at one radius, of the best setting and of each build of the scan, where the machine can run it: in a row and alone.
+struct Line {
+    library: [f64; 2],
+    scans: [[Option<f64>; Build::ALL.len()]; 2],
+}
+
+fn line(bench: &mut Bench, best: &mut Setting, scan: &Packed, r: u32, queries: &[Vec<u8>]) -> Line {
+    let mut each = |time: &dyn Fn(&mut Bench, &mut Words) -> f64| Build::ALL.map(|build| Words::new(scan, build).map(|mut words| time(bench, &mut words)));
+    let scans = [each(&|bench, words| bench.in_a_row(words, r, queries)), each(&|bench, words| bench.alone(words, r, queries))];
+    Line { library: [best.times[r as usize], bench.alone(&mut best.library, r, queries)], scans }
+}
+
+fn print_line(r: u32, listed: f64, best: &Setting, line: &Line) {
+    let shown = |time: Option<f64>| time.map_or(format!(" {:>8}", "-"), |time| format!(" {time:8.2}"));
+    let scans = line.scans.map(|times| times.map(shown).concat());
+    let [in_a_row, alone] = line.library;
+    println!("          {r:2} {listed:6.1} {:2} {:3}   {in_a_row:8.2} {alone:8.2} |          {} |  {}", best.q, best.threshold, scans[0], scans[1]);
+}
+
+/// From which radius on a build of the scan takes less time, if from any.
+fn better_from(lines: &[Line], way: usize, build: usize) -> Option<usize> {
+    let better = |line: &Line| line.scans[way][build].is_some_and(|time| time < line.library[way]);
+    let from = lines.len() - lines.iter().rev().take_while(|line| better(line)).count();
+    (from < lines.len()).then_some(from)
 }
 
 /// By radius the best setting, in a row and alone, and the scans.
 fn print_best(bench: &mut Bench, settings: &mut [Setting], scan: &Packed, queries: &[Vec<u8>]) {
     println!("the best:  r listed  q   t   in a row    alone | scan, in a row: any   popcnt     avx2   avx512 | alone: any   popcnt     avx2   avx512");
+    let mut lines = Vec::new();
     for r in RADII {
         let best = settings.iter_mut().min_by(|x, y| x.times[r as usize].total_cmp(&y.times[r as usize])).unwrap();
         let listed = bench.compare(&mut best.library, scan, r, queries);
-        let alone = bench.alone(&mut best.library, r, queries);
-        print!("          {r:2} {listed:6.1} {:2} {:3}   {:8.2} {alone:8.2} |          ", best.q, best.threshold, best.times[r as usize]);
-        let mut each = |time: &mut dyn FnMut(&mut Bench, &mut Words) -> f64| {
-            for build in Build::ALL {
-                print!("{}", shown(Words::new(scan, build).map(|mut words| time(bench, &mut words))));
-            }
-        };
-        each(&mut |bench, words| bench.in_a_row(words, r, queries));
-        print!(" |  ");
-        each(&mut |bench, words| bench.alone(words, r, queries));
-        println!();
+        lines.push(line(bench, best, scan, r, queries));
+        print_line(r, listed, best, &lines[r as usize]);
     }
+    let from = |way: usize| (0..Build::ALL.len()).map(|build| better_from(&lines, way, build).map_or(format!(" {:>8}", "-"), |r| format!(" {r:8}"))).collect::<String>();
+    println!("the scan is better from this radius on         |          {} |  {}", from(0), from(1));
 }
 
 fn run(n: usize, kind: Kind) {
