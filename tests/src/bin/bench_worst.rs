@@ -10,6 +10,7 @@ use vetchdawn_tests::tables::{Settings, Tables};
 const PAGES: usize = 65_535;
 const NODES: u32 = 262_144;
 const PASSES: usize = 5;
+/// Where the threshold of level 0 stands in the settings table.
 const LEVEL_0: usize = 6;
 
 fn median(mut times: Vec<f64>) -> f64 {
@@ -123,7 +124,8 @@ fn searches(clock: &Clock, s: &Settings, t: &mut Tables) {
     let times: Vec<(f64, u32, u32)> = (0..=64).flat_map(|radius| queries.iter().map(move |query| (radius, query))).map(|(r, x)| search(r, x)).collect();
     let worst = times.iter().max_by(|x, y| x.0.total_cmp(&y.0)).unwrap();
     print("search, every radius", &name(s), times.iter().map(|time| time.0).collect());
-    println!("    the slowest: radius {}, {} listed; radius 64, all listed: {:.1}", worst.1, worst.2, most(&times.iter().filter(|time| time.1 == 64).map(|time| time.0).collect::<Vec<_>>()));
+    let all: Vec<f64> = times.iter().filter(|time| time.1 == 64).map(|time| time.0).collect();
+    println!("    the slowest: radius {}, {} listed; radius 64, all listed: {:.1}", worst.1, worst.2, most(&all));
 }
 
 fn checks(clock: &Clock, s: &Settings, t: &mut Tables) {
@@ -190,7 +192,7 @@ fn great_leaves() {
         let add = |t: &mut Tables, _: usize| calls::add(&mut t.lend(), last as u32, 0, &sketches[last]);
         print("add, one leaf of all pages", &name(&s), row(clock, &t, 1, add));
         t.settings[LEVEL_0] = PAGES as u32 - 1;
-        print("add that splits this leaf", &name(&s), row(clock, &t, 1, add));
+        print("add that splits this leaf", &name(&settings(8, 64, q, 65_534)), row(clock, &t, 1, add));
         let full = one_leaf(&s, &order);
         print("drop, one leaf of all pages", &name(&s), row(clock, &full, 1, |t, _| calls::drop(&mut t.lend(), order[0] as u32)));
     }
