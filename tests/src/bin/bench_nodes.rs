@@ -4,7 +4,7 @@ use vetchdawn_tests::baselines::block;
 use vetchdawn_tests::calls;
 use vetchdawn_tests::plain::packed_length;
 use vetchdawn_tests::random::Random;
-use vetchdawn_tests::stores::Sketches;
+use vetchdawn_tests::stores::{deep_settings, small_settings, Sketches};
 use vetchdawn_tests::tables::{Settings, Tables, FREE};
 
 const PAGES: usize = 65_535;
@@ -303,6 +303,36 @@ fn worst() {
     }
 }
 
+/// Random adds and drops of alike sketches on small settings, thresholds by level: `used` stops where a bound is passed. Gives how often
+/// the bound was reached.
+fn history(random: &mut Random) -> (usize, usize) {
+    let drawn = if random.below(2) == 0 { small_settings(random) } else { deep_settings(random) };
+    let mut index = Index::new(Settings { pages: PAGES as u32, nodes: NODES, ..drawn });
+    let sketches = Sketches::new(random, index.s.b, index.s.m, 4);
+    let mut live = [false; 40];
+    let (mut counts, mut reached) = (0, 0);
+    for _ in 0..300 {
+        let page = random.below(40) as usize;
+        let sketch = sketches.near(random, 4);
+        match live[page] {
+            true => index.drop(page),
+            false if sketch.iter().all(|&c| c == 0) => continue,
+            false => assert!(index.add(page, &sketch)),
+        }
+        live[page] = !live[page];
+        counts += 1;
+        reached += usize::from(index.pages > 0 && index.used() == bound(&index.s, index.pages, index.adds));
+    }
+    (counts, reached)
+}
+
+fn histories() {
+    let mut random = Random::new(11);
+    let all: Vec<(usize, usize)> = (0..100).map(|_| history(&mut random)).collect();
+    let sum = |of: fn(&(usize, usize)) -> usize| all.iter().map(of).sum::<usize>();
+    println!("Random adds and drops on 100 small settings: {} counts, none past a bound, {} at it.", sum(|x| x.0), sum(|x| x.1));
+}
+
 fn main() {
     let mut most = Most::default();
     by_pages(&mut most);
@@ -310,4 +340,5 @@ fn main() {
     most.print();
     by_replacing();
     worst();
+    histories();
 }
