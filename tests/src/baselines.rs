@@ -1,5 +1,6 @@
 //! Other ways to answer the same searches, as plain programs: a pointer trie, hashing of blocks, and scans. None allocates in a search,
 //! each tests a page where it meets it, and what is found is ordered by `sort_unstable`.
+pub mod bits;
 pub mod cases;
 pub mod hashing;
 pub mod hits;
@@ -8,6 +9,7 @@ pub mod packed;
 pub mod scan;
 pub mod trie;
 
+pub use bits::{Build, Words};
 pub use cases::{Case, Kind, Library, Pages, OPEN};
 pub use hashing::Hashing;
 pub use hits::Hits;

@@ -1,5 +1,5 @@
 //! Each way against the plain index: equal lists, the trie's trees equal to the plain ones, and no page tested that need not be.
-use super::{Hashing, Hits, Pages, Planes, Pointers, Way};
+use super::{Build, Hashing, Hits, Pages, Planes, Pointers, Way, Words};
 use crate::plain::{distance, Hit};
 use crate::random::Random;
 use crate::stores::{small_settings, Sketches};
@@ -92,6 +92,26 @@ fn scans_and_hashing_list_what_the_plain_index_lists() {
             assert_eq!(list, lists, "hashing, {s:?}");
             let (near, folded) = (near_blocks(&plain, radius, &query), s.m.div_ceil(s.q) * s.b.next_power_of_two() > 64);
             assert!(tested == near || folded && tested > near, "{tested} tested of {near}, {s:?}");
+        }
+    }
+}
+
+#[test]
+fn each_build_of_the_scan_of_bits_lists_what_packed_rows_list() {
+    let random = &mut Random::new(73);
+    for m in [1, 40, 63, 64] {
+        let mut pages = Pages::new(m);
+        for _ in 0..1_000 {
+            pages.add(random.below(64) as u8, &random.bytes(m, 2));
+        }
+        let (packed, open) = (pages.packed(1), random.next());
+        let out = &mut Hits::new(1_000);
+        for radius in [0, 5, 20, 28, 32, 64] {
+            let query = random.bytes(m, 2);
+            let lists = listed(&mut &packed, open, radius, &query, out).0;
+            for mut words in Build::ALL.into_iter().filter_map(|build| Words::new(&packed, build)) {
+                assert_eq!(listed(&mut words, open, radius, &query, out).0, lists, "m {m}, radius {radius}");
+            }
         }
     }
 }

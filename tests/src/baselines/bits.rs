@@ -1,0 +1,102 @@
+//! The strongest plain scan of sketches of 64 bits: a word a page, exclusive or and population count, chunk by chunk as in the other scans.
+//! The one function is compiled for four kinds of machine.
+use super::packed::{pack, Packed};
+use super::scan::{scan_chunk, CHUNK};
+use super::{Hits, Way};
+
+/// What a build may use.
+#[derive(Clone, Copy, PartialEq, Debug)]
+pub enum Build {
+    /// any x86-64: no population count
+    Any,
+    /// x86-64-v2: population counts of single words
+    Counts,
+    /// x86-64-v3: vectors of 256 bits
+    Avx2,
+    /// vectors of 512 bits, with population counts
+    Avx512,
+}
+
+impl Build {
+    pub const ALL: [Build; 4] = [Build::Any, Build::Counts, Build::Avx2, Build::Avx512];
+
+    pub fn runs_here(self) -> bool {
+        match self {
+            Build::Any => true,
+            Build::Counts => is_x86_feature_detected!("popcnt"),
+            Build::Avx2 => is_x86_feature_detected!("popcnt") && is_x86_feature_detected!("avx2"),
+            Build::Avx512 => is_x86_feature_detected!("avx512vpopcntdq") && is_x86_feature_detected!("avx512vl") && is_x86_feature_detected!("avx512bw"),
+        }
+    }
+}
+
+/// One search: the pages, and what is asked.
+struct Scan<'a> {
+    rows: &'a [u64],
+    classes: &'a [u8],
+    open: u64,
+    radius: u32,
+    wanted: u64,
+}
+
+impl Scan<'_> {
+    #[inline(always)]
+    fn run(&self, out: &mut Hits) {
+        let (chunks, rest) = self.rows.as_chunks::<CHUNK>();
+        for (i, rows) in chunks.iter().enumerate() {
+            scan_chunk(self.classes, i * CHUNK, self.open, self.radius, |k| (rows[k] ^ self.wanted).count_ones(), out);
+        }
+        let first = chunks.len() * CHUNK;
+        for (i, row) in rest.iter().enumerate() {
+            let d = (row ^ self.wanted).count_ones();
+            if d <= self.radius && self.open >> self.classes[first + i] & 1 == 1 {
+                out.put(first + i, d);
+            }
+        }
+    }
+
+    #[target_feature(enable = "popcnt")]
+    fn run_with_counts(&self, out: &mut Hits) {
+        self.run(out);
+    }
+
+    #[target_feature(enable = "popcnt,avx2")]
+    fn run_with_avx2(&self, out: &mut Hits) {
+        self.run(out);
+    }
+
+    #[target_feature(enable = "popcnt,avx2,avx512f,avx512vl,avx512bw,avx512vpopcntdq")]
+    fn run_with_avx512(&self, out: &mut Hits) {
+        self.run(out);
+    }
+}
+
+/// The scan by one build, which runs on this machine.
+pub struct Words<'a> {
+    packed: &'a Packed,
+    build: Build,
+}
+
+impl<'a> Words<'a> {
+    /// Of rows of one word; none where the machine cannot run the build.
+    pub fn new(packed: &'a Packed, build: Build) -> Option<Self> {
+        assert!(packed.width == 1 && packed.words == 1, "sketches of bits, at most 64");
+        build.runs_here().then_some(Words { packed, build })
+    }
+}
+
+impl Way for Words<'_> {
+    fn search(&mut self, open: u64, radius: u32, query: &[u8], out: &mut Hits) -> usize {
+        let [wanted] = pack::<1, 1>(query);
+        let scan = Scan { rows: &self.packed.rows, classes: &self.packed.classes, open, radius, wanted };
+        // safe: `new` has asked the machine
+        match self.build {
+            Build::Any => scan.run(out),
+            Build::Counts => unsafe { scan.run_with_counts(out) },
+            Build::Avx2 => unsafe { scan.run_with_avx2(out) },
+            Build::Avx512 => unsafe { scan.run_with_avx512(out) },
+        }
+        out.list();
+        self.packed.len()
+    }
+}
