@@ -1,7 +1,7 @@
-//! The strongest plain scan of sketches of 64 bits: a word a page, exclusive or and population count, chunk by chunk as in the other scans.
-//! The one function is compiled for four kinds of machine.
+//! The strongest plain scan of sketches of 64 bits that was found: a word a page, exclusive or and population count, chunk by chunk; only where
+//! a row of a chunk is near are they looked at singly. It is compiled for four kinds of machine, each with the test of a chunk that was the
+//! fastest there.
 use super::packed::{pack, Packed};
-use super::scan::{scan_chunk, CHUNK};
 use super::{Hits, Way};
 
 /// What a build may use.
@@ -41,33 +41,64 @@ struct Scan<'a> {
 
 impl Scan<'_> {
     #[inline(always)]
-    fn run(&self, out: &mut Hits) {
-        let (chunks, rest) = self.rows.as_chunks::<CHUNK>();
-        for (i, rows) in chunks.iter().enumerate() {
-            scan_chunk(self.classes, i * CHUNK, self.open, self.radius, |k| (rows[k] ^ self.wanted).count_ones(), out);
-        }
-        let first = chunks.len() * CHUNK;
-        for (i, row) in rest.iter().enumerate() {
-            let d = (row ^ self.wanted).count_ones();
+    fn distance(&self, row: u64) -> u32 {
+        (row ^ self.wanted).count_ones()
+    }
+
+    /// Puts down the near and open ones of some rows.
+    #[inline(always)]
+    fn put(&self, rows: &[u64], first: usize, out: &mut Hits) {
+        for (i, &row) in rows.iter().enumerate() {
+            let d = self.distance(row);
             if d <= self.radius && self.open >> self.classes[first + i] & 1 == 1 {
                 out.put(first + i, d);
             }
         }
     }
 
+    #[inline(always)]
+    fn chunks<const CHUNK: usize>(&self, any_near: impl Fn(&[u64; CHUNK]) -> bool, out: &mut Hits) {
+        let (chunks, rest) = self.rows.as_chunks::<CHUNK>();
+        for (i, rows) in chunks.iter().enumerate() {
+            if any_near(rows) {
+                self.put(rows, i * CHUNK, out);
+            }
+        }
+        self.put(rest, chunks.len() * CHUNK, out);
+    }
+
+    /// Tells by how many are near.
+    #[inline(always)]
+    fn by_count<const CHUNK: usize>(&self, out: &mut Hits) {
+        let near = |row: &u64| u32::from(self.distance(*row) <= self.radius);
+        self.chunks::<CHUNK>(|rows| rows.iter().map(near).sum::<u32>() != 0, out);
+    }
+
+    /// Tells by the signs of distance - radius - 1, in words of 64 bits.
+    #[inline(always)]
+    fn by_sign<const CHUNK: usize>(&self, out: &mut Hits) {
+        let past = u64::from(self.radius) + 1;
+        let less = |row: &u64| u64::from(self.distance(*row)).wrapping_sub(past);
+        self.chunks::<CHUNK>(|rows| rows.iter().map(less).fold(0, |a, b| a | b) >> 63 == 1, out);
+    }
+
+    fn run(&self, out: &mut Hits) {
+        self.by_count::<64>(out);
+    }
+
     #[target_feature(enable = "popcnt")]
     fn run_with_counts(&self, out: &mut Hits) {
-        self.run(out);
+        self.by_sign::<32>(out);
     }
 
     #[target_feature(enable = "popcnt,avx2")]
     fn run_with_avx2(&self, out: &mut Hits) {
-        self.run(out);
+        self.by_sign::<64>(out);
     }
 
     #[target_feature(enable = "popcnt,avx2,avx512f,avx512vl,avx512bw,avx512vpopcntdq")]
     fn run_with_avx512(&self, out: &mut Hits) {
-        self.run(out);
+        self.by_sign::<64>(out);
     }
 }
 

@@ -3,11 +3,11 @@ use super::packed::{bits, distance, pack, shaped, Packed};
 use super::{Hits, Way};
 
 /// So many rows are counted in one loop, which the compiler can vectorise; only where one of them is near are they looked at singly.
-pub(super) const CHUNK: usize = 64;
+const CHUNK: usize = 64;
 
 /// Puts down the rows of a chunk that are near and open.
 #[inline(always)]
-pub(super) fn scan_chunk(classes: &[u8], first: usize, open: u64, radius: u32, distance: impl Fn(usize) -> u32, out: &mut Hits) {
+fn scan_chunk(classes: &[u8], first: usize, open: u64, radius: u32, distance: impl Fn(usize) -> u32, out: &mut Hits) {
     if (0..CHUNK).map(|i| u32::from(distance(i) <= radius)).sum::<u32>() == 0 {
         return;
     }
