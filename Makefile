@@ -31,7 +31,7 @@ make picture                   README's picture and list, after a change of crat
 endef
 export HELP
 
-.PHONY: help run test prove edits picture program library archives check-rust fuzz bench plot install uninstall need-cc
+.PHONY: help run test prove edits picture program library archives check-rust fuzz bench plot install places uninstall need-cc need-tests
 # two runs of rt must not write to target/ at a time
 .NOTPARALLEL:
 # a program whose run failed is not left behind
@@ -45,11 +45,13 @@ need-%:
 	@.ci/need $*
 need-cc:
 	@.ci/need $(firstword $(CC))
+need-tests:
+	@.ci/need cargo cc c++ valgrind
 
 run: program
 	@$(PROGRAM) < $(JOURNAL)
 
-test: need-rt need-cargo need-ar need-cc
+test: need-rt need-ar need-cc need-tests
 	@.ci/run
 
 prove: need-rt
@@ -98,7 +100,7 @@ $(SHARED): $(LIBRARY) include/vetchdawn.h vetchdawn.map
 archives: ALSO = $(ARCHIVES)
 archives: $(PROGRAM) $(LIBRARY) $(SHARED)
 
-check-rust: need-cargo archives
+check-rust: need-tests archives
 	@$(CARGO) test $(TESTS) --lib --test '*'
 
 # the gate has ten seconds of it
@@ -112,14 +114,17 @@ bench: need-cargo library
 	@target/rust/release/bench_search wide | tee docs/bench/wide.txt
 	@$(MAKE) --no-print-directory plot
 
-plot: need-cargo
+plot: need-cargo library
 	@$(CARGO) run --quiet $(TESTS) --bin plot < docs/bench/search.txt > docs/bench/search.svg
 
 prefix = $(abspath $(PREFIX))
-libdir = $(if $(filter /%,$(LIBDIR)),$(LIBDIR),$(prefix)/$(LIBDIR))
+libdir = $(if $(filter /%,$(LIBDIR)),$(abspath $(LIBDIR)),$(prefix)/$(LIBDIR))
 PLACES = DESTDIR='$(DESTDIR)' PREFIX='$(prefix)' LIBDIR='$(libdir)' VERSION='$(VERSION)'
-install: archives
+install: places archives
 	@$(PLACES) .ci/install
+
+places:
+	@$(PLACES) .ci/places
 
 uninstall:
 	@$(PLACES) .ci/uninstall

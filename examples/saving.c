@@ -2,6 +2,7 @@
  * holds nothing to keep. What is loaded is checked before it is used. Build: cc -std=c99 saving.c $(pkg-config --cflags --libs
  * vetchdawn); run: ./a.out save FILE, then ./a.out load FILE */
 #define _POSIX_C_SOURCE 200809L
+#include <errno.h>
 #include <stdio.h>
 #include <stdlib.h>
 #include <unistd.h>
@@ -33,7 +34,7 @@ static int save(const struct vetch_tables *t, const char *name)
         return 0;
     file = fopen(new_name, "wb");
     if (file == NULL)
-        return 0;
+        stop(new_name, strerror(errno));
     whole = fwrite(t->settings, sizeof *t->settings, t->settings_len, file) == t->settings_len &&
             fwrite(t->nodes, sizeof *t->nodes, t->nodes_len, file) == t->nodes_len &&
             fwrite(t->pages, sizeof *t->pages, t->pages_len, file) == t->pages_len &&
@@ -48,7 +49,7 @@ static int load(struct vetch_tables *t, const char *name)
     FILE *file = fopen(name, "rb");
     int whole;
     if (file == NULL)
-        return 0;
+        stop(name, strerror(errno));
     whole = fread(t->settings, sizeof *t->settings, t->settings_len, file) == t->settings_len &&
             fread(t->nodes, sizeof *t->nodes, t->nodes_len, file) == t->nodes_len &&
             fread(t->pages, sizeof *t->pages, t->pages_len, file) == t->pages_len &&
@@ -110,7 +111,9 @@ int main(int count, char **words)
         stop(words[0], "save FILE, or load FILE");
     if (strcmp(words[1], "save") == 0)
         fill_and_save(&settings, words[2]);
-    else
+    else if (strcmp(words[1], "load") == 0)
         load_and_search(&settings, words[2]);
+    else
+        stop(words[1], "save or load");
     return 0;
 }

@@ -1,9 +1,11 @@
-/* Vetchdawn: an index for archives.
+/* Vetchdawn: an index for archives. For Linux on x86-64.
  *
- * Each call returns 0, or the number of the first question that its input fails:
- * enum vetch_refusal names them. A refused call changes nothing but the working
- * table, and 14 as said there. docs/OPERATING.md says what to do about each.
- * vetchdawn_tables.h has the same calls with the five tables in one struct.
+ * A call puts questions to its input, in a fixed order. It returns 0 where all are
+ * passed and it is carried out, else the number of the first that fails: enum
+ * vetch_refusal. A refused call changes nothing but the working table; only 14, in
+ * an add or a drop, may have changed more. docs/OPERATING.md says what to do about
+ * each number, and how to choose settings. vetchdawn_tables.h has the same calls
+ * with the five tables in one struct.
  *
  * What is lent
  *
@@ -45,9 +47,15 @@
     (VETCHDAWN_VERSION_MAJOR * 10000 + VETCHDAWN_VERSION_MINOR * 100 +       \
      VETCHDAWN_VERSION_PATCH)
 
+#define VETCHDAWN_VERSION_TEXT                                               \
+    VETCH_TEXT(VETCHDAWN_VERSION_MAJOR)                                      \
+    "." VETCH_TEXT(VETCHDAWN_VERSION_MINOR) "." VETCH_TEXT(VETCHDAWN_VERSION_PATCH)
+#define VETCH_TEXT(number) VETCH_TEXT_OF(number)
+#define VETCH_TEXT_OF(number) #number
+
 /* The first word of a settings table that was opened. Tables with another mark
- * are laid out otherwise, and every call on them gives 6. All versions 1 have
- * this one. */
+ * are laid out otherwise, and every call on them but an opening gives 6. All
+ * versions 1 have this one. */
 #define VETCHDAWN_LAYOUT_MARK 0x56440002u
 
 /* ---- Limits */
@@ -176,11 +184,18 @@ uint32_t vetch_unpack(uint32_t b, uint32_t m, const uint8_t *bytes,
 /* ---- The journal */
 
 /* Questions 1 to 3 of the command that the bytes begin with, for sketches of m
- * symbols; first is not 0 where it is the first command of its journal. */
+ * symbols, any m; first is not 0 where it is the first command of its journal. */
 uint32_t vetch_form(uint8_t m, uint8_t first, const uint8_t *bytes,
                     size_t bytes_len);
 
-/* ---- The tables of an index; docs/LAYOUT.md says what they hold */
+/* ---- The tables of an index; docs/LAYOUT.md says what they hold
+ *
+ * A sketch is cut into q blocks, and each block is packed to bytes. For each block
+ * there is a tree of nodes over these bytes, one level for each byte. A leaf with
+ * more pages than the threshold of its level is split. A search with radius r goes
+ * into each tree within r / q: with q above r it is fastest. An index opened by
+ * this library with q + pages * (packed bytes of all blocks) nodes refuses no add
+ * by 12; most sketches need far fewer. */
 
 /* How long the tables must be: words of 32 bits, of the sketch table bytes. With
  * a refusal (4) all are 0. b is bits a symbol, m symbols a sketch, q blocks. */
@@ -204,14 +219,12 @@ uint32_t vetch_open(uint32_t *settings, size_t settings_len, uint32_t *nodes,
 uint32_t vetch_add(uint32_t *settings, size_t settings_len, uint32_t *nodes,
                    size_t nodes_len, uint32_t *pages, size_t pages_len,
                    uint8_t *sketches, size_t sketches_len, uint32_t page,
-                   uint32_t class_of_page, const uint8_t *sketch,
+                   uint32_t class_number, const uint8_t *sketch,
                    size_t sketch_len);
 
 /* Drops a page. A leaf that loses its last page by this, and then each inner
  * node that loses its last child, is free for later adds; a root becomes an
- * empty leaf instead. Tables from before this rule need no change: inner nodes
- * without children that they hold stay, and count for 12, until an add gives
- * them a child. */
+ * empty leaf instead. */
 uint32_t vetch_drop(uint32_t *settings, size_t settings_len, uint32_t *nodes,
                     size_t nodes_len, uint32_t *pages, size_t pages_len,
                     const uint8_t *sketches, size_t sketches_len,
@@ -224,9 +237,9 @@ uint32_t vetch_join(uint32_t *settings, size_t settings_len, uint32_t reader,
 uint32_t vetch_leave(uint32_t *settings, size_t settings_len, uint32_t reader,
                      uint32_t group);
 uint32_t vetch_grant(uint32_t *settings, size_t settings_len, uint32_t group,
-                     uint32_t class_of_pages);
+                     uint32_t class_number);
 uint32_t vetch_revoke(uint32_t *settings, size_t settings_len, uint32_t group,
-                      uint32_t class_of_pages);
+                      uint32_t class_number);
 
 /* All pages within the radius (0 to 64) of a sketch, of the classes open to the
  * reader now, in output, and how far each is from the sketch, in the same place
@@ -256,8 +269,12 @@ uint32_t vetch_show(const uint32_t *settings, size_t settings_len,
                     uint32_t reader, uint32_t page, uint32_t *start,
                     uint32_t *length);
 
-/* *sound is 1 if the store is sound and 0 if not, or with a refusal. The working
- * table is left as by a search. */
+/* *sound is 1 if the store is sound and 0 if not, or with a refusal: each live page
+ * has a class and symbols in range and stands once in each tree, where its row
+ * belongs, no other page stands there, and no node is lost. Then searches list all
+ * that they must. Whether the tables are those that were last written is not told:
+ * with other rights, thresholds or classes, and with some other rows, they are
+ * sound as well. The working table is left as by a search. */
 uint32_t vetch_check(const uint32_t *settings, size_t settings_len,
                      const uint32_t *nodes, size_t nodes_len,
                      const uint32_t *pages, size_t pages_len,

@@ -16,6 +16,10 @@
 #ifndef VETCHDAWN_TABLES_H
 #define VETCHDAWN_TABLES_H
 
+#if !defined(__cplusplus) && !(defined(__STDC_VERSION__) && __STDC_VERSION__ >= 199901L)
+#error "vetchdawn_tables.h is for C99 and later, and for C++; vetchdawn.h for C89 too"
+#endif
+
 #include <stdlib.h>
 #include <string.h>
 
@@ -77,8 +81,8 @@ static inline void vetch_tables_free(struct vetch_tables *t)
 }
 
 /* Tables of zeros, as long as these settings need them. They show no opening:
- * open them, or load into them what was saved. 4, or VETCH_NO_MEMORY; the struct
- * has no tables then. */
+ * open them, or load into them what was saved. What the struct held before is not
+ * freed. 4, or VETCH_NO_MEMORY; the struct has no tables then. */
 static inline uint32_t vetch_tables_alloc(struct vetch_tables *t,
                                           const struct vetch_settings *s)
 {
@@ -117,8 +121,7 @@ static inline uint32_t vetch_tables_open(struct vetch_tables *t,
                       VETCH_THRESHOLDS);
 }
 
-/* An index in tables of its own. 4, or VETCH_NO_MEMORY; the struct has no tables
- * then. */
+/* An index in tables of its own: vetch_tables_alloc and vetch_tables_open. */
 static inline uint32_t vetch_tables_new(struct vetch_tables *t,
                                         const struct vetch_settings *s)
 {
@@ -149,12 +152,12 @@ static inline void vetch_tables_view_free(struct vetch_tables *view)
 /* ---- Calls that may change the index */
 
 static inline uint32_t vetch_tables_add(struct vetch_tables *t, uint32_t page,
-                                        uint32_t class_of_page,
+                                        uint32_t class_number,
                                         const uint8_t *sketch, size_t sketch_len)
 {
     return vetch_add(t->settings, t->settings_len, t->nodes, t->nodes_len,
                      t->pages, t->pages_len, t->sketches, t->sketches_len, page,
-                     class_of_page, sketch, sketch_len);
+                     class_number, sketch, sketch_len);
 }
 
 static inline uint32_t vetch_tables_drop(struct vetch_tables *t, uint32_t page)
@@ -178,16 +181,16 @@ static inline uint32_t vetch_tables_leave(struct vetch_tables *t,
 
 static inline uint32_t vetch_tables_grant(struct vetch_tables *t,
                                           uint32_t group,
-                                          uint32_t class_of_pages)
+                                          uint32_t class_number)
 {
-    return vetch_grant(t->settings, t->settings_len, group, class_of_pages);
+    return vetch_grant(t->settings, t->settings_len, group, class_number);
 }
 
 static inline uint32_t vetch_tables_revoke(struct vetch_tables *t,
                                            uint32_t group,
-                                           uint32_t class_of_pages)
+                                           uint32_t class_number)
 {
-    return vetch_revoke(t->settings, t->settings_len, group, class_of_pages);
+    return vetch_revoke(t->settings, t->settings_len, group, class_number);
 }
 
 /* ---- Calls that change the working table alone, or nothing */
@@ -206,8 +209,8 @@ vetch_tables_search(struct vetch_tables *t, uint32_t reader, uint32_t radius,
 }
 
 /* The lists of a search, with room for so many places each: of the first count
- * places pages[i] is a page and distances[i] how far it is. All zero at first;
- * one serves any number of searches, of one thread. */
+ * places pages[i] is a page and distances[i] how far it is. All zero at first, by
+ * { 0 } or in C++ {}; one serves any number of searches, of one thread. */
 struct vetch_hits {
     uint16_t *pages;
     uint16_t *distances;
@@ -222,8 +225,9 @@ static inline void vetch_hits_free(struct vetch_hits *hits)
     memset(hits, 0, sizeof *hits);
 }
 
-/* Empty lists of so many places. VETCH_NO_MEMORY; the lists stay then. */
-static inline uint32_t vetch_hits_reserve(struct vetch_hits *hits, size_t places)
+/* Empty lists of so many places, at least 1, for those of before, which are freed.
+ * VETCH_NO_MEMORY; the lists stay then. */
+static inline uint32_t vetch_hits_replace(struct vetch_hits *hits, size_t places)
 {
     uint16_t *pages = (uint16_t *)calloc(places, sizeof *pages);
     uint16_t *distances = (uint16_t *)calloc(places, sizeof *distances);
@@ -258,7 +262,7 @@ vetch_tables_search_all(struct vetch_tables *t, uint32_t reader,
         if (places < hits->count)
             places = hits->count;
         hits->count = 0;
-        number = vetch_hits_reserve(hits, places);
+        number = vetch_hits_replace(hits, places);
         if (number != VETCH_ACCEPTED)
             return number;
     }

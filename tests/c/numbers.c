@@ -38,8 +38,13 @@ static uint32_t search(uint32_t radius)
 
 static void versions(void)
 {
+    char text[32];
     ASSERT_EQ(vetch_version(), VETCHDAWN_VERSION);
     ASSERT_EQ(VETCHDAWN_VERSION / 10000, VETCHDAWN_VERSION_MAJOR);
+    ASSERT_EQ(VETCHDAWN_VERSION / 100 % 100, VETCHDAWN_VERSION_MINOR);
+    ASSERT_EQ(VETCHDAWN_VERSION % 100, VETCHDAWN_VERSION_PATCH);
+    sprintf(text, "%d.%d.%d", VETCHDAWN_VERSION_MAJOR, VETCHDAWN_VERSION_MINOR, VETCHDAWN_VERSION_PATCH);
+    ASSERT(strcmp(text, VETCHDAWN_VERSION_TEXT) == 0);
     ASSERT_EQ(open_with(1024, VETCH_THRESHOLDS), VETCH_ACCEPTED);
     ASSERT_EQ(settings[0], VETCHDAWN_LAYOUT_MARK);
 }
@@ -109,15 +114,33 @@ static void refusals_of_sketches(void)
     ASSERT_EQ(vetch_measure(2, 1, &three, 1, &three, 1, &distance), VETCH_ACCEPTED);
 }
 
-/* Each number has words of its own, and none has those of another. */
+/* The words for each number. */
 static void words(void)
 {
-    uint32_t i, j;
-    for (i = 0; i <= VETCH_BLANK_PAGE; i++)
-        for (j = i + 1; j <= VETCH_BLANK_PAGE + 1; j++)
-            ASSERT(strcmp(vetch_refusal_text(i), vetch_refusal_text(j)) != 0);
-    ASSERT(strcmp(vetch_refusal_text(VETCH_BLANK_PAGE + 1), vetch_refusal_text(UINT32_MAX)) == 0);
+    static const char *const texts[] = {
+        "accepted",
+        "unknown journal command",
+        "journal command out of place",
+        "journal command cut short",
+        "settings or capacities out of limits",
+        "table too short",
+        "no opening, or a table too short for it",
+        "reader, group, class or radius out of range",
+        "page number not below the capacity",
+        "page live, missing or closed",
+        "wrong number of symbols or bytes",
+        "symbol or packed byte out of range",
+        "too few nodes",
+        "output too short",
+        "damaged tables",
+        "blank page",
+        "unknown number"
+    };
+    uint32_t i;
+    for (i = 0; i < sizeof texts / sizeof *texts; i++)
+        ASSERT(strcmp(vetch_refusal_text(i), texts[i]) == 0);
     ASSERT(strcmp(vetch_refusal_text(VETCH_NO_MEMORY), "no memory") == 0);
+    ASSERT(strcmp(vetch_refusal_text(UINT32_MAX), "unknown number") == 0);
 }
 
 int main(void)

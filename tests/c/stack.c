@@ -116,7 +116,7 @@ static void measure_all(size_t frame)
 int main(void)
 {
     const size_t frame = used_by(nothing);
-    ASSERT_EQ(vetch_hits_reserve(&hits, PAGES), VETCH_ACCEPTED);
+    ASSERT_EQ(vetch_hits_replace(&hits, PAGES), VETCH_ACCEPTED);
     for (uint32_t b = 1; b <= VETCH_MAX_BITS; b += 3)
         for (uint32_t q = 1; q <= VETCH_MAX_BLOCKS; q += 7) {
             settings = vetch_settings_make(b, SYMBOLS, q, PAGES, NODES, 1);

@@ -1,19 +1,24 @@
 /* vetchdawn_tables.h: each call on the struct against the plain call on tables of its own, which must give the same and leave the same;
  * memory that cannot be had; lists that grow; views. */
+#define _POSIX_C_SOURCE 200809L
 #include <stdlib.h>
 #include <string.h>
+#include <unistd.h>
 
 #include "assert.h"
 
-/* So many allocations succeed. */
-static int allocations = 1 << 30;
+/* So many allocations succeed, then one does not, and those behind it do. */
+static int allocations = -1;
+static void *(*volatile zeros)(size_t, size_t) = calloc; /* volatile: a compiler leaves out an allocation that is not used */
 
 static void *scarce(size_t count, size_t size)
 {
-    return allocations-- > 0 ? calloc(count, size) : NULL;
+    return allocations-- == 0 ? NULL : zeros(count, size);
 }
 
 #define calloc scarce
+#include "vetchdawn_tables.h"
+#include "vetchdawn.h"
 #include "vetchdawn_tables.h"
 
 enum { SYMBOLS = 6, PAGES = 40, NODES = 200, ROUNDS = 20000 };
@@ -48,7 +53,7 @@ static void same(const struct vetch_tables *one, const struct vetch_tables *othe
     ASSERT(memcmp(one->sketches, other->sketches, one->sketches_len) == 0);
 }
 
-/* What a thread of the server holds: one index by the struct, its twin by plain calls, the lists of a search. */
+/* An index by the struct, its twin by plain calls, and the lists of a search. */
 struct twins {
     struct vetch_tables t, u;
     struct vetch_hits hits;
@@ -65,12 +70,12 @@ static void draw(struct twins *w)
 static void add(struct twins *w)
 {
     struct vetch_tables *u = &w->u;
-    uint32_t page = below(PAGES + 2), class_of_page = below(66);
+    uint32_t page = below(PAGES + 2), class_number = below(66);
     size_t length = SYMBOLS - (below(20) == 0);
     draw(w);
-    ASSERT_EQ(vetch_tables_add(&w->t, page, class_of_page, w->sketch, length),
+    ASSERT_EQ(vetch_tables_add(&w->t, page, class_number, w->sketch, length),
               vetch_add(u->settings, u->settings_len, u->nodes, u->nodes_len, u->pages, u->pages_len, u->sketches, u->sketches_len, page,
-                        class_of_page, w->sketch, length));
+                        class_number, w->sketch, length));
 }
 
 static void drop(struct twins *w)
@@ -83,16 +88,16 @@ static void drop(struct twins *w)
 
 static void rights(struct twins *w)
 {
-    uint32_t reader = below(4), group = below(4), class_of_pages = below(66), wide = below(34);
+    uint32_t reader = below(4), group = below(4), class_number = below(66), wide = below(34);
     uint32_t *settings = w->u.settings;
     size_t length = w->u.settings_len;
     ASSERT_EQ(vetch_tables_join(&w->t, reader, wide), vetch_join(settings, length, reader, wide));
     ASSERT_EQ(vetch_tables_join(&w->t, reader, group), vetch_join(settings, length, reader, group));
-    ASSERT_EQ(vetch_tables_grant(&w->t, group, class_of_pages), vetch_grant(settings, length, group, class_of_pages));
+    ASSERT_EQ(vetch_tables_grant(&w->t, group, class_number), vetch_grant(settings, length, group, class_number));
     if (below(8) == 0)
         ASSERT_EQ(vetch_tables_leave(&w->t, reader, group), vetch_leave(settings, length, reader, group));
     if (below(8) == 0)
-        ASSERT_EQ(vetch_tables_revoke(&w->t, group, class_of_pages), vetch_revoke(settings, length, group, class_of_pages));
+        ASSERT_EQ(vetch_tables_revoke(&w->t, group, class_number), vetch_revoke(settings, length, group, class_number));
 }
 
 /* The same lists, by the struct with lists lent and with lists that grow. */
@@ -136,10 +141,13 @@ static void show(struct twins *w)
 /* The working table need not be zero. The state of a root, word N of the nodes, is never 0. */
 static void check(struct twins *w)
 {
-    uint32_t sound = 9, root = w->t.nodes[NODES];
+    struct vetch_tables *u = &w->u;
+    uint32_t sound = 9, said = 9, root = w->t.nodes[NODES];
     memset(w->t.working, 1, w->t.working_len * sizeof *w->t.working);
-    ASSERT_EQ(vetch_tables_check(&w->t, &sound), VETCH_ACCEPTED);
-    ASSERT_EQ(sound, 1);
+    ASSERT_EQ(vetch_tables_check(&w->t, &sound),
+              vetch_check(u->settings, u->settings_len, u->nodes, u->nodes_len, u->pages, u->pages_len, u->sketches, u->sketches_len,
+                          u->working, u->working_len, &said));
+    ASSERT(sound == 1 && said == 1);
     w->t.nodes[NODES] = 0;
     ASSERT_EQ(vetch_tables_check(&w->t, &sound), VETCH_ACCEPTED);
     ASSERT_EQ(sound, 0);
@@ -205,7 +213,7 @@ static void no_memory_for_tables(void)
         ASSERT_EQ(vetch_tables_new(&t, &s), VETCH_NO_MEMORY);
         ASSERT(has_none(&t));
     }
-    allocations = 1 << 30;
+    allocations = -1;
 }
 
 /* Ten equal pages, then lists without memory, with memory for one list, and with enough. */
@@ -220,13 +228,12 @@ static void lists(void)
     ASSERT_EQ(vetch_tables_grant(&t, 2, 3), VETCH_ACCEPTED);
     for (uint32_t page = 0; page < 10; page++)
         ASSERT_EQ(vetch_tables_add(&t, page, 3, sketch, SYMBOLS), VETCH_ACCEPTED);
-    for (allocations = 0; allocations < 2;) {
-        int had = allocations;
+    for (int had = 0; had < 2; had++) {
+        allocations = had;
         ASSERT_EQ(vetch_tables_search_all(&t, 1, 0, sketch, SYMBOLS, &hits), VETCH_NO_MEMORY);
         ASSERT_EQ(hits.count, 0);
-        allocations = had + 1;
     }
-    allocations = 1 << 30;
+    allocations = -1;
     ASSERT_EQ(vetch_tables_search_all(&t, 1, 0, sketch, SYMBOLS, &hits), VETCH_ACCEPTED);
     ASSERT_EQ(hits.count, 10);
     ASSERT_EQ(hits.places, 10);
@@ -236,7 +243,14 @@ static void lists(void)
     ASSERT_EQ(hits.places, 20);
     ASSERT_EQ(vetch_tables_search_all(&t, 1, 65, sketch, SYMBOLS, &hits), VETCH_OUT_OF_RANGE);
     ASSERT_EQ(hits.count, 0);
+    allocations = 1;
+    ASSERT_EQ(vetch_hits_replace(&hits, 30), VETCH_NO_MEMORY);
+    ASSERT_EQ(hits.places, 20);
+    hits.count = 1;
+    ASSERT_EQ(vetch_hits_replace(&hits, 30), VETCH_ACCEPTED);
+    ASSERT(hits.places == 30 && hits.count == 0);
     vetch_hits_free(&hits);
+    ASSERT(hits.pages == NULL && hits.distances == NULL && hits.places == 0 && hits.count == 0);
     vetch_tables_free(&t);
 }
 
@@ -244,15 +258,18 @@ static void lists(void)
 static void views(void)
 {
     struct vetch_settings s = small();
-    struct vetch_tables t, view;
+    struct vetch_tables t, view, other;
     uint32_t sound;
     ASSERT_EQ(vetch_tables_new(&t, &s), VETCH_ACCEPTED);
     allocations = 0;
     ASSERT_EQ(vetch_tables_view(&view, &t), VETCH_NO_MEMORY);
     ASSERT(has_none(&view));
-    allocations = 1 << 30;
+    allocations = -1;
     ASSERT_EQ(vetch_tables_view(&view, &t), VETCH_ACCEPTED);
-    ASSERT(view.nodes == t.nodes && view.working != t.working);
+    ASSERT(view.working != t.working);
+    other = view;
+    other.working = t.working;
+    ASSERT(memcmp(&other, &t, sizeof t) == 0);
     memset(t.working, 1, t.working_len * sizeof *t.working);
     ASSERT_EQ(vetch_tables_check(&view, &sound), VETCH_ACCEPTED);
     ASSERT_EQ(sound, 1);
@@ -263,8 +280,60 @@ static void views(void)
     ASSERT(has_none(&t));
 }
 
+/* What is asked for, and tables as long as vetch_lengths says. */
+static void settings_and_lengths(void)
+{
+    struct vetch_settings s = vetch_settings_make(2, 6, 3, 40, 200, 7);
+    struct vetch_tables t;
+    uint32_t settings, nodes, pages, sketches, working;
+    ASSERT(s.b == 2 && s.m == 6 && s.q == 3 && s.page_capacity == 40 && s.node_capacity == 200);
+    for (int level = 0; level < VETCH_THRESHOLDS; level++)
+        ASSERT_EQ(s.thresholds[level], 7);
+    ASSERT_EQ(vetch_lengths(2, 6, 3, 40, 200, &settings, &nodes, &pages, &sketches, &working), VETCH_ACCEPTED);
+    ASSERT_EQ(vetch_tables_alloc(&t, &s), VETCH_ACCEPTED);
+    ASSERT(t.settings_len == settings && t.nodes_len == nodes && t.pages_len == pages && t.sketches_len == sketches && t.working_len == working);
+    vetch_tables_free(&t);
+}
+
+/* Each call hands on the length of each table: one table too short is refused by 5 or 6 where the call is lent it. */
+static void short_tables(void)
+{
+    struct vetch_settings s = small();
+    struct vetch_tables t;
+    struct vetch_hits hits = { 0 };
+    const uint8_t sketch[SYMBOLS] = { 1 };
+    uint32_t count;
+    ASSERT_EQ(vetch_tables_new(&t, &s), VETCH_ACCEPTED);
+    for (int table = 0; table < 5; table++) {
+        struct vetch_tables u = t;
+        size_t *const lengths[] = { &u.settings_len, &u.nodes_len, &u.pages_len, &u.sketches_len, &u.working_len };
+        const uint32_t refused = table == 0 ? VETCH_SHORT_TABLE : VETCH_NO_OPENING;
+        const uint32_t settings = table == 0 ? VETCH_SHORT_TABLE : VETCH_ACCEPTED;
+        const uint8_t *row;
+        size_t row_len;
+        uint32_t sound;
+        --*lengths[table];
+        ASSERT_EQ(vetch_tables_open(&u, &s), VETCH_SHORT_TABLE);
+        ASSERT_EQ(vetch_tables_join(&u, 0, 0), settings);
+        ASSERT_EQ(vetch_tables_leave(&u, 0, 0), settings);
+        ASSERT_EQ(vetch_tables_grant(&u, 0, 0), settings);
+        ASSERT_EQ(vetch_tables_revoke(&u, 0, 0), settings);
+        ASSERT_EQ(vetch_tables_add(&u, PAGES, 0, sketch, SYMBOLS), table == 4 ? VETCH_NO_SUCH_PAGE : refused);
+        ASSERT_EQ(vetch_tables_drop(&u, PAGES), table == 4 ? VETCH_NO_SUCH_PAGE : refused);
+        ASSERT_EQ(vetch_tables_show(&u, 0, PAGES, &row, &row_len), table == 1 || table == 4 ? VETCH_NO_SUCH_PAGE : refused);
+        ASSERT_EQ(vetch_tables_search_all(&u, 0, 0, sketch, SYMBOLS, &hits), refused);
+        ASSERT_EQ(vetch_tables_check(&u, &sound), refused);
+    }
+    ASSERT_EQ(vetch_tables_search(&t, 0, 0, sketch, SYMBOLS - 1, NULL, 0, NULL, 0, &count), VETCH_BAD_LENGTH);
+    ASSERT_EQ(vetch_tables_search_all(&t, 0, 0, sketch, SYMBOLS - 1, &hits), VETCH_BAD_LENGTH);
+    vetch_tables_free(&t);
+}
+
 int main(void)
 {
+    alarm(60); /* a list that grows without end fails too */
+    settings_and_lengths();
+    short_tables();
     calls_as_plain();
     refused_settings();
     no_memory_for_tables();

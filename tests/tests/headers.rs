@@ -52,13 +52,28 @@ fn first_program() -> String {
     lines.map(|line| line.strip_prefix("    ").unwrap_or(line).to_string() + "\n").collect()
 }
 
+const PRINTED: &str = "page 7 at distance 0\npage 2 at distance 1\n";
+
 #[test]
 fn first_program_of_the_readme() {
     let folder = folder("readme");
     let source = folder.join("first.c");
     fs::write(&source, first_program()).unwrap();
     let program = built(&folder, "c99", source.to_str().unwrap());
-    assert_eq!(done(&mut watched(&program)), "page 7 at distance 0\npage 2 at distance 1\n");
+    assert_eq!(done(&mut watched(&program)), PRINTED);
+    assert!(done(Command::new("nm").arg(&program)).contains(" vetch_version_1\n"), "the major version is asked for");
+}
+
+/// The same program in C++, which links by the names of C.
+#[test]
+fn first_program_in_cpp() {
+    let folder = folder("readme_cpp");
+    let (source, program) = (folder.join("first.cpp"), folder.join("first"));
+    fs::write(&source, first_program()).unwrap();
+    let mut command = Command::new("c++");
+    command.args(["-std=c++11", "-pedantic", "-Wall", "-Werror", "-I"]).arg(root().join("include"));
+    done(command.arg(&source).arg(root().join("target/staticlib/libvetchdawn.a")).arg("-o").arg(&program));
+    assert_eq!(done(&mut Command::new(&program)), PRINTED);
 }
 
 /// Saved and loaded; then the file cut, longer, of another byte order, and with one word changed.

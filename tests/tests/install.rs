@@ -60,7 +60,8 @@ fn expected(lib: &str) -> BTreeSet<String> {
     all.extend(libraries.map(|name| format!("{lib}/{name}")));
     all.extend([format!("{lib}/libvetchdawn.so.{major}"), format!("{lib}/libvetchdawn.so.{major}.{minor}.{patch}")]);
     all.extend(names("include", ".h", "include/"));
-    for (folder, ending) in [("docs", ".md"), ("docs", ".svg"), ("examples", ".c"), ("examples", ".py")] {
+    let docs = ["docs", "docs/bench", "docs/landings"].into_iter().flat_map(|folder| [".md", ".svg", ".txt"].map(|ending| (folder, ending)));
+    for (folder, ending) in docs.chain([("examples", ".c"), ("examples", ".py")]) {
         all.extend(names(folder, ending, &format!("{documents}{folder}/")));
     }
     all.extend(["README.md", "CHANGELOG.md"].map(|name| format!("{documents}{name}")));
@@ -137,6 +138,7 @@ fn soname() {
 fn exported_calls() {
     let said = done(Command::new("nm").args(["-D", "--defined-only", "--format=posix"]).arg(shared(installed())));
     let exported: BTreeSet<String> = said.lines().map(|line| line.split(' ').next().unwrap().to_string()).collect();
+    assert!(exported.contains(&format!("vetch_version_{}", version()[0])));
     let headers = names("include", ".h", "include/");
     let calls: BTreeSet<String> = headers.iter().flat_map(|path| declared(&fs::read_to_string(installed().join(path)).unwrap())).collect();
     assert!(calls.len() > 10);
@@ -269,6 +271,44 @@ fn uninstall_leaves_what_was_there() {
     assert_eq!(files(&folder), BTreeSet::from(["share/doc/vetchdawn/notes".to_string()]));
     let left: BTreeSet<String> = fs::read_dir(&folder).unwrap().map(|entry| entry.unwrap().file_name().into_string().unwrap()).collect();
     assert_eq!(left, BTreeSet::from(["bin".to_string(), "share".to_string()]));
+}
+
+/// A folder that was copied is uninstalled by itself.
+#[test]
+fn uninstall_of_a_copy() {
+    let folder = scratch("copied");
+    let copy = folder.join("copy");
+    done(Command::new("cp").arg("-a").arg(installed()).arg(&copy));
+    done(&mut make(&["uninstall", &format!("PREFIX={}", copy.display())]));
+    assert_eq!(fs::read_dir(&copy).unwrap().count(), 0);
+    assert_eq!(files(installed()), expected("lib"));
+}
+
+/// What cannot be removed keeps the record, so that the next time removes the rest.
+#[test]
+fn uninstall_in_two_times() {
+    let folder = scratch("twice");
+    let prefix = format!("PREFIX={}", folder.display());
+    install(&[&prefix]);
+    let archive = folder.join("lib/libvetchdawn.a");
+    fs::remove_file(&archive).unwrap();
+    fs::create_dir(&archive).unwrap();
+    assert!(!ended(&mut make(&["uninstall", &prefix])).status.success());
+    fs::remove_dir(&archive).unwrap();
+    done(&mut make(&["uninstall", &prefix]));
+    assert_eq!(files(&folder), BTreeSet::new());
+}
+
+#[test]
+fn places_are_asked_for_first() {
+    let told = |place: &str| {
+        let output = ended(&mut make(&["install", place]));
+        assert!(!output.status.success());
+        String::from_utf8(output.stderr).unwrap()
+    };
+    assert!(told("PREFIX=/tmp/p q").starts_with("PREFIX and LIBDIR are made of "));
+    assert!(told("PREFIX=/tmp/p&q").starts_with("PREFIX and LIBDIR are made of "));
+    assert!(told(&format!("PREFIX={}", root().display())).starts_with("PREFIX is this repository"));
 }
 
 /// The times of all that is built.
