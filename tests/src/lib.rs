@@ -12,6 +12,7 @@ pub mod random;
 pub mod sound;
 pub mod stores;
 pub mod tables;
+pub mod timing;
 pub mod trees;
 pub mod walks;
 pub mod written;

@@ -4,6 +4,7 @@ use std::time::Instant;
 use vetchdawn_tests::calls;
 use vetchdawn_tests::random::Random;
 use vetchdawn_tests::tables::{Settings, Tables};
+use vetchdawn_tests::timing::median;
 
 const PAGES: usize = 65_535;
 const ROUNDS: usize = 3;
@@ -11,11 +12,6 @@ const ROUNDS: usize = 3;
 const FULL: usize = 100;
 /// With thresholds from here on there is one round.
 const LONG: u16 = 65_535;
-
-fn median(mut times: Vec<f64>) -> f64 {
-    times.sort_by(f64::total_cmp);
-    times[times.len() / 2]
-}
 
 fn shuffled(random: &mut Random) -> Vec<u32> {
     let mut pages: Vec<u32> = (0..PAGES as u32).collect();

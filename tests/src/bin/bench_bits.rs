@@ -4,9 +4,8 @@
 //!
 //!     bench_bits            65,535, 8,000 and 1,000 pages
 //!     bench_bits 8000       so many pages
-use std::hint::black_box;
-use std::time::Instant;
 use vetchdawn_tests::baselines::{Build, Case, Hits, Kind, Library, Packed, Pages, Way, Words, OPEN};
+use vetchdawn_tests::timing::{median, Watch};
 
 const RADII: std::ops::RangeInclusive<u32> = 0..=10;
 const BLOCKS: std::ops::RangeInclusive<usize> = 1..=8;
@@ -19,15 +18,6 @@ const LEAST: usize = 10;
 /// So many are put alone, and compared.
 const ALONE: usize = 50;
 
-fn median(mut times: Vec<f64>) -> f64 {
-    times.sort_by(f64::total_cmp);
-    times[times.len() / 2]
-}
-
-fn microseconds(start: Instant) -> f64 {
-    start.elapsed().as_nanos() as f64 / 1_000.0
-}
-
 /// The mean over the queries of the median of their passes.
 fn mean(passes: &[Vec<f64>]) -> f64 {
     let queries = passes[0].len();
@@ -35,26 +25,19 @@ fn mean(passes: &[Vec<f64>]) -> f64 {
 }
 
 struct Bench {
-    sweep: Vec<u64>,
-    clock: f64,
+    watch: Watch,
     hits: Hits,
 }
 
 impl Bench {
     fn new(pages: usize) -> Self {
-        let clock = median((0..10_001).map(|_| microseconds(Instant::now())).collect());
-        Bench { sweep: (0..1 << 19).collect(), clock, hits: Hits::new(pages) }
-    }
-
-    /// Reads 4 MB, as other work would.
-    fn sweep(&self) {
-        black_box(black_box(&self.sweep).iter().fold(0, |a, &b| a ^ b));
+        Bench { watch: Watch::default(), hits: Hits::new(pages) }
     }
 
     fn one(&mut self, way: &mut dyn Way, r: u32, query: &[u8]) -> f64 {
-        let start = Instant::now();
-        way.search(OPEN, r, query, &mut self.hits);
-        microseconds(start) - self.clock
+        self.watch.time(|| {
+            way.search(OPEN, r, query, &mut self.hits);
+        })
     }
 
     /// How many queries to put.
@@ -67,7 +50,7 @@ impl Bench {
     fn in_a_row(&mut self, way: &mut dyn Way, r: u32, queries: &[Vec<u8>]) -> f64 {
         let queries = &queries[..self.queries(way, r, queries)];
         let mut pass = || {
-            self.sweep();
+            self.watch.sweep();
             queries.iter().map(|query| self.one(way, r, query)).collect()
         };
         let passes: Vec<Vec<f64>> = (0..PASSES).map(|_| pass()).collect();
@@ -77,7 +60,7 @@ impl Bench {
     /// The same where 4 MB of other memory are read before each search.
     fn alone(&mut self, way: &mut dyn Way, r: u32, queries: &[Vec<u8>]) -> f64 {
         let mut after_sweep = |query: &[u8]| {
-            self.sweep();
+            self.watch.sweep();
             self.one(way, r, query)
         };
         let queries = &queries[..ALONE];

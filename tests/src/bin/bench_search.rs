@@ -11,10 +11,9 @@
 //!
 //! Sketches are random or clustered; few are clustered ones with queries that list 8 to 12 pages. Built with the feature `one_list`, for
 //! an archive of before F-3, the pages listed are compared whatever their order.
-use std::hint::black_box;
-use std::time::Instant;
 use vetchdawn_tests::baselines::{Case, Hashing, Hits, Kind, Library, Packed, Pages, Planes, Pointers, Way, OPEN};
 use vetchdawn_tests::calls::ONE_LIST;
+use vetchdawn_tests::timing::{median, Watch};
 
 /// b, m, r, q.
 type Setting = (u32, usize, u32, usize);
@@ -56,15 +55,6 @@ fn trie(c: &Case, pages: &Pages) -> Pointers {
     trie
 }
 
-fn median(mut times: Vec<f64>) -> f64 {
-    times.sort_by(f64::total_cmp);
-    times[times.len() / 2]
-}
-
-fn microseconds(start: Instant) -> f64 {
-    start.elapsed().as_nanos() as f64 / 1_000.0
-}
-
 /// The lists of pages and distances; of a library without distances the pages alone, rising.
 fn listed(hits: &Hits) -> (Vec<u16>, Vec<u16>) {
     let mut pages = hits.pages().to_vec();
@@ -75,32 +65,23 @@ fn listed(hits: &Hits) -> (Vec<u16>, Vec<u16>) {
     (pages, hits.distances().to_vec())
 }
 
-/// What a turn needs beside its way: memory to read, room for the lists, and what looking at the clock costs.
+/// What a turn needs beside its way: a watch, and room for the lists.
 struct Bench {
-    sweep: Vec<u64>,
+    watch: Watch,
     hits: Hits,
-    clock: f64,
 }
 
 impl Bench {
     fn new() -> Self {
-        let clock = median((0..10_001).map(|_| microseconds(Instant::now())).collect());
-        Bench { sweep: (0..1 << 19).collect(), hits: Hits::new(PAGES), clock }
-    }
-
-    /// Before each turn 4 MB are read, as other work would, so that all ways find the nearer caches alike.
-    fn sweep(&self) {
-        black_box(black_box(&self.sweep).iter().fold(0, |a, &b| a ^ b));
+        Bench { watch: Watch::default(), hits: Hits::new(PAGES) }
     }
 
     /// A turn: a row of queries is answered, each one's time put down, and `seen` is shown what it lists. Gives how many pages were tested.
     fn turn(&mut self, c: &Case, way: &mut dyn Way, queries: &[Vec<u8>], times: &mut [Vec<f64>], mut seen: impl FnMut(&Hits)) -> usize {
-        self.sweep();
+        self.watch.sweep();
         let mut tested = 0;
         for (query, times) in queries.iter().zip(times) {
-            let start = Instant::now();
-            tested += way.search(c.open, c.r, query, &mut self.hits);
-            times.push(microseconds(start) - self.clock);
+            times.push(self.watch.time(|| tested += way.search(c.open, c.r, query, &mut self.hits)));
             seen(&self.hits);
         }
         tested

@@ -2,6 +2,7 @@
 use std::hint::black_box;
 use std::time::Instant;
 use vetchdawn_tests::random::Random;
+use vetchdawn_tests::timing::median;
 use vetchdawn_tests::{calls, plain};
 
 const PAIRS: usize = 4096;
@@ -12,11 +13,6 @@ fn timed(mut work: impl FnMut() -> u64) -> f64 {
     let start = Instant::now();
     black_box(work());
     start.elapsed().as_nanos() as f64 / PAIRS as f64
-}
-
-fn median(mut times: Vec<f64>) -> f64 {
-    times.sort_by(f64::total_cmp);
-    times[times.len() / 2]
 }
 
 type Work<'a> = &'a mut dyn FnMut() -> u64;

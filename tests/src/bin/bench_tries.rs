@@ -5,6 +5,7 @@ use vetchdawn_tests::calls;
 use vetchdawn_tests::random::Random;
 use vetchdawn_tests::stores::Sketches;
 use vetchdawn_tests::tables::{Settings, Tables};
+use vetchdawn_tests::timing::median;
 
 const PAGES: usize = 65_535;
 const ROUNDS: usize = 7;
@@ -13,11 +14,6 @@ fn opened(s: &Settings) -> Tables {
     let mut t = Tables::filled_with(0, s);
     assert_eq!(calls::open(&mut t, s), 0);
     t
-}
-
-fn median(mut times: Vec<f64>) -> f64 {
-    times.sort_by(f64::total_cmp);
-    times[times.len() / 2]
 }
 
 fn shuffled(random: &mut Random, pages: u32) -> Vec<u32> {

@@ -6,6 +6,7 @@ use vetchdawn_tests::calls;
 use vetchdawn_tests::plain::signature;
 use vetchdawn_tests::random::Random;
 use vetchdawn_tests::tables::{Settings, Tables};
+use vetchdawn_tests::timing::{median, Watch};
 
 const PAGES: usize = 65_535;
 const NODES: u32 = 262_144;
@@ -13,33 +14,8 @@ const PASSES: usize = 5;
 /// Where the threshold of level 0 stands in the settings table.
 const LEVEL_0: usize = 6;
 
-fn median(mut times: Vec<f64>) -> f64 {
-    times.sort_by(f64::total_cmp);
-    times[times.len() / 2]
-}
-
 fn most(times: &[f64]) -> f64 {
     times.iter().copied().fold(0.0, f64::max)
-}
-
-struct Clock {
-    sweep: Vec<u64>,
-    cost: f64,
-}
-
-impl Clock {
-    fn new() -> Self {
-        let cost = median((0..10_001).map(|_| Instant::now().elapsed().as_nanos() as f64 / 1_000.0).collect());
-        Clock { sweep: (0..1 << 19).collect(), cost }
-    }
-
-    /// Microseconds, less what the clock costs, behind a sweep.
-    fn time(&self, work: impl FnOnce()) -> f64 {
-        black_box(black_box(&self.sweep).iter().fold(0, |a, &b| a ^ b));
-        let start = Instant::now();
-        work();
-        start.elapsed().as_nanos() as f64 / 1_000.0 - self.cost
-    }
 }
 
 fn print(call: &str, tables: &str, times: Vec<f64>) {
@@ -110,14 +86,14 @@ fn one_leaf(s: &Settings, order: &[usize]) -> Tables {
 }
 
 /// Searches at every radius, for a random sketch and for those of two pages; the slowest radius of each.
-fn searches(clock: &Clock, s: &Settings, t: &mut Tables) {
+fn searches(watch: &Watch, s: &Settings, t: &mut Tables) {
     let random = Random::new(8).bytes(s.m as usize, 1 << s.b);
     let m = s.m as usize;
     let queries = [random, t.sketches[..m].to_vec(), t.sketches[PAGES / 2 * m..][..m].to_vec()];
     let (mut pages, mut distances) = (vec![0u16; PAGES], vec![0u16; PAGES]);
     let mut search = |radius: u32, query: &[u8]| {
         let mut listed = 0;
-        let mut once = || clock.time(|| listed = calls::search(&mut t.lend(), 0, radius, query, &mut pages, &mut distances).value);
+        let mut once = || watch.alone(|| listed = calls::search(&mut t.lend(), 0, radius, query, &mut pages, &mut distances).value);
         let time = median((0..PASSES).map(|_| once()).collect());
         (time, radius, listed)
     };
@@ -128,37 +104,37 @@ fn searches(clock: &Clock, s: &Settings, t: &mut Tables) {
     println!("    the slowest: radius {}, {} listed; radius 64, all listed: {:.1}", worst.1, worst.2, most(&all));
 }
 
-fn checks(clock: &Clock, s: &Settings, t: &mut Tables) {
-    print("check", &name(s), (0..PASSES).map(|_| clock.time(|| assert!(is_sound(t)))).collect());
+fn checks(watch: &Watch, s: &Settings, t: &mut Tables) {
+    print("check", &name(s), (0..PASSES).map(|_| watch.alone(|| assert!(is_sound(t)))).collect());
 }
 
 /// Tables that were used already are opened again.
-fn openings(clock: &Clock, s: &Settings, t: &mut Tables) {
-    print("open", &name(s), (0..PASSES).map(|_| clock.time(|| assert_eq!(calls::open(t, s), 0))).collect());
+fn openings(watch: &Watch, s: &Settings, t: &mut Tables) {
+    print("open", &name(s), (0..PASSES).map(|_| watch.alone(|| assert_eq!(calls::open(t, s), 0))).collect());
 }
 
 fn readings() {
-    let clock = &Clock::new();
+    let watch = &Watch::default();
     for (b, m, q, threshold) in [(4, 32, 4, 8), (4, 32, 4, 2), (1, 64, 8, 32), (1, 64, 4, 8), (8, 64, 4, 2), (8, 64, 8, 300)] {
         let s = settings(b, m, q, threshold);
         let mut t = filled(&s);
-        searches(clock, &s, &mut t);
-        checks(clock, &s, &mut t);
-        openings(clock, &s, &mut t);
+        searches(watch, &s, &mut t);
+        checks(watch, &s, &mut t);
+        openings(watch, &s, &mut t);
     }
     for q in [1, 8] {
         let s = settings(8, 64, q, 65_535);
         let mut t = one_leaf(&s, &shuffled());
-        searches(clock, &s, &mut t);
-        checks(clock, &s, &mut t);
+        searches(watch, &s, &mut t);
+        checks(watch, &s, &mut t);
     }
 }
 
 /// The times of a row of calls on tables, call by call: the same row again on a copy of the tables, the median of each call.
-fn row(clock: &Clock, t: &Tables, calls: usize, mut call: impl FnMut(&mut Tables, usize) -> u32) -> Vec<f64> {
+fn row(watch: &Watch, t: &Tables, calls: usize, mut call: impl FnMut(&mut Tables, usize) -> u32) -> Vec<f64> {
     let mut pass = || {
         let mut t = t.clone();
-        (0..calls).map(|i| clock.time(|| assert_eq!(call(&mut t, i), 0))).collect::<Vec<f64>>()
+        (0..calls).map(|i| watch.alone(|| assert_eq!(call(&mut t, i), 0))).collect::<Vec<f64>>()
     };
     let passes: Vec<Vec<f64>> = (0..PASSES).map(|_| pass()).collect();
     (0..calls).map(|i| median(passes.iter().map(|pass| pass[i]).collect())).collect()
@@ -168,7 +144,7 @@ fn row(clock: &Clock, t: &Tables, calls: usize, mut call: impl FnMut(&mut Tables
 const LAST: usize = 1_000;
 
 fn ordinary_changes() {
-    let clock = &Clock::new();
+    let watch = &Watch::default();
     for (b, m, q, threshold) in [(4, 32, 4, 8), (4, 32, 4, 32), (4, 32, 4, 128), (1, 64, 4, 32), (1, 64, 8, 32)] {
         let s = settings(b, m, q, threshold);
         let (sketches, order) = (sketches(&s), shuffled());
@@ -176,31 +152,31 @@ fn ordinary_changes() {
         let mut less = full.clone();
         order[PAGES - LAST..].iter().for_each(|&p| assert_eq!(calls::drop(&mut less.lend(), p as u32), 0));
         let last = |i: usize| order[PAGES - LAST + i];
-        print("add, the last 1,000", &name(&s), row(clock, &less, LAST, |t, i| calls::add(&mut t.lend(), last(i) as u32, 0, &sketches[last(i)])));
-        print("drop, of the full index", &name(&s), row(clock, &full, LAST, |t, i| calls::drop(&mut t.lend(), order[i] as u32)));
+        print("add, the last 1,000", &name(&s), row(watch, &less, LAST, |t, i| calls::add(&mut t.lend(), last(i) as u32, 0, &sketches[last(i)])));
+        print("drop, of the full index", &name(&s), row(watch, &full, LAST, |t, i| calls::drop(&mut t.lend(), order[i] as u32)));
     }
 }
 
 /// One leaf of 65,534 pages in each tree: a further page, without a split and with it; and drops of the page that was added first.
 fn great_leaves() {
-    let clock = &Clock::new();
+    let watch = &Watch::default();
     for q in [1, 4, 8] {
         let s = settings(8, 64, q, 65_535);
         let (order, sketches) = (shuffled(), sketches(&s));
         let last = order[PAGES - 1];
         let mut t = one_leaf(&s, &order[..PAGES - 1]);
         let add = |t: &mut Tables, _: usize| calls::add(&mut t.lend(), last as u32, 0, &sketches[last]);
-        print("add, one leaf of all pages", &name(&s), row(clock, &t, 1, add));
+        print("add, one leaf of all pages", &name(&s), row(watch, &t, 1, add));
         t.settings[LEVEL_0] = PAGES as u32 - 1;
-        print("add that splits this leaf", &name(&settings(8, 64, q, 65_534)), row(clock, &t, 1, add));
+        print("add that splits this leaf", &name(&settings(8, 64, q, 65_534)), row(watch, &t, 1, add));
         let full = one_leaf(&s, &order);
-        print("drop, one leaf of all pages", &name(&s), row(clock, &full, 1, |t, _| calls::drop(&mut t.lend(), order[0] as u32)));
+        print("drop, one leaf of all pages", &name(&s), row(watch, &full, 1, |t, _| calls::drop(&mut t.lend(), order[0] as u32)));
     }
 }
 
 /// A path of 64 inner nodes, each with 32 children in the chain that the path goes on in, its own child the last; then equal pages at its end.
 fn deep() {
-    let clock = &Clock::new();
+    let watch = &Watch::default();
     let s = settings(8, 64, 1, 0);
     let mut t = opened(&s);
     let path = [31u8; 64];
@@ -209,13 +185,13 @@ fn deep() {
     equal.clone().for_each(|p| assert_eq!(calls::add(&mut t.lend(), p, 0, &path), 0));
     others.iter().zip(64..).for_each(|(x, p)| assert_eq!(calls::add(&mut t.lend(), p, 0, x), 0));
     let next = 64 + others.len() as u32;
-    print("add, 64 levels of 32", "b 8 m 64 q 1 threshold 0", row(clock, &t, 64, |t, i| calls::add(&mut t.lend(), next + i as u32, 0, &path)));
+    print("add, 64 levels of 32", "b 8 m 64 q 1 threshold 0", row(watch, &t, 64, |t, i| calls::add(&mut t.lend(), next + i as u32, 0, &path)));
     // the last of the equal pages takes the leaf with it
-    print("drop, 64 levels of 32", "b 8 m 64 q 1 threshold 0", row(clock, &t, 64, |t, i| calls::drop(&mut t.lend(), i as u32)));
+    print("drop, 64 levels of 32", "b 8 m 64 q 1 threshold 0", row(watch, &t, 64, |t, i| calls::drop(&mut t.lend(), i as u32)));
     // equal pages alone: the last drop takes out the whole path
     let mut alone = opened(&s);
     equal.for_each(|p| assert_eq!(calls::add(&mut alone.lend(), p, 0, &path), 0));
-    print("drop, 64 nodes given back", "b 8 m 64 q 1 threshold 0", row(clock, &alone, 64, |t, i| calls::drop(&mut t.lend(), i as u32)));
+    print("drop, 64 nodes given back", "b 8 m 64 q 1 threshold 0", row(watch, &alone, 64, |t, i| calls::drop(&mut t.lend(), i as u32)));
 }
 
 /// Nanoseconds of calls too short to be timed singly: rounds of 1,000, the median round and the slowest of the fastest 99 in a hundred.
