@@ -20,7 +20,7 @@ make library           5 min   the archive alone
 make archives          6 min   the program, the archive and the shared library: all that install puts in place
 make install           6 min   archives, put in place: PREFIX=/usr/local LIBDIR=lib, and DESTDIR=folder for packages
 make uninstall                 removes what install put there; with the same PREFIX and DESTDIR
-make prove             6 min   proves every crate that has changed
+make prove             5 min   proves every crate that has changed
 make edits NAME=crate          tries the must-fail edits of one crate
 make test             18 min   the gate: every crate proved from nothing, the must-fail edits, the tests
 make check-rust                archives, then the tests alone
