@@ -1,6 +1,6 @@
 //! When a store is sound (document 01, docs/LAYOUT.md), as plain Rust would test it. Written from the documents.
 use crate::plain;
-use crate::tables::{class_of, Settings, Tables, FREE};
+use crate::tables::{class_of, stale, Settings, Tables, FREE};
 
 struct Walk<'a> {
     t: &'a Tables,
@@ -99,6 +99,9 @@ fn sound_or_none(t: &Tables, s: &Settings) -> Option<()> {
         if t.pages[p + page] != plain::signature(s.b, row(page)) {
             return None;
         }
+    }
+    if !stale(&t.settings).is_empty() {
+        return None;
     }
     let mut walk = Walk { t, s, met: vec![false; n] };
     for j in 0..q {

@@ -2,11 +2,20 @@
 //! Written from the documents and not from the proved code.
 use crate::plain::distance;
 
-pub const MARK: u32 = 0x5644_0002;
-pub const SETTINGS: usize = 391;
+pub const MARK: u32 = 0x5644_0003;
+/// The marks of layouts 1 and 2.
+pub const EARLIER_MARKS: [u32; 2] = [0x5644_0001, 0x5644_0002];
+pub const SETTINGS: usize = 903;
+/// The records: memberships, and grants behind them.
 pub const MEMBERS: usize = 70;
 pub const GRANTS: usize = 326;
-pub const FREE: usize = 390;
+/// What the records say, for each reader.
+pub const ENTRIES: usize = 390;
+pub const FREE: usize = 902;
+
+pub const READERS: u32 = 256;
+pub const GROUPS: u32 = 32;
+pub const CLASSES: u32 = 64;
 
 /// The tables of one index.
 #[derive(Clone, PartialEq, Eq, Debug, Default)]
@@ -62,14 +71,40 @@ impl Settings {
     }
 }
 
-/// Does some group have the reader as a member and is granted the class?
+/// The set of classes in the two words from `at` on, class c at bit c.
+fn classes(settings: &[u32], at: usize) -> u64 {
+    u64::from(settings[at]) | u64::from(settings[at + 1]) << 32
+}
+
+/// The entry of a reader: the classes that are open to him.
+pub fn entry(settings: &[u32], reader: u32) -> u64 {
+    classes(settings, ENTRIES + 2 * reader as usize)
+}
+
+pub fn is_member(settings: &[u32], reader: u32, group: u32) -> bool {
+    settings[MEMBERS + reader as usize] >> group & 1 == 1
+}
+
+/// What the records say that his entry is: all that is granted to one of his groups.
+pub fn recorded(settings: &[u32], reader: u32) -> u64 {
+    let his = (0..GROUPS).filter(|&group| is_member(settings, reader, group));
+    his.fold(0, |open, group| open | classes(settings, GRANTS + 2 * group as usize))
+}
+
+/// Is the class open to the reader, by his entry? A class above 63 is open to no one.
 pub fn opens(settings: &[u32], reader: u32, class: u32) -> bool {
-    class < 64
-        && (0..32).any(|g| {
-            let member = settings[MEMBERS + reader as usize] >> g & 1 == 1;
-            let granted = settings[GRANTS + 2 * g + class as usize / 32] >> (class % 32) & 1 == 1;
-            member && granted
-        })
+    class < CLASSES && entry(settings, reader) >> class & 1 == 1
+}
+
+/// The readers whose entry is stale.
+pub fn stale(settings: &[u32]) -> Vec<u32> {
+    (0..READERS).filter(|&reader| entry(settings, reader) != recorded(settings, reader)).collect()
+}
+
+/// Sets or clears a flag, 32 to a word.
+fn write_flag(words: &mut [u32], at: u32, on: bool) {
+    let (word, bit) = (&mut words[at as usize / 32], 1 << (at % 32));
+    *word = if on { *word | bit } else { *word & !bit };
 }
 
 /// The class of a page, by its page word; none of a page that is not live.
@@ -151,34 +186,68 @@ impl Tables {
         0
     }
 
-    fn right(&mut self, base: usize, row: u32, rows: u32, place: u32, places: u32, on: bool) -> u32 {
+    /// The membership, and then the reader's whole entry.
+    fn member(&mut self, reader: u32, group: u32, on: bool) -> u32 {
         if let Err(number) = self.shown() {
             return number;
         }
-        if row >= rows || place >= places {
+        if reader >= READERS || group >= GROUPS {
             return 7;
         }
-        let at = (row * places + place) as usize;
-        let bit = 1 << (at % 32);
-        let word = &mut self.settings[base + at / 32];
-        *word = if on { *word | bit } else { *word & !bit };
+        write_flag(&mut self.settings[MEMBERS..], reader * GROUPS + group, on);
+        let open = recorded(&self.settings, reader);
+        for class in 0..CLASSES {
+            self.write_open(reader, class, open);
+        }
         0
     }
 
+    /// The grant, and then this class in the entry of each member.
+    fn granted(&mut self, group: u32, class: u32, on: bool) -> u32 {
+        if let Err(number) = self.shown() {
+            return number;
+        }
+        if group >= GROUPS || class >= CLASSES {
+            return 7;
+        }
+        write_flag(&mut self.settings[GRANTS..], group * CLASSES + class, on);
+        for reader in 0..READERS {
+            if is_member(&self.settings, reader, group) {
+                self.write_open(reader, class, recorded(&self.settings, reader));
+            }
+        }
+        0
+    }
+
+    /// One class of a reader's entry, as it is in this set.
+    fn write_open(&mut self, reader: u32, class: u32, open: u64) {
+        write_flag(&mut self.settings[ENTRIES..], reader * CLASSES + class, open >> class & 1 == 1);
+    }
+
     pub fn join(&mut self, reader: u32, group: u32) -> u32 {
-        self.right(MEMBERS, reader, 256, group, 32, true)
+        self.member(reader, group, true)
     }
 
     pub fn leave(&mut self, reader: u32, group: u32) -> u32 {
-        self.right(MEMBERS, reader, 256, group, 32, false)
+        self.member(reader, group, false)
     }
 
     pub fn grant(&mut self, group: u32, class: u32) -> u32 {
-        self.right(GRANTS, group, 32, class, 64, true)
+        self.granted(group, class, true)
     }
 
     pub fn revoke(&mut self, group: u32, class: u32) -> u32 {
-        self.right(GRANTS, group, 32, class, 64, false)
+        self.granted(group, class, false)
+    }
+
+    /// Join, leave, grant or revoke, by its number in `calls::lent_right`.
+    pub fn right(&mut self, call: u64, x: u32, y: u32) -> u32 {
+        match call {
+            0 => self.join(x, y),
+            1 => self.leave(x, y),
+            2 => self.grant(x, y),
+            _ => self.revoke(x, y),
+        }
     }
 
     /// The row of a page that is shown: its start and length in the sketch table; or the refusal's number.
@@ -188,7 +257,7 @@ impl Tables {
         if self.pages.len() < l.pages || self.sketches.len() < l.sketches {
             return Err(6);
         }
-        if reader >= 256 {
+        if reader >= READERS {
             return Err(7);
         }
         if page >= s.pages {

@@ -4,7 +4,7 @@ use std::io::{self, Write};
 use std::path::Path;
 use vetchdawn_tests::calls;
 use vetchdawn_tests::random::Random;
-use vetchdawn_tests::tables::{Settings, Tables};
+use vetchdawn_tests::tables::{Settings, Tables, ENTRIES, FREE, MEMBERS};
 
 const PAGES: u32 = 1_000;
 const SETTINGS: Settings = Settings { b: 4, m: 32, q: 4, pages: PAGES, nodes: 8_000, thresholds: Vec::new() };
@@ -119,10 +119,16 @@ fn mixed(t: &Tables) {
     let mut revoked = t.clone();
     assert_eq!(calls::revoke(&mut revoked, GROUP, CLASS), 0);
     print("after a revoke", revoked.clone());
+    let mut entries = revoked.clone();
+    entries.settings[ENTRIES..FREE].copy_from_slice(&t.settings[ENTRIES..FREE]);
+    print("entries of before the revoke, records of after: the right is back", entries);
+    let mut records = revoked.clone();
+    records.settings[MEMBERS..ENTRIES].copy_from_slice(&t.settings[MEMBERS..ENTRIES]);
+    print("records of before the revoke, entries of after", records);
     print("settings of before the revoke: the right is back", Tables { settings: t.settings.clone(), ..revoked });
     let mut moved = Tables::filled_with(0, &settings());
     assert_eq!(calls::open(&mut moved, &settings()), 0);
-    moved.settings[70..390].copy_from_slice(&t.settings[70..390]);
+    moved.settings[MEMBERS..FREE].copy_from_slice(&t.settings[MEMBERS..FREE]);
     add(&mut moved, 0..1);
     let before = moved.clone();
     assert_eq!((calls::drop(&mut moved.lend(), 0), calls::add(&mut moved.lend(), 0, CLASS + 1, &sketch(0))), (0, 0));
