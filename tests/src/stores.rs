@@ -3,7 +3,7 @@ use crate::baselines::block;
 use crate::calls;
 use crate::plain::pack;
 use crate::random::Random;
-use crate::tables::{Settings, Tables, FREE};
+use crate::tables::{Settings, Tables, ENTRIES, FREE, GRANTS, MEMBERS};
 use crate::trees::Index;
 
 /// Settings for small tables: every b and q, thresholds that split early, late or never.
@@ -100,12 +100,35 @@ pub fn filled(random: &mut Random, s: &Settings, calls_made: u64) -> (Tables, In
         let (reader, group, class) = (random.below(3) as u32, random.below(6) as u32, random.below(64) as u32);
         assert_eq!(calls::join(&mut t, reader, group), plain.join(reader, group));
         assert_eq!(calls::grant(&mut t, group, class), plain.grant(group, class));
+        let (reader, group, class) = (random.below(3) as u32, random.below(6) as u32, random.below(64) as u32);
+        match random.below(8) {
+            0 => assert_eq!(calls::leave(&mut t, reader, group), plain.leave(reader, group)),
+            1 => assert_eq!(calls::revoke(&mut t, group, class), plain.revoke(group, class)),
+            _ => {}
+        }
     }
     (t, plain, sketches)
 }
 
+/// Damages one word of the rights, mostly one of the readers and groups that the stores here use: a membership, a grant or an entry.
+pub fn damage_right(random: &mut Random, settings: &mut [u32]) {
+    let at = match random.below(8) {
+        0 => MEMBERS + random.below((FREE - MEMBERS) as u64) as usize,
+        1 => MEMBERS + random.below(4) as usize,
+        2 => GRANTS + random.below(12) as usize,
+        _ => ENTRIES + random.below(8) as usize,
+    };
+    let word = &mut settings[at];
+    *word = match random.below(6) {
+        0 => 0,
+        1 => u32::MAX,
+        2 | 3 => random.next() as u32,
+        _ => *word ^ 1 << random.below(32),
+    };
+}
+
 /// Damages some words of the tables behind an opening: links that lead anywhere, cycles, other states, classes,
-/// signatures and symbols.
+/// signatures, symbols and rights.
 pub fn damage(random: &mut Random, t: &mut Tables, s: &Settings) {
     let (n, p) = (s.nodes as usize, s.pages as usize);
     for _ in 0..1 + random.below(6) {
@@ -114,13 +137,14 @@ pub fn damage(random: &mut Random, t: &mut Tables, s: &Settings) {
             1 => random.below(s.nodes as u64 + 2) as u32,
             _ => random.below(s.pages as u64 + 2) as u32,
         };
-        match random.below(8) {
+        match random.below(10) {
             0 => t.settings[FREE] = link,
             1 => t.nodes[random.below(n as u64) as usize] = link | (random.below(256) as u32) << 19,
             2 => t.nodes[n + random.below(n as u64) as usize] = link,
             3 | 4 => t.nodes[2 * n + random.below(8 * n as u64) as usize] = link,
             5 => t.pages[random.below(2 * p as u64) as usize] = link,
             6 => t.pages[2 * p + random.below(u64::from(s.q) * p as u64) as usize] = link,
+            7 | 8 => damage_right(random, &mut t.settings),
             _ => {
                 let at = random.below(t.sketches.len() as u64) as usize;
                 t.sketches[at] = random.next() as u8;
@@ -188,8 +212,9 @@ pub fn damage_way(random: &mut Random, t: &mut Tables, s: &Settings, page: u32) 
     }
 }
 
-/// Every word behind the header at random, mostly small.
+/// Every word behind the header at random, mostly small; those of the rights of any size.
 pub fn scramble(random: &mut Random, t: &mut Tables, s: &Settings) {
+    t.settings[MEMBERS..FREE].iter_mut().for_each(|w| *w = random.next() as u32);
     let top = u64::from(s.nodes.max(s.pages)) + 3;
     let mut word = || if random.below(10) == 0 { random.next() as u32 } else { random.below(top) as u32 };
     t.settings[FREE] = word();

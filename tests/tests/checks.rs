@@ -3,7 +3,7 @@ use vetchdawn_tests::calls;
 use vetchdawn_tests::guard::GuardedTables;
 use vetchdawn_tests::random::Random;
 use vetchdawn_tests::sound::sound;
-use vetchdawn_tests::stores::{cut_short, damaged, filled, small_settings};
+use vetchdawn_tests::stores::{cut_short, damage_right, damaged, filled, small_settings};
 use vetchdawn_tests::tables::{Settings, Tables, FREE};
 
 /// The check's answer; the needed part of the working table is 0 then, and nothing else changed.
@@ -52,7 +52,7 @@ fn one_word(random: &mut Random, t: &mut Tables, s: &Settings) {
         3 => w.wrapping_sub(1),
         _ => random.below(n.max(p) + 2) as u32,
     };
-    match random.below(9) {
+    match random.below(11) {
         0 => t.settings[FREE] = other(random, t.settings[FREE]),
         1..=4 => {
             let at = match random.below(3) {
@@ -71,6 +71,7 @@ fn one_word(random: &mut Random, t: &mut Tables, s: &Settings) {
             let at = (p + random.below(p)) as usize;
             t.pages[at] = other(random, t.pages[at]);
         }
+        8 | 9 => damage_right(random, &mut t.settings),
         _ => {
             let at = random.below(s.lengths().sketches as u64) as usize;
             t.sketches[at] = random.next() as u8;

@@ -1,14 +1,15 @@
 //! Calls of every kind on tables of any lengths and contents, with a guard before and behind each. FUZZ_SECONDS says how long.
 //! No call faults or hangs, no closed, far or dead page is listed, each listed one has the distance of its row and its place by that,
-//! refusals change nothing; a store that calls have made stays sound, and every inner node in it has children.
+//! refusals change nothing; joins, leaves, grants and revokes write what plain Rust writes; a store that calls have made stays sound, and
+//! every inner node in it has children.
 use std::time::{Duration, Instant};
 use vetchdawn_tests::calls::{self, Lent};
 use vetchdawn_tests::guard::{Guarded, GuardedTables};
 use vetchdawn_tests::lists::{right_by_the_rows, Lists};
 use vetchdawn_tests::random::Random;
 use vetchdawn_tests::sound::sound;
-use vetchdawn_tests::stores::{any_tables, cut_short, damage, damage_way, deep_settings, scramble, small_settings, Sketches};
-use vetchdawn_tests::tables::{class_of, opens, Settings, Tables};
+use vetchdawn_tests::stores::{any_tables, cut_short, damage, damage_right, damage_way, deep_settings, scramble, small_settings, Sketches};
+use vetchdawn_tests::tables::{class_of, opens, stale, Settings, Tables, SETTINGS};
 
 /// A number that is mostly below `n`.
 fn around(random: &mut Random, n: u64) -> u32 {
@@ -33,7 +34,7 @@ fn tables(random: &mut Random, s: &Settings, sketches: &Sketches) -> (Tables, bo
             calls::join(&mut t, random.below(3) as u32, random.below(4) as u32);
             calls::grant(&mut t, random.below(4) as u32, random.below(64) as u32);
         }
-        match random.below(8) {
+        match random.below(10) {
             0 => scramble(random, &mut t, s),
             1 | 2 => damage(random, &mut t, s),
             3 => {
@@ -45,6 +46,7 @@ fn tables(random: &mut Random, s: &Settings, sketches: &Sketches) -> (Tables, bo
                     damage_way(random, &mut t, s, page);
                 }
             }
+            6 => damage_right(random, &mut t.settings),
             _ => intact = true,
         }
     }
@@ -57,12 +59,13 @@ fn tables(random: &mut Random, s: &Settings, sketches: &Sketches) -> (Tables, bo
 }
 
 /// What is lent beside the tables: a sketch, and the lists of a search. And how often both lists were long enough, or only the distances,
-/// only the pages, or neither.
+/// only the pages, or neither; how many pages were listed; and how many joins, leaves, grants and revokes changed a table.
 struct Beside {
     sketch: Guarded<u8>,
     lists: Lists,
     rooms: [u64; 4],
     listed: u64,
+    rights: [u64; 4],
 }
 
 fn search(random: &mut Random, t: &mut Lent, s: &Settings, beside: &mut Beside) -> u32 {
@@ -82,11 +85,39 @@ fn search(random: &mut Random, t: &mut Lent, s: &Settings, beside: &mut Beside) 
     given.number
 }
 
+/// A join, leave, grant or revoke: what it gives and every word of the settings is as in plain Rust, whatever they held.
+fn right(random: &mut Random, t: &mut Lent, beside: &mut Beside) -> u32 {
+    let call = random.below(4);
+    // mostly of few readers and groups, so that they meet
+    let few = random.below(4) != 0;
+    let limits = match (call < 2, few) {
+        (true, true) => [4, 4],
+        (true, false) => [256, 32],
+        (false, true) => [4, 8],
+        (false, false) => [32, 64],
+    };
+    let [x, y] = limits.map(|limit| around(random, limit));
+    let before = t.settings.to_vec();
+    let mut plain = Tables { settings: before.clone(), ..Tables::default() };
+    let number = calls::lent_right(t, call, x, y);
+    assert_eq!(number, plain.right(call, x, y), "{call} {x} {y}");
+    assert!(*t.settings == *plain.settings, "{call} {x} {y}");
+    beside.rights[call as usize] += u64::from(*t.settings != *before);
+    number
+}
+
 /// A blank page is refused by 15 at the latest, and no other is.
 fn add(random: &mut Random, t: &mut Lent, page: u32, sketch: &[u8]) -> u32 {
     let number = calls::add(t, page, around(random, 64), sketch);
     let blank = sketch.iter().all(|&symbol| symbol == 0);
     assert!(if blank { matches!(number, 5..=10 | 15) } else { number != 15 }, "{number} {sketch:?}");
+    number
+}
+
+/// A check that says yes has seen no stale entry.
+fn check(t: &mut Lent) -> u32 {
+    let (number, yes) = calls::check(t);
+    assert!(!yes || stale(t.settings).is_empty(), "a stale entry, and the check says yes");
     number
 }
 
@@ -110,14 +141,13 @@ fn call(random: &mut Random, t: &mut Lent, s: &Settings, sketches: &Sketches, be
         _ => {}
     }
     beside.sketch.set(&x);
-    match random.below(16) {
+    match random.below(20) {
         0..=3 if !withdrawal => (add(random, t, page, beside.sketch.get()), Kind::Other),
         0..=6 => (calls::drop(t, page), Kind::Drop),
         7..=10 => (search(random, t, s, beside), Kind::Reading),
-        11 => (calls::check(t).0, Kind::Reading),
-        12 => (calls::lent_right(t, random.below(4), around(random, 4), around(random, 4)), Kind::Other),
-        13 => (calls::lent_right(t, random.below(4), around(random, 256), around(random, 64)), Kind::Other),
-        14 => {
+        11 => (check(t), Kind::Reading),
+        12..=16 => (right(random, t, beside), Kind::Other),
+        17 | 18 => {
             let reader = around(random, 4);
             let number = match calls::lent_show(t, reader, page) {
                 Ok((start, length)) => {
@@ -170,14 +200,22 @@ fn any_call_on_any_tables() {
     let mut numbers = [0u64; 16];
     // of stores that are intact, and of others
     let mut drops = [Drops::default(), Drops::default()];
-    let mut beside = Beside { sketch: Guarded::new(&[0; 65]), lists: Lists::new(50), rooms: [0; 4], listed: 0 };
+    // tables with stale entries
+    let mut with_stale = 0;
+    let mut beside = Beside { sketch: Guarded::new(&[0; 65]), lists: Lists::new(50), rooms: [0; 4], listed: 0, rights: [0; 4] };
     while Instant::now() < end {
         let s = if random.below(2) == 0 { small_settings(&mut random) } else { deep_settings(&mut random) };
         let sketches = Sketches::new(&mut random, s.b, s.m, 3);
         let (t, intact) = tables(&mut random, &s, &sketches);
         let mut lent = if random.below(2) == 0 { GuardedTables::new(&t) } else { GuardedTables::at_start(&t) };
+        with_stale += u64::from(t.settings.len() >= SETTINGS && !stale(&t.settings).is_empty());
         let mut before = t;
         for i in 0..200 {
+            // rights are damaged between calls too
+            if !intact && before.settings.len() >= SETTINGS && random.below(100) == 0 {
+                damage_right(&mut random, lent.lend().settings);
+                before.settings.copy_from_slice(lent.lend().settings);
+            }
             let (number, kind) = call(&mut random, &mut lent.lend(), &s, &sketches, &mut beside, i >= 100);
             numbers[number as usize] += 1;
             let now = lent.lend();
@@ -201,9 +239,11 @@ fn any_call_on_any_tables() {
     }
     println!("{} calls in {seconds} s, by number: {numbers:?}", numbers.iter().sum::<u64>());
     println!("pages listed: {}; both lists long enough, pages too short, distances, both: {:?}", beside.listed, beside.rooms);
+    println!("joins, leaves, grants and revokes that changed a table: {:?}; tables with stale entries: {with_stale}", beside.rights);
     println!("drops on other tables: {:?}", drops[0]);
     println!("drops on sound stores: {:?}", drops[1]);
     assert!(drops.iter().all(|d| 10 * d.inner > d.all && 20 * d.two_inner > d.all), "{drops:?}");
     assert!([0, 5, 6, 7, 8, 9, 10, 11, 12, 13, 14, 15].iter().all(|&n| numbers[n] > 0), "{numbers:?}");
+    assert!(with_stale > 100 && beside.rights.iter().all(|&n| n > 1_000), "{with_stale} {:?}", beside.rights);
     assert!(beside.listed > 1_000 && beside.rooms.iter().all(|&n| n > 100), "{} {:?}", beside.listed, beside.rooms);
 }
