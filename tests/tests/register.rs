@@ -1,8 +1,9 @@
 //! Opening, the rights register and showing through C, against plain Rust: numbers and every table, word by word.
-use vetchdawn_tests::calls;
+use vetchdawn_tests::calls::{self, Lent};
+use vetchdawn_tests::guard::Guarded;
 use vetchdawn_tests::random::Random;
 use vetchdawn_tests::stores::cut_short;
-use vetchdawn_tests::tables::{Lengths, Settings, Tables, FREE, MARK, MEMBERS, SETTINGS};
+use vetchdawn_tests::tables::{entry, is_member, stale, Lengths, Settings, Tables, ENTRIES, FREE, GRANTS, MARK, MEMBERS, SETTINGS};
 
 /// A number within its limits, now and then at or past them.
 fn near(random: &mut Random, low: u32, high: u32) -> u32 {
@@ -80,7 +81,7 @@ fn opened(random: &mut Random) -> (Settings, Tables) {
             t.pages[p + i] = random.next() as u32;
         }
         if random.below(3) == 0 {
-            for _ in 0..300 {
+            for _ in 0..800 {
                 let at = MEMBERS + random.below((FREE - MEMBERS) as u64) as usize;
                 t.settings[at] = random.next() as u32;
             }
@@ -121,30 +122,293 @@ fn opening_at_full_capacity() {
     assert!(ours == plain);
 }
 
+const JOIN: u64 = 0;
+const LEAVE: u64 = 1;
+const GRANT: u64 = 2;
+const REVOKE: u64 = 3;
+
+/// A settings table with a guard right behind it, and the same in plain Rust.
+struct Both {
+    ours: Guarded<u32>,
+    plain: Tables,
+}
+
+impl Both {
+    fn of(settings: &[u32]) -> Self {
+        Both { ours: Guarded::new(settings), plain: Tables { settings: settings.to_vec(), ..Tables::default() } }
+    }
+
+    /// Opened, and nothing more.
+    fn fresh() -> Self {
+        let s = Settings { b: 2, m: 4, q: 2, pages: 3, nodes: 9, thresholds: vec![1; 64] };
+        let mut t = Tables::filled_with(7, &s);
+        assert_eq!(calls::open(&mut t, &s), 0);
+        Both::of(&t.settings)
+    }
+
+    /// The same call on both: every word is the same then. Gives its number.
+    fn call(&mut self, call: u64, x: u32, y: u32) -> u32 {
+        let mut lent = Lent { settings: self.ours.get_mut(), nodes: &mut [], pages: &mut [], sketches: &mut [], working: &mut [] };
+        let number = calls::lent_right(&mut lent, call, x, y);
+        assert_eq!(number, self.plain.right(call, x, y), "call {call} of {x} {y}");
+        assert!(self.words() == self.plain.settings, "call {call} of {x} {y}");
+        number
+    }
+
+    /// Calls that are carried out.
+    fn each(&mut self, call: u64, pairs: &[(u32, u32)]) {
+        pairs.iter().for_each(|&(x, y)| assert_eq!(self.call(call, x, y), 0));
+    }
+
+    fn words(&self) -> &[u32] {
+        self.ours.get()
+    }
+
+    fn entry(&self, reader: u32) -> u64 {
+        entry(self.words(), reader)
+    }
+}
+
+/// The bits of word `at` that a call may change: of a join or leave the membership and the reader's entry, of a grant or revoke the grant
+/// and this class in the entries of the members.
+fn may_change(settings: &[u32], call: u64, x: u32, y: u32, at: usize) -> u32 {
+    let (row, column) = (x as usize, y as usize);
+    let class = 1 << (y % 32);
+    match (call == JOIN || call == LEAVE, at) {
+        (true, _) if at == MEMBERS + row => 1 << y,
+        (true, _) if at == ENTRIES + 2 * row || at == ENTRIES + 2 * row + 1 => u32::MAX,
+        (false, _) if at == GRANTS + 2 * row + column / 32 => class,
+        (false, ENTRIES..FREE) => {
+            let (reader, half) = ((at - ENTRIES) / 2, (at - ENTRIES) % 2);
+            if is_member(settings, reader as u32, x) && half == column / 32 { class } else { 0 }
+        }
+        _ => 0,
+    }
+}
+
+/// No other bit has changed.
+fn only_these(before: &[u32], after: &[u32], call: u64, x: u32, y: u32) -> bool {
+    (0..before.len()).all(|at| (before[at] ^ after[at]) & !may_change(before, call, x, y, at) == 0)
+}
+
 #[test]
 fn rights() {
     let mut random = Random::new(12);
     let mut numbers = [0u32; 16];
     for _ in 0..2_000 {
-        let (s, mut ours) = opened(&mut random);
+        let (s, mut t) = opened(&mut random);
         if random.below(12) == 0 {
-            cut_short(&mut random, &mut ours, &s, 1);
+            cut_short(&mut random, &mut t, &s, 1);
         }
-        let mut plain = ours.clone();
+        let mut both = Both::of(&t.settings);
         for _ in 0..40 {
             let (reader, group, class) = (near(&mut random, 0, 255), near(&mut random, 0, 31), near(&mut random, 0, 63));
-            let (got, want) = match random.below(4) {
-                0 => (calls::join(&mut ours, reader, group), plain.join(reader, group)),
-                1 => (calls::leave(&mut ours, reader, group), plain.leave(reader, group)),
-                2 => (calls::grant(&mut ours, group, class), plain.grant(group, class)),
-                _ => (calls::revoke(&mut ours, group, class), plain.revoke(group, class)),
-            };
-            assert_eq!(got, want, "reader {reader} group {group} class {class}");
-            numbers[got as usize] += 1;
+            let call = random.below(4);
+            let (x, y) = if call == JOIN || call == LEAVE { (reader, group) } else { (group, class) };
+            let before = both.words().to_vec();
+            let number = both.call(call, x, y);
+            assert!(if number == 0 { only_these(&before, both.words(), call, x, y) } else { before == both.words() });
+            numbers[number as usize] += 1;
         }
-        assert!(ours == plain);
     }
     assert!([0, 5, 6, 7].iter().all(|&n| numbers[n] > 0), "{numbers:?}");
+}
+
+/// What a history of rights has to have had in it.
+#[derive(Default, Debug)]
+struct Seen {
+    /// revokes that closed the class to two readers or more
+    reaching: u32,
+    /// revokes of a grant, with a member to whom the class stays open
+    by_a_second_group: u32,
+    /// leaves that closed something, and not all
+    leaving_some: u32,
+    /// joins that added to what was open
+    adding: u32,
+}
+
+impl Seen {
+    /// An accepted call, by the words before it and after.
+    fn count(&mut self, before: &[u32], after: &[u32], call: u64, x: u32, y: u32) {
+        let entries = |settings: &[u32]| (0..256).map(|reader| entry(settings, reader)).collect::<Vec<_>>();
+        let (was, is) = (entries(before), entries(after));
+        if call == JOIN || call == LEAVE {
+            let (was, is) = (was[x as usize], is[x as usize]);
+            self.adding += u32::from(was != 0 && is != was && is & was == was);
+            self.leaving_some += u32::from(is != 0 && is != was && is & was == is);
+        }
+        if call == REVOKE && before[GRANTS..ENTRIES] != after[GRANTS..ENTRIES] {
+            self.reaching += u32::from(was.iter().zip(&is).filter(|(was, is)| was != is).count() >= 2);
+            let stays = |reader: u32| is_member(after, reader, x) && is[reader as usize] >> y & 1 == 1;
+            self.by_a_second_group += u32::from((0..256).any(stays));
+        }
+    }
+}
+
+/// Histories of few and of many readers, groups and classes: behind every call all entries are what the records say.
+#[test]
+fn entries_stay_current() {
+    let mut random = Random::new(15);
+    let (mut seen, mut numbers) = (Seen::default(), [0u32; 8]);
+    for _ in 0..400 {
+        let mut both = Both::fresh();
+        let limits = [[1, 3, 256], [1, 4, 32], [2, 8, 64]].map(|limits| limits[random.below(3) as usize]);
+        for _ in 0..300 {
+            let [reader, group, class] = limits.map(|limit| if random.below(40) == 0 { random.next() as u32 % 300 } else { random.below(limit) as u32 });
+            // the tables fill up
+            let call = [JOIN, JOIN, LEAVE, GRANT, GRANT, REVOKE][random.below(6) as usize];
+            let (x, y) = if call == JOIN || call == LEAVE { (reader, group) } else { (group, class) };
+            let before = both.words().to_vec();
+            let number = both.call(call, x, y);
+            assert!(stale(both.words()).is_empty(), "call {call} of {x} {y}");
+            assert!(if number == 0 { only_these(&before, both.words(), call, x, y) } else { before == both.words() });
+            numbers[number as usize] += 1;
+            if number == 0 {
+                seen.count(&before, both.words(), call, x, y);
+            }
+        }
+    }
+    assert!(numbers[0] > 50_000 && numbers[7] > 1_000, "{numbers:?}");
+    assert!([seen.reaching, seen.by_a_second_group, seen.leaving_some, seen.adding].iter().all(|&n| n > 500), "{seen:?}");
+}
+
+/// Words with many flags, with half, and with few.
+fn flags(random: &mut Random, kind: u64) -> u32 {
+    let (x, y, z) = (random.next() as u32, random.next() as u32, random.next() as u32);
+    match kind {
+        0 => x | y,
+        1 => x,
+        _ => x & y & z,
+    }
+}
+
+/// Records and entries of any kind, so that most entries are stale: what each call writes is the same.
+#[test]
+fn on_any_rights() {
+    let mut random = Random::new(16);
+    // calls that left a stale entry of the one reader or of a member, and that left none
+    let mut left = [0u32; 2];
+    for _ in 0..600 {
+        let mut settings = Both::fresh().words().to_vec();
+        let kinds = [random.below(3), random.below(3), random.below(3)];
+        for (range, kind) in [MEMBERS..GRANTS, GRANTS..ENTRIES, ENTRIES..FREE].into_iter().zip(kinds) {
+            settings[range].iter_mut().for_each(|word| *word = flags(&mut random, kind));
+        }
+        let mut both = Both::of(&settings);
+        for _ in 0..30 {
+            let call = random.below(4);
+            let (x, y) = if call == JOIN || call == LEAVE { (random.below(256), random.below(32)) } else { (random.below(32), random.below(64)) };
+            let (x, y) = (x as u32, y as u32);
+            let before = both.words().to_vec();
+            assert_eq!(both.call(call, x, y), 0);
+            assert!(only_these(&before, both.words(), call, x, y));
+            let stale = stale(both.words());
+            let touched = |reader: &u32| if call == JOIN || call == LEAVE { *reader == x } else { is_member(both.words(), *reader, x) };
+            let stays = stale.iter().any(touched);
+            assert!(!stays || call == GRANT || call == REVOKE, "a join or leave left its reader's entry stale");
+            left[usize::from(stays)] += 1;
+        }
+    }
+    assert!(left.iter().all(|&n| n > 5_000), "{left:?}");
+}
+
+/// A set of classes.
+fn set(classes: &[u32]) -> u64 {
+    classes.iter().fold(0, |set, class| set | 1 << class)
+}
+
+#[test]
+fn a_grant_and_a_revoke_reach_all_members() {
+    let mut both = Both::fresh();
+    for reader in 0..256 {
+        assert_eq!(both.call(JOIN, reader, 31), 0);
+    }
+    for class in [0, 31, 32, 63] {
+        assert_eq!(both.call(GRANT, 31, class), 0);
+        assert!((0..256).all(|reader| both.entry(reader) == set(&[class])));
+        // those that leave lose it, the others do not
+        both.each(LEAVE, &[(0, 31), (100, 31), (255, 31)]);
+        assert!((0..256).all(|reader| both.entry(reader) == if [0, 100, 255].contains(&reader) { 0 } else { set(&[class]) }));
+        both.each(JOIN, &[(0, 31), (100, 31), (255, 31)]);
+        assert_eq!(both.call(REVOKE, 31, class), 0);
+        assert!((0..256).all(|reader| both.entry(reader) == 0));
+    }
+}
+
+/// Every other reader has each class by a second group too, reader 7 by all 32.
+#[test]
+fn a_class_stays_open_by_a_second_group() {
+    let mut both = Both::fresh();
+    for reader in 0..256 {
+        assert_eq!(both.call(JOIN, reader, 4), 0);
+        if reader % 2 == 0 {
+            assert_eq!(both.call(JOIN, reader, reader % 31 + if reader % 31 < 4 { 0 } else { 1 }), 0);
+        }
+    }
+    (0..32).for_each(|group| both.each(JOIN, &[(7, group)]));
+    for class in [5, 40] {
+        (0..32).for_each(|group| both.each(GRANT, &[(group, class)]));
+        assert_eq!(both.call(REVOKE, 4, class), 0);
+        assert!((0..256).all(|reader| both.entry(reader) >> class & 1 == u64::from(reader % 2 == 0 || reader == 7)));
+        // the last of the 32 groups
+        (0..31).for_each(|group| both.each(REVOKE, &[(group, class)]));
+        assert_eq!(both.entry(7) >> class & 1, 1);
+        assert_eq!(both.call(REVOKE, 31, class), 0);
+        assert!((0..256).all(|reader| both.entry(reader) >> class & 1 == 0));
+    }
+}
+
+#[test]
+fn one_of_two_groups() {
+    let mut both = Both::fresh();
+    both.each(GRANT, &[(1, 0), (1, 33), (1, 50), (2, 33), (2, 63)]);
+    let mut is_open = |calls: &[(u64, u32, u32)], classes: &[u32]| {
+        calls.iter().for_each(|&(call, x, y)| assert_eq!(both.call(call, x, y), 0));
+        assert_eq!(both.entry(9), set(classes));
+        assert_eq!((both.entry(8), both.entry(10)), (0, 0));
+    };
+    is_open(&[(JOIN, 9, 1)], &[0, 33, 50]);
+    // a join adds, and the second time changes nothing
+    is_open(&[(JOIN, 9, 2)], &[0, 33, 50, 63]);
+    is_open(&[(JOIN, 9, 2)], &[0, 33, 50, 63]);
+    // a leave takes what the other group does not have
+    is_open(&[(LEAVE, 9, 1)], &[33, 63]);
+    is_open(&[(LEAVE, 9, 1)], &[33, 63]);
+    is_open(&[(JOIN, 9, 1), (LEAVE, 9, 2)], &[0, 33, 50]);
+    // a group that he is not in, one without grants, and a revoke for others
+    is_open(&[(LEAVE, 9, 30), (JOIN, 9, 31), (REVOKE, 2, 33)], &[0, 33, 50]);
+    // a grant behind the join, a revoke, and one of what was not granted
+    is_open(&[(GRANT, 31, 1), (REVOKE, 1, 0), (REVOKE, 1, 7)], &[1, 33, 50]);
+    is_open(&[(LEAVE, 9, 31), (LEAVE, 9, 1)], &[]);
+}
+
+/// A stale entry: what a call does not write stays stale.
+#[test]
+fn what_stays_stale() {
+    let mut settings = Both::fresh().words().to_vec();
+    // readers 3 and 4 have classes 0 to 3 and 32 to 35, which no record says; reader 3 is in group 1, which is granted class 2 and 40
+    settings[ENTRIES + 6..ENTRIES + 10].fill(15);
+    (settings[MEMBERS + 3], settings[GRANTS + 2], settings[GRANTS + 3]) = (1 << 1, 1 << 2, 1 << 8);
+    let given = set(&[0, 1, 2, 3, 32, 33, 34, 35]);
+    let becomes = |calls: &[(u64, u32, u32)], want: [u64; 2]| {
+        let mut both = Both::of(&settings);
+        assert_eq!([both.entry(3), both.entry(4)], [given; 2]);
+        calls.iter().for_each(|&(call, x, y)| assert_eq!(both.call(call, x, y), 0));
+        assert_eq!([both.entry(3), both.entry(4)], want, "{calls:?}");
+    };
+    // this class alone, of members alone, as the records say
+    becomes(&[(GRANT, 1, 50)], [given | set(&[50]), given]);
+    becomes(&[(GRANT, 1, 40)], [given | set(&[40]), given]);
+    becomes(&[(REVOKE, 1, 2)], [given & !set(&[2]), given]);
+    becomes(&[(REVOKE, 1, 33)], [given & !set(&[33]), given]);
+    becomes(&[(REVOKE, 1, 40)], [given, given]);
+    becomes(&[(GRANT, 2, 50), (REVOKE, 2, 2)], [given, given]);
+    // the whole entry
+    becomes(&[(JOIN, 3, 1)], [set(&[2, 40]), given]);
+    becomes(&[(JOIN, 3, 2)], [set(&[2, 40]), given]);
+    becomes(&[(LEAVE, 3, 1)], [0, given]);
+    becomes(&[(LEAVE, 4, 9)], [given, 0]);
+    becomes(&[(JOIN, 4, 1)], [given, set(&[2, 40])]);
 }
 
 #[test]
