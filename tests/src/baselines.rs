@@ -6,6 +6,7 @@ pub mod hashing;
 pub mod hits;
 pub mod lists;
 pub mod packed;
+pub mod register;
 pub mod scan;
 pub mod trie;
 

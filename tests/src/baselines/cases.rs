@@ -128,23 +128,30 @@ pub struct Library {
 }
 
 impl Library {
+    /// The reader is in one group.
     pub fn new(c: &Case, pages: &Pages) -> Self {
+        Self::in_groups(c, pages, 1)
+    }
+
+    /// The reader is in so many groups, and each has its share of the classes.
+    pub fn in_groups(c: &Case, pages: &Pages, groups: u32) -> Self {
         let s = Settings { b: c.b, m: c.m as u32, q: c.q as u32, pages: c.n as u32, nodes: NODES, thresholds: vec![c.threshold; 64] };
         let mut tables = empty(&s);
         assert_eq!(calls::open(&mut tables, &s), 0);
         for (p, &class) in pages.classes.iter().enumerate() {
             assert_eq!(calls::add(&mut tables.lend(), p as u32, class.into(), pages.sketch(p)), 0);
         }
-        assert_eq!(calls::join(&mut tables, READER, GROUP), 0);
+        let group = |i: u32| (GROUP + i % groups) % 32;
+        assert!((0..groups).all(|i| calls::join(&mut tables, READER, group(i)) == 0));
         for class in (0..64).filter(|k| c.open >> k & 1 == 1) {
-            assert_eq!(calls::grant(&mut tables, GROUP, class), 0);
+            assert_eq!(calls::grant(&mut tables, group(class), class), 0);
         }
         Library { tables, open: c.open }
     }
 }
 
 /// Tables as long as the library wants them.
-fn empty(s: &Settings) -> Tables {
+pub fn empty(s: &Settings) -> Tables {
     let (number, n) = calls::lengths(s);
     assert_eq!(number, 0);
     Tables {

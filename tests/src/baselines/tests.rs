@@ -1,9 +1,9 @@
 //! Each way against the plain index: equal lists, the trie's trees equal to the plain ones, and no page tested that need not be.
-use super::{Build, Hashing, Hits, Pages, Planes, Pointers, Way, Words};
+use super::{register, Build, Hashing, Hits, Pages, Planes, Pointers, Way, Words};
 use crate::plain::{distance, Hit};
 use crate::random::Random;
 use crate::stores::{small_settings, Sketches};
-use crate::tables::Settings;
+use crate::tables::{stale, Settings, Tables, FREE, MEMBERS};
 use crate::trees::{Index, Node};
 
 /// An index without a bound on nodes, with some classes open to reader 0.
@@ -147,4 +147,39 @@ fn the_pointer_trie_has_the_plain_trees_and_lists() {
         }
     }
     assert!(pruned > 500, "{pruned}");
+}
+
+/// The plain register against the plain tables: numbers and words, with current entries and with any.
+#[test]
+fn register_of_rights() {
+    let mut random = Random::new(87);
+    let mut numbers = [0; 8];
+    for round in 0..300 {
+        let s = small_settings(&mut random);
+        let mut t = Tables::filled_with(0, &s);
+        assert_eq!(t.open(&s), 0);
+        if round % 2 == 1 {
+            t.settings[MEMBERS..FREE].iter_mut().for_each(|word| *word = random.next() as u32);
+        }
+        match random.below(20) {
+            0 => t.settings[random.below(6) as usize] = 99_999_999,
+            1 => t.settings[6 + random.below(64) as usize] = 65_536,
+            2 => t.settings.truncate(FREE),
+            _ => {}
+        }
+        let mut words = t.settings.clone();
+        for _ in 0..60 {
+            let (call, x, y) = (random.below(4), random.below(40) as u32, random.below(66) as u32);
+            let (x, y) = if call < 2 { (x * 7, y / 2) } else { (x, y) };
+            let number = match call {
+                0 | 1 => register::member(&mut words, x, y, call == 0),
+                _ => register::grant(&mut words, x, y, call == 2),
+            };
+            assert_eq!(number, t.right(call, x, y));
+            assert!(words == t.settings, "call {call} of {x} {y}");
+            numbers[number as usize] += 1;
+        }
+        assert!(words.len() <= FREE || register::is_current(&words) == stale(&words).is_empty());
+    }
+    assert!([0, 5, 6, 7].iter().all(|&n| numbers[n] > 100), "{numbers:?}");
 }
