@@ -312,6 +312,26 @@ fn on_any_rights() {
     assert!(left.iter().all(|&n| n > 5_000), "{left:?}");
 }
 
+/// The places of docs/LAYOUT.md, by their numbers.
+#[test]
+fn where_the_flags_stand() {
+    let mut both = Both::fresh();
+    let fresh = both.words().to_vec();
+    assert_eq!((fresh.len(), fresh[0], fresh[902]), (903, 0x5644_0003, 3));
+    assert!(fresh[70..902].iter().all(|&word| word == 0));
+    let calls = [(JOIN, 3, 5), (JOIN, 255, 31), (GRANT, 5, 0), (GRANT, 5, 40), (GRANT, 31, 63)];
+    calls.into_iter().for_each(|(call, x, y)| both.each(call, &[(x, y)]));
+    let memberships = [(73, 1 << 5), (325, 1 << 31)];
+    let grants = [(336, 1), (337, 1 << 8), (389, 1 << 31)];
+    let entries = [(396, 1), (397, 1 << 8), (901, 1 << 31)];
+    let mut want = fresh.clone();
+    memberships.into_iter().chain(grants).chain(entries).for_each(|(at, word)| want[at] = word);
+    assert!(both.words() == want);
+    let calls = [(LEAVE, 3, 5), (REVOKE, 31, 63), (LEAVE, 255, 31), (REVOKE, 5, 0), (REVOKE, 5, 40)];
+    calls.into_iter().for_each(|(call, x, y)| both.each(call, &[(x, y)]));
+    assert!(both.words() == fresh);
+}
+
 /// A set of classes.
 fn set(classes: &[u32]) -> u64 {
     classes.iter().fold(0, |set, class| set | 1 << class)

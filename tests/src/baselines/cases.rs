@@ -128,14 +128,14 @@ pub struct Library {
 }
 
 impl Library {
-    /// The reader is in one group.
+    /// As many nodes as there can be; the reader is in one group.
     pub fn new(c: &Case, pages: &Pages) -> Self {
-        Self::in_groups(c, pages, 1)
+        Self::in_groups(c, pages, NODES, 1)
     }
 
     /// The reader is in so many groups, and each has its share of the classes.
-    pub fn in_groups(c: &Case, pages: &Pages, groups: u32) -> Self {
-        let s = Settings { b: c.b, m: c.m as u32, q: c.q as u32, pages: c.n as u32, nodes: NODES, thresholds: vec![c.threshold; 64] };
+    pub fn in_groups(c: &Case, pages: &Pages, nodes: u32, groups: u32) -> Self {
+        let s = Settings { b: c.b, m: c.m as u32, q: c.q as u32, pages: c.n as u32, nodes, thresholds: vec![c.threshold; 64] };
         let mut tables = empty(&s);
         assert_eq!(calls::open(&mut tables, &s), 0);
         for (p, &class) in pages.classes.iter().enumerate() {

@@ -14,8 +14,8 @@ use vetchdawn_tests::timing::median;
 const SEARCH_ROUNDS: usize = 41;
 const CALL_ROUNDS: usize = 501;
 const CHECK_ROUNDS: usize = 201;
-/// Pages and radius.
-const SEARCHES: [(usize, u32); 4] = [(1_000, 0), (1_000, 4), (65_535, 0), (65_535, 4)];
+/// Pages, nodes and radius.
+const SEARCHES: [(usize, u32, u32); 5] = [(100, 1_000, 0), (1_000, 4_000, 0), (1_000, 4_000, 4), (65_535, 262_144, 0), (65_535, 262_144, 4)];
 /// The group that is joined and left, and granted classes.
 const GROUP: u32 = 17;
 const JOIN: u64 = 0;
@@ -61,11 +61,11 @@ fn trie(c: &Case, pages: &Pages) -> Pointers {
 }
 
 /// The same classes by one group and by 32, and the trie, which is given the set of them.
-fn searches(print: &Print, n: usize, r: u32) {
+fn searches(print: &Print, n: usize, nodes: u32, r: u32) {
     let c = Case { n, b: 4, m: 32, r, q: 4, threshold: 32, kind: Kind::Clustered, open: OPEN };
     let (pages, queries) = c.pages();
     let mut trie = trie(&c, &pages);
-    let mut libraries = [1, 32].map(|groups| Library::in_groups(&c, &pages, groups));
+    let mut libraries = [1, 32].map(|groups| Library::in_groups(&c, &pages, nodes, groups));
     let mut hits = Hits::new(n);
     let (mut times, mut listed) = ([const { Vec::new() }; 3], [0; 3]);
     for _ in 0..SEARCH_ROUNDS {
@@ -205,7 +205,7 @@ fn main() {
         println!("test of the entries alone.");
         println!("call                                       this library   plain Rust   ratio");
     }
-    SEARCHES.into_iter().for_each(|(n, r)| searches(&print, n, r));
+    SEARCHES.into_iter().for_each(|(n, nodes, r)| searches(&print, n, nodes, r));
     memberships(&print);
     grants(&print);
     checks(&print);
