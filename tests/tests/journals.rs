@@ -236,6 +236,14 @@ fn stored_examples() {
         // block distances 1 and 2 are within radius 3; a page added, closed and opened again
         (after(&[b'J', 0, 0, b'G', 0, 9, b'A', 0, 1, 9, 1, 1, 0, 0, b'S', 0, 3, 0, 1, 1, 1]), "S 0 1 256:3\nZ 27\n"),
         (after(&[b'J', 0, 0, b'G', 0, 9, b'A', 0, 1, 9, 1, 0, 0, 0, b'S', 0, 3, 0, 1, 1, 1]), "S 0 0\nZ 27\n"),
+        // a class by two groups: a revoke closes it to those of one, a leave to the reader of both
+        (
+            after(&[
+                &[b'J', 0, 0, b'J', 0, 1, b'J', 9, 0, b'G', 0, 9, b'G', 1, 9, b'A', 1, 0, 9, 1, 1, 1, 1, b'S', 9, 0, 1, 1, 1, 1][..],
+                &[b'R', 0, 9, b'S', 0, 0, 1, 1, 1, 1, b'S', 9, 0, 1, 1, 1, 1, b'L', 0, 1, b'S', 0, 0, 1, 1, 1, 1],
+            ].concat()),
+            "S 9 1 1:0\nS 0 1 1:0\nS 9 0\nS 0 0\nZ 63\n",
+        ),
         // the nearest first; those at one distance by page number, whenever they were added; a distance of two digits
         (
             after(&[
