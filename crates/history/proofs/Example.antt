@@ -20,7 +20,8 @@ use Rattle.layout.specs.Pages.{withPage, withRow}
 use Rattle.layout.specs.Signature.{foldedByte, folded, signature}
 use Rattle.layout.specs.Lengths.{nodesLength, pagesLength, sketchesLength, workingLength}
 use Rattle.layout.specs.Working.{mapWords, summaryWords}
-use Rattle.rights.specs.Register.{withMember, withGrant, registered}
+use Rattle.layout.specs.Entries.{withEntry}
+use Rattle.rights.specs.Entries.{renewed, classRenewed, registered}
 use Rattle.promises.specs.Tables.{Tables, withSettings}
 use Rattle.promises.specs.Answers.{longFor, longSettings, longNodes, longPages, longWorking, entered, shown56, number, freeLink, freshSettings, freshChain, freshState, freshNodes, freshPages, opened}
 use Rattle.promises.specs.Calls.{OpenPromise, RightsPromise}
@@ -36,7 +37,7 @@ s = settingsGiven 2 4 2 3 5 (replicate 64 1)
 
 -- tables a little too long, with anything in them
 held : Tables
-held = record { settings = replicate 393 9; nodes = replicate 52 8; pages = replicate 13 1; sketches = replicate 12 3; working = replicate 9 7 }
+held = record { settings = replicate 905 9; nodes = replicate 52 8; pages = replicate 13 1; sketches = replicate 12 3; working = replicate 9 7 }
 
 first : Tables
 first = opened s held
@@ -46,17 +47,17 @@ unfolding s held first number entered longSettings longFor longNodes longPages l
 opening-promise = record { answers = refl; settings-left = refl; nodes-left = refl; pages-left = refl }
 
 second : List ℕ
-second = withMember (first .settings) 5 1 true
+second = registered (join 5 1) (first .settings)
 
 third : List ℕ
-third = withGrant second 1 3 true
+third = registered (grant 1 3) second
 
 join-promise : RightsPromise (join 5 1) (first .settings) 0 second
-unfolding s held first second opened freshSettings freeLink header onto number entered shown56 longSettings longFor showsOpening settingsOf inLimits sketchLimits asked firstNo all registered
+unfolding s held first second opened freshSettings freeLink header onto number entered shown56 longSettings longFor showsOpening settingsOf inLimits sketchLimits asked firstNo all
 join-promise = record { answers = refl; settings-left = refl }
 
 grant-promise : RightsPromise (grant 1 3) second 0 third
-unfolding s held first second third opened freshSettings freeLink header onto number entered shown56 longSettings longFor showsOpening settingsOf inLimits sketchLimits asked firstNo all registered withFlag withBit bit
+unfolding s held first second third opened freshSettings freeLink header onto number entered shown56 longSettings longFor showsOpening settingsOf inLimits sketchLimits asked firstNo all registered renewed withEntry withFlag withBit bit
 grant-promise = record { answers = refl; settings-left = refl }
 
 events : List Event
