@@ -14,13 +14,15 @@ use Rattle.meaning.specs.Trie.{fresh, addLeaf, insert, nodes}
 use Rattle.meaning.specs.Rights.{samePair, stands, write, openTo, join, grant, changed}
 use Rattle.meaning.specs.SketchCalls.{sketchLimits}
 use Rattle.meaning.specs.Questions.{inLimits, asked, byLedger}
-use Rattle.words.specs.Bits.{bit, withBit, withFlag}
+use Rattle.words.specs.Bits.{bit, withBit, rising, bitsOf, flag, withFlag}
 use Rattle.layout.specs.Settings.{header, settingsOf, showsOpening}
 use Rattle.layout.specs.Pages.{withPage, withRow}
 use Rattle.layout.specs.Signature.{foldedByte, folded, signature}
 use Rattle.layout.specs.Lengths.{nodesLength, pagesLength, sketchesLength, workingLength}
 use Rattle.layout.specs.Working.{mapWords, summaryWords}
 use Rattle.layout.specs.Entries.{withEntry}
+use Rattle.rights.specs.Register.{isMember, isGranted, recorded}
+use Rattle.rights.specs.Open.{withGroup, withGroups, openClasses}
 use Rattle.rights.specs.Entries.{renewed, classRenewed, registered}
 use Rattle.promises.specs.Tables.{Tables, withSettings}
 use Rattle.promises.specs.Answers.{longFor, longSettings, longNodes, longPages, longWorking, entered, shown56, number, freeLink, freshSettings, freshChain, freshState, freshNodes, freshPages, opened}
@@ -76,10 +78,10 @@ history =
 shown : Represents opened-tables (ledger events)
 shown = represents history .tables
 
--- the words of reader 5 and of group 1
-words : (getD third 75 0 ≡ 2) × (getD third 328 0 ≡ 8)
-unfolding s held first second third opened freshSettings freeLink header onto withFlag withBit bit
-words = (refl, refl)
+-- the words of reader 5 and of group 1, and the reader's entry
+words : (getD third 75 0 ≡ 2) × (getD third 328 0 ≡ 8) × (getD third 400 0 ≡ 8)
+unfolding s held first second third opened freshSettings freeLink header onto registered renewed withEntry classRenewed openClasses withGroups withGroup recorded isMember isGranted bitsOf rising flag any upto from withFlag withBit bit
+words = (refl, refl, refl)
 
 -- a page added, whatever the words of its tries
 x : List ℕ
@@ -95,7 +97,7 @@ added-tables = record {
 }
 
 same-rest : SameRest (toStore opened-tables) (toStore added-tables)
-unfolding s x held first second third opened-tables added-tables opened freshSettings freshNodes freshChain freshState freshPages nodesLength pagesLength freeLink header onto upto from settingsOf withPage withRow withFlag withBit bit
+unfolding s x held first second third opened-tables added-tables opened freshSettings freshNodes freshChain freshState freshPages nodesLength pagesLength freeLink header onto upto from settingsOf withPage withRow registered renewed withEntry classRenewed openClasses withGroups withGroup recorded isMember isGranted bitsOf rising flag any withFlag withBit bit
 same-rest = record {
   settings = refl;
   nodes = refl;
@@ -109,7 +111,7 @@ same-rest = record {
 }
 
 added : PageAdded (toStore opened-tables) (toStore added-tables) 1 3 x
-unfolding s x held first second third opened-tables added-tables opened freshSettings freshPages pagesLength freeLink header onto settingsOf withPage withRow withFlag withBit bit signature folded foldedByte pack packBytes packByte packedLength perByte upto from
+unfolding s x held first second third opened-tables added-tables opened freshSettings freshPages pagesLength freeLink header onto settingsOf withPage withRow registered renewed withEntry classRenewed openClasses withGroups withGroup recorded isMember isGranted bitsOf rising flag any withFlag withBit bit signature folded foldedByte pack packBytes packByte packedLength perByte upto from
 added = record { pages = refl; sketches = refl }
 
 accepts : judged opened-tables (ledger events) (forest events) (add 1 3 x) ≡ 0

@@ -35,32 +35,32 @@ module _ (ws : List ℕ) (t : Bool) where
   register-refused n e = refused-number ws true (ask 7 t ∷ []) n e
 
 -- ---- a change asks whether a is below A and b below B
-abbrev pub Asks : Change → List ℕ → ℕ → ℕ → ℕ → ℕ → Type 0
-Asks c ws a A b B = number (settingsAlone ws) [] (change c) ≡ registerNumber ws (ltb a A && ltb b B)
+pub record Asks (c : Change) (ws : List ℕ) (a A b B : ℕ) : Type 0 where
+  pub asks : number (settingsAlone ws) [] (change c) ≡ registerNumber ws (ltb a A && ltb b B)
 
 module _ (ws : List ℕ) (a b : ℕ) where
   pub joins : Asks (join a b) ws a 256 b 32
   unfolding number entered shown56 longSettings longFor asked registerNumber
-  joins = refl
+  joins = record { asks = refl }
 
   pub leaves : Asks (leave a b) ws a 256 b 32
   unfolding number entered shown56 longSettings longFor asked registerNumber
-  leaves = refl
+  leaves = record { asks = refl }
 
   pub grants : Asks (grant a b) ws a 32 b 64
   unfolding number entered shown56 longSettings longFor asked registerNumber
-  grants = refl
+  grants = record { asks = refl }
 
   pub revokes : Asks (revoke a b) ws a 32 b 64
   unfolding number entered shown56 longSettings longFor asked registerNumber
-  revokes = refl
+  revokes = record { asks = refl }
 
 -- ---- the ways out, n the answer of `refusal`
-module _ {c : Change} {ws : List ℕ} {a A b B : ℕ} (asks : Asks c ws a A b B) (n : ℕ)
+module _ {c : Change} {ws : List ℕ} {a A b B : ℕ} (C : Asks c ws a A b B) (n : ℕ)
     (answer : n ≡ registerNumber ws (ltb a A && ltb b B)) where
   pub refused : (n ≡ 0 → ⊥) → RightsPromise c ws n ws
   refused h =
-      let same : number (settingsAlone ws) [] (change c) ≡ n = asks ∙ sym answer in
+      let same : number (settingsAlone ws) [] (change c) ≡ n = C .asks ∙ sym answer in
       record { answers = sym same; settings-left = rw (same, ne-eqb n 0 h) }
 
   pub passed : n ≡ 0 → (settingsLength ≤ length ws) × (a < A) × (b < B)
@@ -74,5 +74,5 @@ module _ {c : Change} {ws : List ℕ} {a A b B : ℕ} (asks : Asks c ws a A b B)
 
   pub done : n ≡ 0 → (after : List ℕ) → after ≡ registered c ws → RightsPromise c ws 0 after
   done z after e =
-      let same : number (settingsAlone ws) [] (change c) ≡ 0 = asks ∙ sym answer ∙ z in
+      let same : number (settingsAlone ws) [] (change c) ≡ 0 = C .asks ∙ sym answer ∙ z in
       record { answers = sym same; settings-left = rw same e }
