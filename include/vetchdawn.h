@@ -40,7 +40,7 @@
  * tables are laid out otherwise, and is that of the shared library. CHANGELOG.md
  * has what changed. */
 
-#define VETCHDAWN_VERSION_MAJOR 1
+#define VETCHDAWN_VERSION_MAJOR 2
 #define VETCHDAWN_VERSION_MINOR 0
 #define VETCHDAWN_VERSION_PATCH 0
 #define VETCHDAWN_VERSION                                                    \
@@ -54,9 +54,9 @@
 #define VETCH_TEXT_OF(number) #number
 
 /* The first word of a settings table that was opened. Tables with another mark
- * are laid out otherwise, and every call on them but an opening gives 6. All
- * versions 1 have this one. */
-#define VETCHDAWN_LAYOUT_MARK 0x56440002u
+ * are laid out otherwise, and every call on them but an opening gives 6, or 5 where
+ * the settings table is too short for this layout. All versions 2 have this one. */
+#define VETCHDAWN_LAYOUT_MARK 0x56440003u
 
 /* ---- Limits */
 
@@ -160,8 +160,8 @@ extern "C" {
 
 /* VETCHDAWN_VERSION of the library that is linked. Its name ends in the major
  * version: a program that calls it does not link with a library of another. */
-uint32_t vetch_version_1(void);
-#define vetch_version vetch_version_1
+uint32_t vetch_version_2(void);
+#define vetch_version vetch_version_2
 
 /* ---- Sketches: m symbols, a byte each, each below 2^b */
 
@@ -231,7 +231,11 @@ uint32_t vetch_drop(uint32_t *settings, size_t settings_len, uint32_t *nodes,
                     uint32_t page);
 
 /* Readers are 0 to 255, groups 0 to 31, classes 0 to 63. A class is open to a
- * reader if some group has him as a member and is granted it. */
+ * reader if some group has him as a member and is granted it. The settings table
+ * keeps for each reader his entry, the set of the classes open to him; a search and
+ * a show read it alone. A join or a leave writes the reader's entry anew from the
+ * memberships and grants, a grant or a revoke the one class in the entry of each
+ * member, for which it goes over all readers. */
 uint32_t vetch_join(uint32_t *settings, size_t settings_len, uint32_t reader,
                     uint32_t group);
 uint32_t vetch_leave(uint32_t *settings, size_t settings_len, uint32_t reader,
@@ -271,10 +275,13 @@ uint32_t vetch_show(const uint32_t *settings, size_t settings_len,
 
 /* *sound is 1 if the store is sound and 0 if not, or with a refusal: each live page
  * has a class and symbols in range and stands once in each tree, where its row
- * belongs, no other page stands there, and no node is lost. Then searches list all
- * that they must. Whether the tables are those that were last written is not told:
- * with other rights, thresholds or classes, and with some other rows, they are
- * sound as well. The working table is left as by a search. */
+ * belongs, no other page stands there, no node is lost, and each reader's entry is
+ * what the memberships and grants say. Then searches list all that they must.
+ * Whether the tables are those that were last written is not told: with the
+ * memberships, grants and entries of another moment, with a membership or a grant
+ * more or less that alters no reader's open classes, with other thresholds or
+ * classes, and with some other rows, they are sound as well. The working table is
+ * left as by a search. */
 uint32_t vetch_check(const uint32_t *settings, size_t settings_len,
                      const uint32_t *nodes, size_t nodes_len,
                      const uint32_t *pages, size_t pages_len,

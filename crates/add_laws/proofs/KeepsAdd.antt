@@ -29,7 +29,7 @@ use Rattle.trie_laws.proofs.Forest.{each-length}
 use Rattle.promises.specs.Tables.{Tables, given, pageClass, pageRow, rowsOf}
 use Rattle.promises.specs.Answers.{number}
 use Rattle.promises.specs.Sound.{Holding, Sound, SoundPage, livePage, pageBytes}
-use Rattle.promises.proofs.Stores.{tries-count}
+use Rattle.promises.proofs.Stores.{tries-count, entries-kept}
 use Rattle.add_laws.specs.declared.Inserted.the-variants.{Free}
 use Rattle.add_laws.specs.declared.Inserted.the-variants as insertion
 use Rattle.add_laws.specs.Insert.{filled, insertAll}
@@ -150,6 +150,7 @@ module _ (T : Tables) (F : List Tree) (sound : Sound T F) (p c : ℕ) (x : List 
     forest = G .forest;
     blocks = blocks;
     pages = pages-sound;
+    entries = entries-kept T F sound (G .link);
   }
 
 pub insert-sound : (T : Tables) (F : List Tree) (p c : ℕ) (x : List ℕ) → Sound T F → number T F (add p c x) ≡ 0 → InsertedSound T F p c x

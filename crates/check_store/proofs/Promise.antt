@@ -3,12 +3,13 @@ use Prim.Native.Nat.{ℕ, zero, suc, _+_, _-_, _*_, _≤_}
 use native.Mathlib.Omega.{arith}
 use native.Mathlib.Nat.{zero-add}
 use mathlib.Core.Path.{_≡_, refl, sym, ap, _∙_, fun-ext}
-use mathlib.Core.Bool.{Bool, true, false}
+use mathlib.Core.Bool.{Bool, true, false, _&&_}
 use mathlib.Core.List.{List, _++_}
 use borrow.Author.Tests.{ne-eqb}
 use lib.ListN.{length, getD, take, drop, replicate, length-replicate}
 use lib.Seq.{length-take-le, drop-append-add, drop-drop}
 use Rattle.meaning.specs.Lists.{onto}
+use Rattle.meaning.proofs.Lists.{and-first, and-second, and-intro}
 use Rattle.meaning.specs.Trie.{Tree}
 use Rattle.meaning.specs.Ledger.{Settings}
 use Rattle.meaning.specs.Forest.{blockBytes}
@@ -20,6 +21,7 @@ use Rattle.layout.specs.Lengths.{workingLength}
 use Rattle.layout.specs.Settings.{freeAt}
 use Rattle.layout.specs.Working.{mapWords}
 use Rattle.layout.proofs.Sizes.{same-lengths, nodes-mapped}
+use Rattle.rights.specs.Entries.{allCurrent}
 use Rattle.promises.specs.Tables.{Tables, given}
 use Rattle.entry.specs.Entry.{entry}
 use Rattle.promises.specs.Sound.{Sound}
@@ -95,17 +97,21 @@ module _ (T : Tables) where
     enough = omega (arith, part-long, nodes-mapped (given T), same-lengths (given T) h (a .header) .map)
 
     module _ (link : ℕ) (l : link ≡ getD (T .settings) freeAt 0) (map′ : List ℕ) (r : Bool)
-        (answer : passed map′ r ≡ testStore (bare h) (T .nodes) (T .pages) (T .sketches) link (length part) part) where
+        (answer : passed map′ r ≡ testStore (bare h) (T .nodes) (T .pages) (T .sketches) link (length part) part)
+        (current : Bool) (entries : current ≡ allCurrent (T .settings)) where
       test : passed map′ r ≡ testStore (bare h) (T .nodes) (T .pages) (T .sketches) free (length part) part
       test = answer ∙ ap (λ f. testStore (bare h) (T .nodes) (T .pages) (T .sketches) f (length part) part) l
 
-      says-right : r ≡ true → (F : List Tree) × Sound T F
+      says-right : r && current ≡ true → (F : List Tree) × Sound T F
       says-right z =
-          store-right T (a .lent) (length part) part map′ (omega arith) enough (sym tested ∙ sym test ∙ ap (passed map′) z)
+          store-right T (a .lent) (length part) part map′ (omega arith) enough (sym entries ∙ and-second r current z)
+          (sym tested ∙ sym test ∙ ap (passed map′) (and-first r current z))
 
-      says-whole : (F : List Tree) → Sound T F → r ≡ true
+      says-whole : (F : List Tree) → Sound T F → r && current ≡ true
       says-whole F s =
-          ap (λ (p : Passed). p .answer) (test ∙ tested ∙ store-whole T F s (a .lent) (length part) part (omega arith) .1)
+          and-intro r current
+          (ap (λ (p : Passed). p .answer) (test ∙ tested ∙ store-whole T F s (a .lent) (length part) part (omega arith) .1))
+          (entries ∙ s .entries)
 
       -- the needed part of the working table
       module _ (kept : length map′ ≡ words) (needed : ℕ) (n : needed ≡ workingLength (bare h)) where
@@ -123,7 +129,7 @@ module _ (T : Tables) where
             ap (λ xs. replicate needed 0 ++ xs) (ap (λ k. drop k (map′ ++ drop words (T .working))) (zero-add needed) ∙ rest)
             ∙ rw (length-replicate {A = ℕ} (workingLength (given T)) 0, ← same) refl
 
-        pub check-done : (ws : List ℕ) → ws ≡ zeroed (map′ ++ drop words (T .working)) 0 needed → CheckPromise T 0 r ws
+        pub check-done : (ws : List ℕ) → ws ≡ zeroed (map′ ++ drop words (T .working)) 0 needed → CheckPromise T 0 (r && current) ws
         unfolding workingLeft
         check-done ws z = record {
           answers = sym (a .answers);

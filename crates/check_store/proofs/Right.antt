@@ -30,6 +30,7 @@ use Rattle.node_check.specs.declared.leaf.Left.{Left}
 use Rattle.node_check.specs.declared.leaf.Left.the-variants.{Some, Failed}
 use Rattle.trie_check_laws.proofs.Once.{pages-stand}
 use Rattle.trie_check_laws.proofs.Once.{pages-once as page-once}
+use Rattle.rights.specs.Entries.{allCurrent}
 use Rattle.promises.specs.Tables.{Tables, given, pageClass, pageRow}
 use Rattle.promises.specs.Sound.{triesCells, Rooted, livePage, pageBytes, SoundPage, Sound}
 use Rattle.check_tables.specs.Pages.{pageFits, testPages}
@@ -95,7 +96,8 @@ module _ (T : Tables) where
     sound-blocks j [] a = tt
     sound-blocks j (t ∷ ts) a = (sound-block j t (a .0), sound-blocks (suc j) ts (a .1))
 
-  module _ (lent : Lent (headerOf s) (T .nodes) (T .pages) (T .sketches)) (words : ℕ) (map map′ : List ℕ) (long : words ≤ length map) (enough : s .nodes ≤ 8 * (32 * words)) where
+  module _ (lent : Lent (headerOf s) (T .nodes) (T .pages) (T .sketches)) (words : ℕ) (map map′ : List ℕ) (long : words ≤ length map) (enough : s .nodes ≤ 8 * (32 * words))
+      (current : allCurrent (T .settings) ≡ true) where
     abbrev free : ℕ
     free = getD (T .settings) freeAt 0
 
@@ -130,6 +132,7 @@ module _ (T : Tables) where
             forest = refl;
             blocks = sound-blocks live pages 0 ts (all .all);
             pages = live-page live pages;
+            entries = current;
           },
         )
 

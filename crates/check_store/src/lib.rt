@@ -68,7 +68,11 @@ pub fn check(
     let free = settings::free_link(settings);
     let words = layout::lengths::map_words(h);
     let sound = test_store(nodes, pages, sketches, &mut working[..words], h, free);
+    let current = rights::current::all_current(settings);
     let needed = layout::lengths::working_length(h);
     words::zero_run(working, 0, needed);
-    Verdict { number: 0, sound }
+    Verdict {
+        number: 0,
+        sound: sound & current,
+    }
 }

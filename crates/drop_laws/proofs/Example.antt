@@ -1,14 +1,15 @@
 -- A small store, computed: the laws' hypotheses can be met. Two blocks of a symbol each, three nodes, one page: it stands in a leaf below
 -- the first root, and in the second root itself. Its class is 0, and its row is blank, as stores from before question 15 may have it: the
 -- store is sound. It is dropped.
-use Prim.Native.Nat.{ℕ, zero, suc, _<_}
+use Prim.Native.Nat.{ℕ, zero, suc, _+_, _-_, _≤_, _<_}
 use native.Mathlib.Omega.{arith}
 use mathlib.Core.Path.{_≡_, refl, sym, _∙_}
 use mathlib.Core.Bool.{true, false, false≢true}
 use mathlib.Core.List.{List, [], _∷_, _++_}
 use borrow.Author.Tests.{le-ltb, ne-eqb}
 use lib.Dec.{lit<}
-use lib.ListN.{replicate}
+use lib.ListN.{length, getD, replicate, length-replicate, getD-replicate, List·getD-append}
+use lib.Seq.{getD-append-add}
 use Rattle.meaning.specs.Lists.{all, any, count, from, upto, sum}
 use Rattle.meaning.specs.Refusal.{firstNo}
 use Rattle.meaning.specs.Sketch.{inRange, pack, packBytes, perByte, packByte, packedLength, symbolsAt, packable, block, blockLength, blockStart}
@@ -17,10 +18,11 @@ use Rattle.meaning.specs.Trie.{Tree, leaf, inner, none, child, byteAt, nodes, p
 use Rattle.meaning.specs.Ledger.{Settings, settingsGiven, drop}
 use Rattle.meaning.specs.Forest.{blockBytes, bytesOfSketch, totalNodes, forestAfter}
 use Rattle.meaning.specs.Questions.{inLimits, asked}
-use Rattle.layout.specs.Settings.{settingsOf, header, showsOpening, registerLength}
+use Rattle.layout.specs.Settings.{settingsOf, header, showsOpening, registerLength, membersAt, freeAt}
 use Rattle.layout.specs.Lengths.{nodesLength, pagesLength, sketchesLength}
 use Rattle.layout.specs.Pages.{isLive, classOf, signatureAt, rowOf}
 use Rattle.layout.specs.Signature.{foldedByte, folded, signature}
+use Rattle.rights.proofs.Pairs.{holds-none}
 use Rattle.children.specs.Heap.{Cells, nil, _⊕_}
 use Rattle.layout.specs.States.{kindOf}
 use Rattle.children.specs.Order.{bare}
@@ -83,6 +85,18 @@ unfolding pageClass classOf pageRow rowOf inRange all signatureAt signature fold
 page-sound zero h = record { class = lit< tt; symbols = refl; signature = refl }
 page-sound (suc p) h = absurd (false≢true (sym (live-one p) ∙ h))
 
+-- no rights
+no-right : (i : ℕ) → membersAt ≤ i → i < freeAt → getD settings i 0 ≡ 0
+unfolding settings header given₁
+no-right i a b =
+    let e : i ≡ membersAt + (i - membersAt) = omega arith in
+    let below : i - membersAt < length {A = ℕ} (replicate registerLength 0) = omega (arith, length-replicate {A = ℕ} registerLength 0) in
+    rw e (
+      getD-append-add (header given₁) (replicate registerLength 0 ++ 0 ∷ []) (i - membersAt) 0
+      ∙ List·getD-append (replicate registerLength 0) (0 ∷ []) 0 (i - membersAt) below
+      ∙ getD-replicate registerLength (i - membersAt) 0 0 (omega arith)
+    )
+
 sound : Sound T F
 unfolding headsFrom any settings settingsOf header given₁ totalNodes sum nodes soundTrie pagesIn filled all packable symbolsAt perByte byteAt pageBytes pageRow rowOf bytesOfSketch pack packBytes packByte block blockLength blockStart blockBytes packedLength
 sound = record {
@@ -103,6 +117,7 @@ sound = record {
   forest = refl;
   blocks = (record { sound = refl; stands = stands _ refl }, (record { sound = refl; stands = stands _ refl }, tt));
   pages = page-sound;
+  entries = holds-none settings no-right .entries;
 }
 
 -- it is dropped: the leaf below the first root is freed, and both roots are empty leaves

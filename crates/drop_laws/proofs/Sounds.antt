@@ -32,7 +32,7 @@ use Rattle.trie_remove.specs.declared.Removed.the-variants.{Done}
 use Rattle.trie_remove.specs.Remove.{gone}
 use Rattle.promises.specs.Tables.{Tables, given, pageClass, pageRow, rowsOf}
 use Rattle.promises.specs.Sound.{triesCells, livePage, pageBytes, SoundPage, Sound}
-use Rattle.promises.proofs.Stores.{live-below}
+use Rattle.promises.proofs.Stores.{live-below, entries-kept}
 use Rattle.store.specs.Within.{Within}
 use Rattle.store.proofs.Claims.{free-none, tries-behind}
 use Rattle.store.proofs.Cells.{beside-none}
@@ -211,5 +211,6 @@ module _ (T : Tables) (F : List Tree) (S : Sound T F) (p : ℕ) (a : Admitted T 
           pages = λ q h.
               let l = live-before T p a N P free kept q h in
               page-sound T p a N P free kept q (l .0) (l .1) (S .pages q (l .0));
+          entries = entries-kept T F S free;
         };
       }

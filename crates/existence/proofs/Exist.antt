@@ -9,7 +9,7 @@ use Rattle.meaning.specs.Rights.{Change}
 use Rattle.meaning.specs.Ledger.{Settings, Event, Reading, Call, opening, add, drop, change, reading, ledger}
 use Rattle.meaning.specs.Forest.{forest}
 use Rattle.promises.specs.Tables.{Tables, settingsAlone, withSettings}
-use Rattle.rights.specs.Register.{registered}
+use Rattle.rights.specs.Entries.{registered}
 use Rattle.promises.specs.Answers.{number, opened}
 use Rattle.promises.specs.Sound.{Sound}
 use Rattle.promises.specs.Store.{Outcome, outcome, AddPromise, DropPromise}

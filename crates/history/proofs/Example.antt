@@ -14,13 +14,16 @@ use Rattle.meaning.specs.Trie.{fresh, addLeaf, insert, nodes}
 use Rattle.meaning.specs.Rights.{samePair, stands, write, openTo, join, grant, changed}
 use Rattle.meaning.specs.SketchCalls.{sketchLimits}
 use Rattle.meaning.specs.Questions.{inLimits, asked, byLedger}
-use Rattle.words.specs.Bits.{bit, withBit, withFlag}
+use Rattle.words.specs.Bits.{bit, withBit, rising, bitsOf, flag, withFlag}
 use Rattle.layout.specs.Settings.{header, settingsOf, showsOpening}
 use Rattle.layout.specs.Pages.{withPage, withRow}
 use Rattle.layout.specs.Signature.{foldedByte, folded, signature}
 use Rattle.layout.specs.Lengths.{nodesLength, pagesLength, sketchesLength, workingLength}
 use Rattle.layout.specs.Working.{mapWords, summaryWords}
-use Rattle.rights.specs.Register.{withMember, withGrant, registered}
+use Rattle.layout.specs.Entries.{withEntry}
+use Rattle.rights.specs.Register.{isMember, isGranted, recorded}
+use Rattle.rights.specs.Open.{withGroup, withGroups, openClasses}
+use Rattle.rights.specs.Entries.{renewed, classRenewed, registered}
 use Rattle.promises.specs.Tables.{Tables, withSettings}
 use Rattle.promises.specs.Answers.{longFor, longSettings, longNodes, longPages, longWorking, entered, shown56, number, freeLink, freshSettings, freshChain, freshState, freshNodes, freshPages, opened}
 use Rattle.promises.specs.Calls.{OpenPromise, RightsPromise}
@@ -36,7 +39,7 @@ s = settingsGiven 2 4 2 3 5 (replicate 64 1)
 
 -- tables a little too long, with anything in them
 held : Tables
-held = record { settings = replicate 393 9; nodes = replicate 52 8; pages = replicate 13 1; sketches = replicate 12 3; working = replicate 9 7 }
+held = record { settings = replicate 905 9; nodes = replicate 52 8; pages = replicate 13 1; sketches = replicate 12 3; working = replicate 9 7 }
 
 first : Tables
 first = opened s held
@@ -46,17 +49,17 @@ unfolding s held first number entered longSettings longFor longNodes longPages l
 opening-promise = record { answers = refl; settings-left = refl; nodes-left = refl; pages-left = refl }
 
 second : List ℕ
-second = withMember (first .settings) 5 1 true
+second = registered (join 5 1) (first .settings)
 
 third : List ℕ
-third = withGrant second 1 3 true
+third = registered (grant 1 3) second
 
 join-promise : RightsPromise (join 5 1) (first .settings) 0 second
-unfolding s held first second opened freshSettings freeLink header onto number entered shown56 longSettings longFor showsOpening settingsOf inLimits sketchLimits asked firstNo all registered
+unfolding s held first second opened freshSettings freeLink header onto number entered shown56 longSettings longFor showsOpening settingsOf inLimits sketchLimits asked firstNo all
 join-promise = record { answers = refl; settings-left = refl }
 
 grant-promise : RightsPromise (grant 1 3) second 0 third
-unfolding s held first second third opened freshSettings freeLink header onto number entered shown56 longSettings longFor showsOpening settingsOf inLimits sketchLimits asked firstNo all registered withFlag withBit bit
+unfolding s held first second third opened freshSettings freeLink header onto number entered shown56 longSettings longFor showsOpening settingsOf inLimits sketchLimits asked firstNo all registered renewed withEntry withFlag withBit bit
 grant-promise = record { answers = refl; settings-left = refl }
 
 events : List Event
@@ -75,10 +78,10 @@ history =
 shown : Represents opened-tables (ledger events)
 shown = represents history .tables
 
--- the words of reader 5 and of group 1
-words : (getD third 75 0 ≡ 2) × (getD third 328 0 ≡ 8)
-unfolding s held first second third opened freshSettings freeLink header onto withFlag withBit bit
-words = (refl, refl)
+-- the words of reader 5 and of group 1, and the reader's entry
+words : (getD third 75 0 ≡ 2) × (getD third 328 0 ≡ 8) × (getD third 400 0 ≡ 8)
+unfolding s held first second third opened freshSettings freeLink header onto registered renewed withEntry classRenewed openClasses withGroups withGroup recorded isMember isGranted bitsOf rising flag any upto from withFlag withBit bit
+words = (refl, refl, refl)
 
 -- a page added, whatever the words of its tries
 x : List ℕ
@@ -94,7 +97,7 @@ added-tables = record {
 }
 
 same-rest : SameRest (toStore opened-tables) (toStore added-tables)
-unfolding s x held first second third opened-tables added-tables opened freshSettings freshNodes freshChain freshState freshPages nodesLength pagesLength freeLink header onto upto from settingsOf withPage withRow withFlag withBit bit
+unfolding s x held first second third opened-tables added-tables opened freshSettings freshNodes freshChain freshState freshPages nodesLength pagesLength freeLink header onto upto from settingsOf withPage withRow registered renewed withEntry classRenewed openClasses withGroups withGroup recorded isMember isGranted bitsOf rising flag any withFlag withBit bit
 same-rest = record {
   settings = refl;
   nodes = refl;
@@ -108,7 +111,7 @@ same-rest = record {
 }
 
 added : PageAdded (toStore opened-tables) (toStore added-tables) 1 3 x
-unfolding s x held first second third opened-tables added-tables opened freshSettings freshPages pagesLength freeLink header onto settingsOf withPage withRow withFlag withBit bit signature folded foldedByte pack packBytes packByte packedLength perByte upto from
+unfolding s x held first second third opened-tables added-tables opened freshSettings freshPages pagesLength freeLink header onto settingsOf withPage withRow registered renewed withEntry classRenewed openClasses withGroups withGroup recorded isMember isGranted bitsOf rising flag any withFlag withBit bit signature folded foldedByte pack packBytes packByte packedLength perByte upto from
 added = record { pages = refl; sketches = refl }
 
 accepts : judged opened-tables (ledger events) (forest events) (add 1 3 x) ≡ 0

@@ -27,7 +27,7 @@ use Rattle.promises.specs.Tables.{Tables, given}
 use Rattle.promises.specs.Answers.{longFor, longSettings, freeLink, freshSettings, freshChain, freshState, freshNodes, opened}
 use Rattle.promises.specs.Sound.{triesCells, Rooted, Holding, livePage, pageBytes, Sound}
 use Rattle.history.proofs.Represents.{settings-read}
-use Rattle.history.proofs.Opening.{onto-word, settings-length, nodes-length, no-page, beginning, header-length}
+use Rattle.history.proofs.Opening.{onto-word, settings-length, nodes-length, no-rights, no-page, beginning, header-length}
 use Rattle.history.proofs.Claims.{roots, tries-pages, free-pages, all-claims}
 
 -- ---- the words of the node table
@@ -175,4 +175,5 @@ module _ (s : Settings) (limits : inLimits s ≡ true) (T : Tables) (long : long
     forest = roots-fresh 0 q;
     blocks = rw no-live (fresh-forest (given (opened s T)) (pageBytes (opened s T)) q);
     pages = λ p e. absurd (true≢false (sym e ∙ ap (λ f. f p) no-live));
+    entries = no-rights s limits T long .entries;
   }

@@ -11,6 +11,7 @@ use lib.Seq.{take-at, take-append-le, getD-append-add}
 use borrow.Author.Tests.{leb-true}
 use Rattle.meaning.specs.Lists.{onto, upto}
 use Rattle.meaning.specs.Refusal.{firstNo}
+use Rattle.meaning.specs.Rights.{noRights}
 use Rattle.meaning.specs.Ledger.{Settings, Ledger, opening, accept}
 use Rattle.meaning.specs.Questions.{inLimits, asked}
 use Rattle.meaning.proofs.Lists.{and-first, and-second, length-from, length-onto}
@@ -18,7 +19,7 @@ use Rattle.layout.specs.Settings.{settingsLength, membersAt, freeAt, header, re
 use Rattle.layout.specs.Pages.{isLive}
 use Rattle.layout.specs.Lengths.{nodesLength, pagesLength}
 use Rattle.layout.proofs.Limits.{bounds}
-use Rattle.rights.proofs.Pairs.{holds-none}
+use Rattle.rights.proofs.Pairs.{Holds, holds-none}
 use Rattle.promises.specs.Tables.{Tables, given, rowsOf}
 use Rattle.promises.specs.Answers.{longFor, longSettings, longNodes, longPages, entered, number, freeLink, freshSettings, freshNodes, freshPages, opened}
 use Rattle.promises.specs.Relation.{Answer, withOpening, Promised}
@@ -75,6 +76,9 @@ module _ (s : Settings) (limits : inLimits s ≡ true) where
         let e : i ≡ membersAt + (i - membersAt) = omega arith in
         rw (e, onto-word (freshSettings s) (T .settings) (membersAt + (i - membersAt)) (omega (arith, settings-length)), settings-word (i - membersAt) (omega arith))
 
+    pub no-rights : Holds (opened s T .settings) noRights
+    no-rights = holds-none (opened s T .settings) no-right
+
     pub no-page : (i : ℕ) → i < s .pages → isLive (opened s T .pages) i ≡ false
     unfolding opened isLive freshPages onto pagesLength
     no-page i h = let l : 1 ≤ 2 + s .blocks = omega arith in rw (zero-word (pagesLength s) _ i (omega (arith, mul-le-mul-right (s .pages) l)))
@@ -91,7 +95,7 @@ module _ (s : Settings) (limits : inLimits s ≡ true) where
       head = beginning;
       limits = limits;
       long = long-kept s T (opened s T) as-long long;
-      register = holds-none (opened s T .settings) no-right;
+      register = no-rights;
       rows =
           sym (rows-none (isLive (opened s T .pages)) _ (given (opened s T) .pages)
           (λ i h. no-page i (rw (settings-read s limits (opened s T .settings) beginning) at h)));

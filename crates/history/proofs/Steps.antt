@@ -19,7 +19,7 @@ use Rattle.layout.specs.Settings.{settingsLength, membersAt, freeAt}
 use Rattle.layout.specs.Pages.{isLive, classOf, withRow, withPage, withoutPage}
 use Rattle.layout.specs.Signature.{signature}
 use Rattle.layout.proofs.Rows.{row-inside, row-same, row-other}
-use Rattle.rights.specs.Register.{registered}
+use Rattle.rights.specs.Entries.{registered}
 use Rattle.rights.proofs.Pairs.{Holds, Changed, holds-same, made}
 use Rattle.promises.specs.Tables.{Tables, withSettings, pageClass, pageRow, rowsOf}
 use Rattle.promises.specs.Answers.{longSettings}

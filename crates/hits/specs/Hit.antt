@@ -13,7 +13,7 @@ use Rattle.layout.specs.Lengths.{pagesLength, sketchesLength}
 use Rattle.layout.specs.Pages.{isLive, classOf, signatureAt, rowOf}
 use Rattle.layout.specs.Signature.{signature}
 use Rattle.rights.specs.declared.Classes.{Classes}
-use Rattle.rights.specs.Open.{isOpen, openClasses}
+use Rattle.rights.specs.Open.{isOpen, entryOf}
 use Rattle.comparison.specs.declared.Verdict.{Verdict}
 use Rattle.comparison.specs.declared.Verdict.the-variants.{Within, Beyond}
 use Rattle.promises.specs.Tables.{Tables, given}
@@ -34,7 +34,7 @@ test pages sketches header classes query radius =
 
 -- by the tables lent to a search, for a reader
 abbrev pub testOf : Tables → ℕ → ℕ → List ℕ → Test
-testOf T reader radius x = test (T .pages) (T .sketches) (headerOf (given T)) (openClasses (T .settings) reader) x radius
+testOf T reader radius x = test (T .pages) (T .sketches) (headerOf (given T)) (entryOf (T .settings) reader) x radius
 
 -- the capacities are within their limits, the tables long enough for them, and the query has m symbols
 pub record Fitting (t : Test) : Type 0 where

@@ -7,3 +7,4 @@ pub mod Sizes
 pub mod Words
 pub mod Rows
 pub mod States
+pub mod Entries

@@ -1,4 +1,5 @@
 pub mod Settings
+pub mod Entries
 pub mod Limits
 pub mod Header
 pub mod Nodes

@@ -1,4 +1,5 @@
--- The settings table: a mark, b, m, q, the capacities, 64 thresholds, 256 words of memberships, 64 words of grants, the free link.
+-- The settings table: a mark, b, m, q, the capacities, 64 thresholds, 256 words of memberships, 64 words of grants, 512 words of entries,
+-- the free link.
 use Prim.Native.Nat.{ℕ, _+_}
 use mathlib.Core.Bool.{Bool, _&&_}
 use mathlib.Core.List.{List, _∷_, _++_}
@@ -9,11 +10,11 @@ use Rattle.meaning.specs.Questions.{inLimits}
 
 -- the mark of an opening: the letters VD and the number of this layout, which changes with it
 abbrev pub mark : ℕ
-mark = 0x56440002
+mark = 0x56440003
 
 -- how many words the table needs
 abbrev pub settingsLength : ℕ
-settingsLength = 391
+settingsLength = 903
 
 -- where the memberships begin: reader r has word membersAt + r, whose bit g stands for group g
 abbrev pub membersAt : ℕ
@@ -23,13 +24,17 @@ membersAt = 70
 abbrev pub grantsAt : ℕ
 grantsAt = 326
 
--- how many words the memberships and grants take
+-- where the entries begin: reader r has words entriesAt + 2 × r and the next, whose bits stand for classes 0 to 63
+abbrev pub entriesAt : ℕ
+entriesAt = 390
+
+-- how many words the memberships, grants and entries take
 abbrev pub registerLength : ℕ
-registerLength = 320
+registerLength = 832
 
 -- the word with the link to the first free node
 abbrev pub freeAt : ℕ
-freeAt = 390
+freeAt = 902
 
 -- the first 70 words: what an opening was given, behind the mark
 unfoldable pub header : Settings → List ℕ

@@ -2,7 +2,7 @@
 use Prim.Native.Nat.{ℕ, zero, suc, _+_, _≤_, _<_}
 use native.Mathlib.Omega.{arith}
 use mathlib.Core.Path.{_≡_, refl, sym, ap, _∙_}
-use mathlib.Core.Bool.{Bool, true, false, cond, _&&_, _||_, and-assoc, or-assoc, false≢true}
+use mathlib.Core.Bool.{Bool, true, false, cond, _&&_, _||_, and-assoc, and-true, or-assoc, false≢true}
 use mathlib.Core.List.{List, [], _∷_, _++_, map}
 use lib.Dec.{eqb}
 use lib.ListN.{length, getD, drop, length-append, length-drop, length-map}
@@ -185,6 +185,35 @@ module _ (f : ℕ → Bool) where
   pub upto-all : (n : ℕ) → all f (upto n) ≡ true → (i : ℕ) → i < n → f i ≡ true
   unfolding upto
   upto-all n h i l = all-from 0 n h i (omega arith) (omega arith)
+
+  -- one more
+  pub all-suc : (n : ℕ) → all f (upto (suc n)) ≡ all f (upto n) && f n
+  unfolding all
+  all-suc n =
+      ap (all f) (upto-suc n) ∙ all-append f (upto n) (n ∷ []) ∙ ap (λ (t : Bool). all f (upto n) && t) (and-true (f n))
+
+  -- all pass where each does, and not all where one does not
+  pub all-upto : (n : ℕ) → ((i : ℕ) → i < n → f i ≡ true) → all f (upto n) ≡ true
+  unfolding all upto from
+  all-upto zero h = refl
+  all-upto (suc n) h = all-suc n ∙ and-intro (all f (upto n)) (f n) (all-upto n (λ i l. h i (omega arith))) (h n (omega arith))
+
+  pub upto-not : (n i : ℕ) → i < n → f i ≡ false → all f (upto n) ≡ false
+  upto-not n i h e = not-so (all f (upto n)) (λ a. false≢true (sym e ∙ upto-all n a i h))
+
+  -- some passes where one does, and none where not any does
+  any-at : (k n i : ℕ) → k ≤ i → i < k + n → f i ≡ true → any f (from k n) ≡ true
+  unfolding any from
+  any-at k zero i l u e = absurd (omega arith)
+  any-at k (suc n) i l u e = go (eqb k i) refl (λ a b. any-at (suc k) n i a b e)
+    where
+      go : (t : Bool) → eqb k i ≡ t → (suc k ≤ i → i < suc k + n → any f (from (suc k) n) ≡ true) → f k || any f (from (suc k) n) ≡ true
+      go true d later = or-first (f k) (any f (from (suc k) n)) (rw (eqb-true k i d) e)
+      go false d later = or-second (f k) (any f (from (suc k) n)) (later (omega (arith, eqb-false k i d)) (omega arith))
+
+  pub upto-none : (n : ℕ) → any f (upto n) ≡ false → (i : ℕ) → i < n → f i ≡ false
+  unfolding upto
+  upto-none n h i l = not-so (f i) (λ e. false≢true (sym h ∙ any-at 0 n i (omega arith) (omega arith) e))
 
   -- at most n of them pass
   pub count-upto : (n : ℕ) → count f (upto n) ≤ n

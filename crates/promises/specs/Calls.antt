@@ -6,7 +6,7 @@ use mathlib.Core.List.{List, []}
 use lib.Dec.{eqb}
 use Rattle.meaning.specs.Rights.{Change}
 use Rattle.meaning.specs.Ledger.{Settings, opening, change}
-use Rattle.rights.specs.Register.{registered}
+use Rattle.rights.specs.Entries.{registered}
 use Rattle.promises.specs.Tables.{Tables, settingsAlone}
 use Rattle.promises.specs.Answers.{number, opened}
 

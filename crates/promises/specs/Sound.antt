@@ -1,6 +1,6 @@
 -- A store is sound (document 01): the tables hold a trie for each block, in which the live pages stand and no others, and every
 -- other node is free to use. It need not be one that calls can reach. This layout adds that the signature stored for a live page is
--- that of its row.
+-- that of its row, and document 02 (F-5) that each reader's entry is what the records of memberships and grants say.
 use Prim.Native.Nat.{ℕ, suc, _+_, _<_}
 use mathlib.Core.Path.{_≡_}
 use mathlib.Core.Bool.{Bool, true, _&&_}
@@ -13,6 +13,7 @@ use Rattle.meaning.specs.Forest.{bytesOfSketch, totalNodes}
 use Rattle.layout.specs.Settings.{freeAt}
 use Rattle.layout.specs.Pages.{nextAt, isLive, signatureAt}
 use Rattle.layout.specs.Signature.{signature}
+use Rattle.rights.specs.Entries.{allCurrent}
 use Rattle.children.specs.Heap.{Cells, nil, _⊕_, Heap}
 use Rattle.children.specs.Phys.{Phys, root, tree, first, cells, freeCells, Below}
 use Rattle.children.specs.Phys.{Sound as SoundNodes}
@@ -64,3 +65,4 @@ pub record Sound (T : Tables) (F : List Tree) : Type 0 where
   -- as packing can give; no leaf but the root is empty; inner nodes are above the packed length
   pub blocks : EachFrom (SoundBlock (given T) (pageBytes T) (livePage T)) 0 F
   pub pages : (p : ℕ) → livePage T p ≡ true → SoundPage T p
+  pub entries : allCurrent (T .settings) ≡ true

@@ -17,7 +17,7 @@ use Rattle.layout.specs.declared.Opening.the-variants.{Shown, Refused}
 use Rattle.layout.specs.Settings.{settingsLength}
 use Rattle.layout.specs.Header.{openingOf, tablesFirst}
 use Rattle.layout.proofs.Openings.{shown-number, refused-number}
-use Rattle.rights.specs.Register.{withMember, withGrant, registered}
+use Rattle.rights.specs.Entries.{registered}
 use Rattle.promises.specs.Tables.{settingsAlone}
 use Rattle.promises.specs.Answers.{number, entered, shown56, longSettings, longFor}
 use Rattle.promises.specs.Calls.{RightsPromise}
@@ -34,30 +34,29 @@ module _ (ws : List ℕ) (t : Bool) where
   unfolding registerNumber
   register-refused n e = refused-number ws true (ask 7 t ∷ []) n e
 
--- ---- a change that asks whether a is below A and b below B, and leaves this table
-pub record Registers (c : Change) (ws : List ℕ) (a A b B : ℕ) (left : List ℕ) : Type 0 where
+-- ---- a change asks whether a is below A and b below B
+pub record Asks (c : Change) (ws : List ℕ) (a A b B : ℕ) : Type 0 where
   pub asks : number (settingsAlone ws) [] (change c) ≡ registerNumber ws (ltb a A && ltb b B)
-  pub leaves : registered c ws ≡ left
 
 module _ (ws : List ℕ) (a b : ℕ) where
-  pub joins : Registers (join a b) ws a 256 b 32 (withMember ws a b true)
-  unfolding number entered shown56 longSettings longFor asked registered registerNumber
-  joins = record { asks = refl; leaves = refl }
+  pub joins : Asks (join a b) ws a 256 b 32
+  unfolding number entered shown56 longSettings longFor asked registerNumber
+  joins = record { asks = refl }
 
-  pub leaves : Registers (leave a b) ws a 256 b 32 (withMember ws a b false)
-  unfolding number entered shown56 longSettings longFor asked registered registerNumber
-  leaves = record { asks = refl; leaves = refl }
+  pub leaves : Asks (leave a b) ws a 256 b 32
+  unfolding number entered shown56 longSettings longFor asked registerNumber
+  leaves = record { asks = refl }
 
-  pub grants : Registers (grant a b) ws a 32 b 64 (withGrant ws a b true)
-  unfolding number entered shown56 longSettings longFor asked registered registerNumber
-  grants = record { asks = refl; leaves = refl }
+  pub grants : Asks (grant a b) ws a 32 b 64
+  unfolding number entered shown56 longSettings longFor asked registerNumber
+  grants = record { asks = refl }
 
-  pub revokes : Registers (revoke a b) ws a 32 b 64 (withGrant ws a b false)
-  unfolding number entered shown56 longSettings longFor asked registered registerNumber
-  revokes = record { asks = refl; leaves = refl }
+  pub revokes : Asks (revoke a b) ws a 32 b 64
+  unfolding number entered shown56 longSettings longFor asked registerNumber
+  revokes = record { asks = refl }
 
 -- ---- the ways out, n the answer of `refusal`
-module _ {c : Change} {ws : List ℕ} {a A b B : ℕ} {left : List ℕ} (C : Registers c ws a A b B left) (n : ℕ)
+module _ {c : Change} {ws : List ℕ} {a A b B : ℕ} (C : Asks c ws a A b B) (n : ℕ)
     (answer : n ≡ registerNumber ws (ltb a A && ltb b B)) where
   pub refused : (n ≡ 0 → ⊥) → RightsPromise c ws n ws
   refused h =
@@ -73,7 +72,7 @@ module _ {c : Change} {ws : List ℕ} {a A b B : ℕ} {left : List ℕ} (C : Reg
         ltb-true b B (and-second (ltb a A) (ltb b B) (yes .1 .1 .0)),
       )
 
-  pub done : n ≡ 0 → (after : List ℕ) → after ≡ left → RightsPromise c ws 0 after
+  pub done : n ≡ 0 → (after : List ℕ) → after ≡ registered c ws → RightsPromise c ws 0 after
   done z after e =
       let same : number (settingsAlone ws) [] (change c) ≡ 0 = C .asks ∙ sym answer ∙ z in
-      record { answers = sym same; settings-left = rw (same, C .leaves) e }
+      record { answers = sym same; settings-left = rw same e }

@@ -1,4 +1,9 @@
 pub mod Any
 pub mod Register
-pub mod Pairs
 pub mod Open
+pub mod Renewed
+pub mod Kept
+pub mod Pairs
+pub mod Holders
+pub mod Words
+mod Example

@@ -1,4 +1,4 @@
--- The set of classes open to a reader holds exactly the classes that the register opens to him.
+-- Which classes are in the set that the records give a reader, and in that of his entry.
 use mathlib.Core.Path.{_≡_, refl, sym, _∙_}
 use mathlib.Core.Bool.{Bool, true, false, cond, _&&_, _||_, or-assoc, or-false}
 use mathlib.Core.Logic.{_≢_}
@@ -13,10 +13,11 @@ use Rattle.meaning.proofs.Lists.{any-upto}
 use Rattle.words.specs.Bits.{bit, withBit, rising, bitsOf, lowest, flag}
 use Rattle.words.proofs.Bits.{bit-zero, bit-or, bits-step, bits-of-zero}
 use Rattle.words.proofs.Flags.{flag-bit}
-use Rattle.layout.specs.Settings.{membersAt, grantsAt}
+use Rattle.layout.specs.Settings.{membersAt, grantsAt, entriesAt}
+use Rattle.layout.specs.Entries.{lowAt, highAt, lowOf, highOf}
 use Rattle.rights.specs.declared.Classes.{Classes}
-use Rattle.rights.specs.Register.{isMember, isGranted, opens}
-use Rattle.rights.specs.Open.{isOpen, withGroup, withGroups, openClasses}
+use Rattle.rights.specs.Register.{isMember, isGranted, recorded, opens}
+use Rattle.rights.specs.Open.{isOpen, withGroup, withGroups, openClasses, entryOf}
 use Rattle.rights.proofs.Any.{any-rising}
 
 -- ---- one group
@@ -69,18 +70,31 @@ none-open c = go (ltb c 64) (ltb c 32)
     go true false = bit-zero (c % 32)
     go false t = refl
 
-granted-open : (ws : List ℕ) (r c : ℕ) → c < 64 → isOpen (openClasses ws r) c ≡ any (λ g. isMember ws r g && isGranted ws g c) (upto 32)
-unfolding openClasses bitsOf isMember upto
-granted-open ws r c h =
+-- the set from the records holds exactly the classes that they open to the reader
+pub open-recorded : (ws : List ℕ) (r c : ℕ) → c < 64 → isOpen (openClasses ws r) c ≡ recorded ws r c
+unfolding openClasses bitsOf isMember recorded upto
+open-recorded ws r c h =
     open-with-groups ws (record { low = 0; high = 0 }) (rising (bit (getD ws (membersAt + r) 0)) 0 32) c h
     ∙ rw (none-open c) (any-rising (bit (getD ws (membersAt + r) 0)) (λ g. isGranted ws g c) 0 32)
     ∙ any-upto (λ g. bit (getD ws (membersAt + r) 0) g && isGranted ws g c) (λ g. isMember ws r g && isGranted ws g c) 32
     (λ g l. rw (flag-bit ws membersAt r g l))
 
-pub is-open-opens : (ws : List ℕ) (r c : ℕ) → isOpen (openClasses ws r) c ≡ opens ws r c
-unfolding opens isOpen
-is-open-opens ws r c = go (ltb c 64) refl
+-- that of the entry holds those that are open to him
+pub is-open-opens : (ws : List ℕ) (r c : ℕ) → isOpen (entryOf ws r) c ≡ opens ws r c
+unfolding isOpen entryOf lowOf highOf opens flag
+is-open-opens ws r c = go (ltb c 64) refl (ltb c 32) refl
   where
-    go : (t : Bool) → ltb c 64 ≡ t → isOpen (openClasses ws r) c ≡ t && any (λ g. isMember ws r g && isGranted ws g c) (upto 32)
-    go true e = granted-open ws r c (ltb-true c 64 e)
-    go false e = rw e
+    go : (s : Bool) → ltb c 64 ≡ s → (t : Bool) → ltb c 32 ≡ t → s && bit (cond t (getD ws (lowAt r) 0) (getD ws (highAt r) 0)) (c % 32)
+        ≡ s && bit (getD ws (entriesAt + (r * 64 + c) / 32) 0) ((r * 64 + c) % 32)
+    go false a t b = refl
+    go true a true b =
+        let l : c < 32 = ltb-true c 32 b in
+        let w : entriesAt + (r * 64 + c) / 32 ≡ lowAt r = omega arith in
+        let k : (r * 64 + c) % 32 ≡ c % 32 = omega arith in
+        rw (w, k)
+    go true a false b =
+        let m : c < 64 = ltb-true c 64 a in
+        let l : 32 ≤ c = ltb-false c 32 b in
+        let w : entriesAt + (r * 64 + c) / 32 ≡ highAt r = omega arith in
+        let k : (r * 64 + c) % 32 ≡ c % 32 = omega arith in
+        rw (w, k)

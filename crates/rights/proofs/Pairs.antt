@@ -1,22 +1,27 @@
--- The table and the ledger's register: a flag is set exactly where its pair stands, and every change keeps that.
+-- The table and the ledger's register: a flag of the records is set exactly where its pair stands, no entry is stale, and every change
+-- keeps that.
 use mathlib.Core.Path.{_≡_, refl, sym, ap, _∙_}
-use mathlib.Core.Bool.{Bool, true, false, cond, _&&_, _||_, not, true≢false}
+use mathlib.Core.Bool.{Bool, true, false, cond, _&&_, _||_, not, and-false, true≢false}
 use mathlib.Core.Logic.{_≢_}
 use mathlib.Core.List.{List, [], _∷_}
 use Prim.Native.Nat.{ℕ, _+_, _*_, _/_, _%_, _≤_, _<_}
 use native.Mathlib.Omega.{arith}
 use lib.Dec.{ltb, eqb}
 use lib.ListN.{length, getD, take}
-use borrow.Author.Tests.{eqb-true, lt-ltb, ltb-true}
-use Rattle.meaning.specs.Lists.{any, keep}
+use lib.Seq.{take-take, getD-drop}
+use borrow.Author.Tests.{eqb-true, ltb-true}
+use Rattle.meaning.specs.Lists.{any, keep, from, upto}
 use Rattle.meaning.specs.Rights.{Pair, pair, samePair, stands, write, strike, Register, noRights, openTo, Change, join, leave, grant, revoke, changeInRange, changed}
 use Rattle.meaning.proofs.Lists.{and-first, and-second, any-upto}
 use Rattle.words.specs.Bits.{flag, withFlag}
 use Rattle.words.proofs.Bits.{bit-zero}
-use Rattle.words.proofs.Flags.{flag-take, flag-with-apart}
-use Rattle.layout.specs.Settings.{settingsLength, membersAt, grantsAt, freeAt}
-use Rattle.rights.specs.Register.{isMember, isGranted, withMember, withGrant, registered, opens}
-use Rattle.rights.proofs.Register.{flag-put, member-length, member-header, member-free, grant-length, grant-header, grant-free}
+use Rattle.words.proofs.Flags.{flag-with-apart}
+use Rattle.layout.specs.Settings.{settingsLength, membersAt, grantsAt, entriesAt, freeAt}
+use Rattle.rights.specs.Register.{isMember, isGranted, withMember, withGrant, recorded, opens}
+use Rattle.rights.specs.Entries.{renewed, classRenewed, registered, allCurrent}
+use Rattle.rights.proofs.Register.{flag-same, flag-put, member-length, member-header, member-free, grant-length, grant-header, grant-free}
+use Rattle.rights.proofs.Renewed.{Renewed, entry-renewed, class-renewed}
+use Rattle.rights.proofs.Kept.{current-at, all-current, current-same, stays-current}
 
 -- ---- pairs
 
@@ -78,21 +83,38 @@ module _ (ws : List ℕ) (base rows w : ℕ) (ps : List Pair) (f : Flags ws base
   -- in another table with the same beginning
   pub flags-same : (m : ℕ) (ws′ : List ℕ) → take m ws′ ≡ take m ws → ((c d : ℕ) → c < rows → d < w → base + (c * w + d) / 32 < m)
       → Flags ws′ base rows w ps
-  flags-same m ws′ e h c d hc hd =
-      sym (flag-take m ws′ base (c * w + d) (h c d hc hd)) ∙ rw e (flag-take m ws base (c * w + d) (h c d hc hd)) ∙ f c d hc hd
+  flags-same m ws′ e h c d hc hd = flag-same m ws ws′ e base (c * w + d) (h c d hc hd) ∙ f c d hc hd
 
--- ---- the table holds a register
+-- ---- the table holds a register: the records show its pairs, and no entry is stale
 
 pub record Holds (ws : List ℕ) (R : Register) : Type 0 where
   pub members : Flags ws membersAt 256 32 (R .members)
   pub grants : Flags ws grantsAt 32 64 (R .grants)
+  pub entries : allCurrent ws ≡ true
 
-pub holds-none : (ws : List ℕ) → ((i : ℕ) → membersAt ≤ i → i < freeAt → getD ws i 0 ≡ 0) → Holds ws noRights
-unfolding flag stands any
-holds-none ws zeros = record {
-  members = λ a b ha hb. rw (zeros (membersAt + (a * 32 + b) / 32) (omega arith) (omega arith)) (bit-zero ((a * 32 + b) % 32));
-  grants = λ a b ha hb. rw (zeros (grantsAt + (a * 64 + b) / 32) (omega arith) (omega arith)) (bit-zero ((a * 64 + b) % 32));
-}
+-- no rights: the words of the register are 0
+module _ (ws : List ℕ) (zeros : (i : ℕ) → membersAt ≤ i → i < freeAt → getD ws i 0 ≡ 0) where
+  no-flag : (base n : ℕ) → membersAt ≤ base + n / 32 → base + n / 32 < freeAt → flag ws base n ≡ false
+  unfolding flag
+  no-flag base n a b = rw (zeros (base + n / 32) a b) (bit-zero (n % 32))
+
+  none-open : (r c : ℕ) → r < 256 → c < 64 → opens ws r c ≡ false
+  unfolding opens
+  none-open r c hr hc = rw (no-flag entriesAt (r * 64 + c) (omega arith) (omega arith)) (and-false (ltb c 64))
+
+  none-recorded : (r c : ℕ) → r < 256 → recorded ws r c ≡ false
+  unfolding recorded isMember upto from any
+  none-recorded r c hr =
+      any-upto (λ g. isMember ws r g && isGranted ws g c) (λ g. false) 32
+      (λ g l. rw (no-flag membersAt (r * 32 + g) (omega arith) (omega arith)))
+
+  pub holds-none : Holds ws noRights
+  unfolding stands any
+  holds-none = record {
+    members = λ a b ha hb. no-flag membersAt (a * 32 + b) (omega arith) (omega arith);
+    grants = λ a b ha hb. no-flag grantsAt (a * 64 + b) (omega arith) (omega arith);
+    entries = all-current ws (λ r c hr hc. none-open r c hr hc ∙ sym (none-recorded r c hr));
+  }
 
 -- a table with another register: all else that is read of the settings table is as it was
 pub record Changed (ws ws′ : List ℕ) (R : Register) : Type 0 where
@@ -100,6 +122,24 @@ pub record Changed (ws ws′ : List ℕ) (R : Register) : Type 0 where
   pub long : length ws′ ≡ length ws
   pub header : take membersAt ws′ ≡ take membersAt ws
   pub free : getD ws′ freeAt 0 ≡ getD ws freeAt 0
+
+-- entries written anew behind other records
+through : (ws W X : List ℕ) (R : Register) → Flags W membersAt 256 32 (R .members) → Flags W grantsAt 32 64 (R .grants) → length W ≡ length ws
+    → take membersAt W ≡ take membersAt ws → getD W freeAt 0 ≡ getD ws freeAt 0 → Renewed W X → allCurrent X ≡ true → Changed ws X R
+through ws W X R members grants long header free k current = record {
+  holds = record {
+    members = flags-same W membersAt 256 32 (R .members) members entriesAt X (k .front) (λ a b ha hb. omega arith);
+    grants = flags-same W grantsAt 32 64 (R .grants) grants entriesAt X (k .front) (λ a b ha hb. omega arith);
+    entries = current;
+  };
+  long = k .long ∙ long;
+  header =
+      sym (take-take membersAt entriesAt X (omega arith))
+      ∙ ap (λ (l : List ℕ). take membersAt l) (k .front)
+      ∙ take-take membersAt entriesAt W (omega arith)
+      ∙ header;
+  free = sym (getD-drop freeAt X 0 0) ∙ ap (λ (l : List ℕ). getD l 0 0) (k .rest) ∙ getD-drop freeAt W 0 0 ∙ free;
+}
 
 module _ (ws : List ℕ) (R : Register) (h : Holds ws R) where
   pub member-stands : (r g : ℕ) → r < 256 → g < 32 → isMember ws r g ≡ stands (pair r g) (R .members)
@@ -110,56 +150,54 @@ module _ (ws : List ℕ) (R : Register) (h : Holds ws R) where
   unfolding isGranted
   grant-stands g c hg hc = h .grants g c hg hc
 
+  holds-recorded : (r c : ℕ) → r < 256 → c < 64 → recorded ws r c ≡ openTo R r c
+  unfolding recorded openTo
+  holds-recorded r c hr hc =
+      any-upto (λ g. isMember ws r g && isGranted ws g c) (λ g. stands (pair r g) (R .members) && stands (pair g c) (R .grants)) 32
+      (λ g l. rw (member-stands r g hr l, grant-stands g c l hc))
+
   pub holds-opens : (r c : ℕ) → r < 256 → c < 64 → opens ws r c ≡ openTo R r c
-  unfolding opens openTo
-  holds-opens r c hr hc =
-      rw (lt-ltb c 64 hc)
-      (any-upto (λ g. isMember ws r g && isGranted ws g c) (λ g. stands (pair r g) (R .members) && stands (pair g c) (R .grants)) 32
-      (λ g l. rw (member-stands r g hr l, grant-stands g c l hc)))
+  holds-opens r c hr hc = current-at ws (h .entries) r c hr hc ∙ holds-recorded r c hr hc
 
   -- the words from the free link on are no part of it
   pub holds-same : (ws′ : List ℕ) → take freeAt ws′ ≡ take freeAt ws → Holds ws′ R
   holds-same ws′ e = record {
     members = flags-same ws membersAt 256 32 (R .members) (h .members) freeAt ws′ e (λ a b ha hb. omega arith);
     grants = flags-same ws grantsAt 32 64 (R .grants) (h .grants) freeAt ws′ e (λ a b ha hb. omega arith);
+    entries = current-same ws ws′ e (h .entries);
   }
 
   module _ (l : settingsLength ≤ length ws) where
     -- a membership or a grant is written or struck
     with-member : (M : List Pair) (r g : ℕ) (v : Bool) → ((p : Pair) → stands p M ≡ cond (samePair p (pair r g)) v (stands p (R .members)))
-        → ltb r 256 && ltb g 32 ≡ true → Changed ws (withMember ws r g v) (record { members = M; grants = R .grants })
+        → ltb r 256 && ltb g 32 ≡ true → allCurrent (renewed (withMember ws r g v) r) ≡ true
+        → Changed ws (renewed (withMember ws r g v) r) (record { members = M; grants = R .grants })
     with-member M r g v e i =
         let hr = ltb-true r 256 (and-first (ltb r 256) (ltb g 32) i) in
         let hg = ltb-true g 32 (and-second (ltb r 256) (ltb g 32) i) in
-        record {
-          holds = record {
-            members = flags-put ws membersAt 256 32 (R .members) (h .members) M r g v hg (omega arith) e;
-            grants = flags-keep ws grantsAt 32 64 (R .grants) (h .grants) membersAt (r * 32 + g) v (λ a b ha hb q. omega arith);
-          };
-          long = member-length ws r g v;
-          header = member-header ws r g v;
-          free = member-free ws r g v hr hg;
-        }
+        through ws (withMember ws r g v) (renewed (withMember ws r g v) r) (record { members = M; grants = R .grants })
+        (flags-put ws membersAt 256 32 (R .members) (h .members) M r g v hg (omega arith) e)
+        (flags-keep ws grantsAt 32 64 (R .grants) (h .grants) membersAt (r * 32 + g) v (λ a b ha hb q. omega arith))
+        (member-length ws r g v) (member-header ws r g v) (member-free ws r g v hr hg) (entry-renewed (withMember ws r g v) r hr)
 
     with-grant : (G : List Pair) (g c : ℕ) (v : Bool) → ((p : Pair) → stands p G ≡ cond (samePair p (pair g c)) v (stands p (R .grants)))
-        → ltb g 32 && ltb c 64 ≡ true → Changed ws (withGrant ws g c v) (record { members = R .members; grants = G })
+        → ltb g 32 && ltb c 64 ≡ true → allCurrent (classRenewed (withGrant ws g c v) g c 256) ≡ true
+        → Changed ws (classRenewed (withGrant ws g c v) g c 256) (record { members = R .members; grants = G })
     with-grant G g c v e i =
         let hg = ltb-true g 32 (and-first (ltb g 32) (ltb c 64) i) in
         let hc = ltb-true c 64 (and-second (ltb g 32) (ltb c 64) i) in
-        record {
-          holds = record {
-            members = flags-keep ws membersAt 256 32 (R .members) (h .members) grantsAt (g * 64 + c) v (λ a b ha hb q. omega arith);
-            grants = flags-put ws grantsAt 32 64 (R .grants) (h .grants) G g c v hc (omega arith) e;
-          };
-          long = grant-length ws g c v;
-          header = grant-header ws g c v;
-          free = grant-free ws g c v hg hc;
-        }
+        through ws (withGrant ws g c v) (classRenewed (withGrant ws g c v) g c 256) (record { members = R .members; grants = G })
+        (flags-keep ws membersAt 256 32 (R .members) (h .members) grantsAt (g * 64 + c) v (λ a b ha hb q. omega arith))
+        (flags-put ws grantsAt 32 64 (R .grants) (h .grants) G g c v hc (omega arith) e)
+        (grant-length ws g c v) (grant-header ws g c v) (grant-free ws g c v hg hc) (class-renewed (withGrant ws g c v) g c hc 256 (omega arith))
+
+    written : (c : Change) → changeInRange c ≡ true → allCurrent (registered c ws) ≡ true → Changed ws (registered c ws) (changed c R)
+    unfolding registered changed
+    written (join r g) = with-member _ r g true (stands-write (pair r g) (R .members))
+    written (leave r g) = with-member _ r g false (stands-strike (pair r g) (R .members))
+    written (grant g c) = with-grant _ g c true (stands-write (pair g c) (R .grants))
+    written (revoke g c) = with-grant _ g c false (stands-strike (pair g c) (R .grants))
 
     -- a change whose numbers are in range
     pub made : (c : Change) → changeInRange c ≡ true → Changed ws (registered c ws) (changed c R)
-    unfolding registered changed
-    made (join r g) = with-member _ r g true (stands-write (pair r g) (R .members))
-    made (leave r g) = with-member _ r g false (stands-strike (pair r g) (R .members))
-    made (grant g c) = with-grant _ g c true (stands-write (pair g c) (R .grants))
-    made (revoke g c) = with-grant _ g c false (stands-strike (pair g c) (R .grants))
+    made c i = written c i (stays-current ws l (h .entries) c i)

@@ -10,9 +10,14 @@ use lib.ListN.{length, getD, take}
 use borrow.Author.Tests.{le-ltb, eqb-true, eqb-false, eq-eqb, ne-eqb}
 use Rattle.meaning.specs.Rights.{pair, samePair}
 use Rattle.words.specs.Bits.{flag, withFlag}
-use Rattle.words.proofs.Flags.{length-with, word-with-other, flag-with, take-with, with-flag-again}
+use Rattle.words.proofs.Flags.{flag-take, length-with, word-with-other, flag-with, take-with, with-flag-again}
 use Rattle.layout.specs.Settings.{membersAt, grantsAt, freeAt}
 use Rattle.rights.specs.Register.{withMember, withGrant, opens}
+
+-- ---- a flag in another table with the same beginning
+
+pub flag-same : (m : ℕ) (ws ws′ : List ℕ) → take m ws′ ≡ take m ws → (base n : ℕ) → base + n / 32 < m → flag ws′ base n ≡ flag ws base n
+flag-same m ws ws′ e base n h = sym (flag-take m ws′ base n h) ∙ ap (λ (l : List ℕ). flag l base n) e ∙ flag-take m ws base n h
 
 -- ---- a flag by its row and its place in the row, w places a row
 

@@ -1,2 +1,4 @@
 pub mod Register
 pub mod Open
+pub mod Entries
+pub mod Holders

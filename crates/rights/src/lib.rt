@@ -1,50 +1,24 @@
-// Memberships and grants in the settings table, and the classes that they open to a reader.
-// The laws of the definitions that the contracts cite are in proofs/Register.antt, proofs/Pairs.antt and proofs/Open.antt.
+// The rights register in the settings table. Memberships and grants are its records; beside them stands for each reader an entry, the
+// set of the classes that they open to him. Every change of a record writes the entries that hang on it.
+// The laws of the definitions that the contracts cite are in proofs/.
 ghost use mathlib.Core.Path.{_≡_};
-ghost use mathlib.Core.Bool.{true, false};
 ghost use Prim.Native.Nat.{_≤_, _<_};
 ghost use lib.ListN.{length};
+ghost use Rattle.meaning.specs.Rights.{join, leave, grant, revoke};
 ghost use Rattle.layout.specs.Settings.{settingsLength};
-ghost use Rattle.rights.specs.Register.{withMember, withGrant, opens};
-ghost use Rattle.rights.specs.Open.{openClasses, isOpen};
+ghost use Rattle.rights.specs.Register.{opens};
+ghost use Rattle.rights.specs.Open.{entryOf, isOpen};
+ghost use Rattle.rights.specs.Entries.{registered};
+pub mod current;
+mod entries;
+mod records;
 
-// Where the memberships begin.
+// Where the memberships, the grants and the entries begin.
 const MEMBERS: usize = 70;
 
-// Where the grants begin.
 const GRANTS: usize = 326;
 
-// Makes the reader a member of the group.
-pub fn join(ws: &mut [u32], reader: usize, group: usize)
-    requires { ⌜ (settingsLength ≤ length (now ws)) × (reader < 256) × (group < 32) ⌝ }
-    ensures { λ r. ⌜ now (ws .exit) ≡ withMember (now (ws .entry)) reader group true ⌝ }
-{
-    words::set(ws, MEMBERS, reader * 32 + group)
-}
-
-// The reader is no member of the group any more.
-pub fn leave(ws: &mut [u32], reader: usize, group: usize)
-    requires { ⌜ (settingsLength ≤ length (now ws)) × (reader < 256) × (group < 32) ⌝ }
-    ensures { λ r. ⌜ now (ws .exit) ≡ withMember (now (ws .entry)) reader group false ⌝ }
-{
-    words::clear(ws, MEMBERS, reader * 32 + group)
-}
-
-// Grants the class to the group.
-pub fn grant(ws: &mut [u32], group: usize, class: usize)
-    requires { ⌜ (settingsLength ≤ length (now ws)) × (group < 32) × (class < 64) ⌝ }
-    ensures { λ r. ⌜ now (ws .exit) ≡ withGrant (now (ws .entry)) group class true ⌝ }
-{
-    words::set(ws, GRANTS, group * 64 + class)
-}
-
-// Takes the class from the group.
-pub fn revoke(ws: &mut [u32], group: usize, class: usize)
-    requires { ⌜ (settingsLength ≤ length (now ws)) × (group < 32) × (class < 64) ⌝ }
-    ensures { λ r. ⌜ now (ws .exit) ≡ withGrant (now (ws .entry)) group class false ⌝ }
-{
-    words::clear(ws, GRANTS, group * 64 + class)
-}
+const ENTRIES: usize = 390;
 
 // A set of classes: 0 to 31 in the low word, 32 to 63 in the high.
 pub struct Classes {
@@ -52,23 +26,51 @@ pub struct Classes {
     pub high: u32,
 }
 
-// The classes open to the reader: those granted to the groups that have him as a member.
-pub fn open_classes(ws: &[u32], reader: usize) -> Classes
-    requires { ⌜ (settingsLength ≤ length (now ws)) × (reader < 256) ⌝ }
-    ensures { λ r. ⌜ r ≡ openClasses (now (ws .entry)) reader ⌝ }
+// Makes the reader a member of the group.
+pub fn join(ws: &mut [u32], reader: usize, group: usize)
+    requires { ⌜ (settingsLength ≤ length (now ws)) × (reader < 256) × (group < 32) ⌝ }
+    ensures { λ r. ⌜ now (ws .exit) ≡ registered (join reader group) (now (ws .entry)) ⌝ }
 {
-    let mut groups = ws[MEMBERS + reader];
-    let mut low: u32 = 0;
-    let mut high: u32 = 0;
-    while groups != 0 {
-        let at = GRANTS + 2 * (words::lowest_bit(groups) as usize);
-        low = low | ws[at];
-        high = high | ws[at + 1];
-        groups = words::without_lowest(groups);
-    }
+    words::set(ws, MEMBERS, reader * 32 + group);
+    entries::renew(ws, reader);
+}
+
+// The reader is no member of the group any more.
+pub fn leave(ws: &mut [u32], reader: usize, group: usize)
+    requires { ⌜ (settingsLength ≤ length (now ws)) × (reader < 256) × (group < 32) ⌝ }
+    ensures { λ r. ⌜ now (ws .exit) ≡ registered (leave reader group) (now (ws .entry)) ⌝ }
+{
+    words::clear(ws, MEMBERS, reader * 32 + group);
+    entries::renew(ws, reader);
+}
+
+// Grants the class to the group.
+pub fn grant(ws: &mut [u32], group: usize, class: usize)
+    requires { ⌜ (settingsLength ≤ length (now ws)) × (group < 32) × (class < 64) ⌝ }
+    ensures { λ r. ⌜ now (ws .exit) ≡ registered (grant group class) (now (ws .entry)) ⌝ }
+{
+    words::set(ws, GRANTS, group * 64 + class);
+    entries::renew_class(ws, group, class);
+}
+
+// Takes the class from the group.
+pub fn revoke(ws: &mut [u32], group: usize, class: usize)
+    requires { ⌜ (settingsLength ≤ length (now ws)) × (group < 32) × (class < 64) ⌝ }
+    ensures { λ r. ⌜ now (ws .exit) ≡ registered (revoke group class) (now (ws .entry)) ⌝ }
+{
+    words::clear(ws, GRANTS, group * 64 + class);
+    entries::renew_class(ws, group, class);
+}
+
+// The classes open to the reader: his entry.
+pub fn entry(ws: &[u32], reader: usize) -> Classes
+    requires { ⌜ (settingsLength ≤ length (now ws)) × (reader < 256) ⌝ }
+    ensures { λ r. ⌜ r ≡ entryOf (now (ws .entry)) reader ⌝ }
+{
+    let at = ENTRIES + 2 * reader;
     Classes {
-        low: low,
-        high: high,
+        low: ws[at],
+        high: ws[at + 1],
     }
 }
 
@@ -88,5 +90,5 @@ pub fn is_open_to(ws: &[u32], reader: usize, class: u32) -> bool
     requires { ⌜ (settingsLength ≤ length (now ws)) × (reader < 256) ⌝ }
     ensures { λ r. ⌜ r ≡ opens (now (ws .entry)) reader class ⌝ }
 {
-    is_open(open_classes(ws, reader), class)
+    is_open(entry(ws, reader), class)
 }

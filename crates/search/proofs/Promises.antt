@@ -26,7 +26,7 @@ use Rattle.layout.specs.Lengths.{workingLength}
 use Rattle.layout.specs.Working.{mapWords, summaryWords}
 use Rattle.layout.proofs.Sizes.{same-lengths}
 use Rattle.rights.specs.declared.Classes.{Classes}
-use Rattle.rights.specs.Open.{openClasses}
+use Rattle.rights.specs.Open.{entryOf}
 use Rattle.promises.specs.Tables.{Tables, given, pageRow, pageDistance, byTables, scan}
 use Rattle.promises.specs.Answers.{number, entered, shown56, longSettings, longNodes, longPages, longWorking, longFor}
 use Rattle.promises.specs.Sound.{Sound}
@@ -160,7 +160,7 @@ module _ (T : Tables) (reader radius : ℕ) (x : List ℕ) (before : Output) whe
           )
 
       -- past 11
-      module _ (q : firstNo (queryAsked h reader radius x) ≡ 0) (k : Classes) (c : k ≡ openClasses (T .settings) reader) (p : Probe) (r : p ≡ probeOf h k x radius) where
+      module _ (q : firstNo (queryAsked h reader radius x) ≡ 0) (k : Classes) (c : k ≡ entryOf (T .settings) reader) (p : Probe) (r : p ≡ probeOf h k x radius) where
         fit : Fitting (testOf T reader radius x)
         fit = rw (in-order .header)
             record { limits = in-order .limits; pages = in-order .pages-long; sketches = in-order .sketches-long; query = query-passed h reader radius x q .1 .count }

@@ -100,7 +100,7 @@ pub fn search(
             count: 0,
         };
     }
-    let classes = rights::open_classes(settings, reader as usize);
+    let classes = rights::entry(settings, reader as usize);
     let probe = hits::probe_of(h, classes, sketch, radius);
     let scope = Scope { probe, words };
     find(

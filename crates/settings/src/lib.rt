@@ -11,10 +11,10 @@ ghost use Rattle.layout.specs.Header.{headerOf, withThresholds, openingOf};
 use layout::Header;
 use layout::Opening;
 
-const MARK: u32 = 0x56440002;
+const MARK: u32 = 0x56440003;
 
 // How many words the table needs.
-pub const LENGTH: usize = 391;
+pub const LENGTH: usize = 903;
 
 // Where the thresholds, the memberships and the grants begin, and the free link.
 const THRESHOLDS: usize = 6;
@@ -23,10 +23,10 @@ pub const MEMBERS: usize = 70;
 
 pub const GRANTS: usize = 326;
 
-// The words of the register: a word for each of 256 readers, two for each of 32 groups.
-pub const REGISTER: usize = 320;
+// The words of the register: a word for each of 256 readers, two for each of 32 groups, and two more for each reader.
+pub const REGISTER: usize = 832;
 
-const FREE: usize = 390;
+const FREE: usize = 902;
 
 // Question 4 of an opening that is lent so many thresholds, each of 16 bits.
 pub fn limits(b: u32, m: u32, q: u32, pages: u32, nodes: u32, thresholds: usize) -> bool

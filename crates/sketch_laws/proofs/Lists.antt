@@ -1,15 +1,15 @@
--- Laws of the list functions of crate meaning: all, any, count, upto, sum.
+-- Laws of the list functions of crate meaning: any, count, upto, sum.
 use Prim.Native.Nat.{ℕ, zero, suc, _+_, _≤_, _<_}
 use native.Mathlib.Omega.{arith}
 use native.Mathlib.Decide.{le-ind}
 use native.Mathlib.Nat.{le-refl}
 use mathlib.Core.Path.{_≡_, refl, sym, ap, ap₂, _∙_}
 use mathlib.Core.Logic.{_⊎_, inl, inr, ⊎-elim}
-use mathlib.Core.Bool.{Bool, true, false, cond, _&&_, _||_, and-true, false≢true}
+use mathlib.Core.Bool.{Bool, true, false, cond, _||_, false≢true}
 use mathlib.Core.List.{List, [], _∷_, _++_, map, map-append}
 use lib.Dec.{eqb}
-use Rattle.meaning.specs.Lists.{all, any, count, from, upto, sum}
-use Rattle.meaning.proofs.Lists.{and-intro, or-first, or-second, not-so, all-append, any-append, count-append, upto-suc, upto-all, sum-append}
+use Rattle.meaning.specs.Lists.{any, count, from, upto, sum}
+use Rattle.meaning.proofs.Lists.{or-first, or-second, any-append, count-append, upto-suc, sum-append}
 
 pub or-cases : (s t : Bool) → s || t ≡ true → (s ≡ true) ⊎ (t ≡ true)
 or-cases true t h = inl refl
@@ -39,22 +39,9 @@ module _ (p : ℕ) where
 
 -- ---- tests of 0, 1, .., n - 1
 module _ (p : ℕ → Bool) where
-  pub all-suc : (n : ℕ) → all p (upto (suc n)) ≡ all p (upto n) && p n
-  unfolding all
-  all-suc n =
-      ap (all p) (upto-suc n) ∙ all-append p (upto n) (n ∷ []) ∙ ap (λ (t : Bool). all p (upto n) && t) (and-true (p n))
-
   pub count-suc : (n : ℕ) → count p (upto (suc n)) ≡ count p (upto n) + cond (p n) 1 0
   unfolding count
   count-suc n = ap (count p) (upto-suc n) ∙ count-append p (upto n) (n ∷ []) ∙ omega arith
-
-  pub all-upto : (n : ℕ) → ((i : ℕ) → i < n → p i ≡ true) → all p (upto n) ≡ true
-  unfolding all upto from
-  all-upto zero h = refl
-  all-upto (suc n) h = all-suc n ∙ and-intro (all p (upto n)) (p n) (all-upto n (λ i l. h i (omega arith))) (h n (omega arith))
-
-  pub upto-not : (n i : ℕ) → i < n → p i ≡ false → all p (upto n) ≡ false
-  upto-not n i h e = not-so (all p (upto n)) (λ a. false≢true (sym e ∙ upto-all p n a i h))
 
   pub count-upto-le : (i n : ℕ) → i ≤ n → count p (upto i) ≤ count p (upto n)
   count-upto-le i n h = le-ind (λ (m : ℕ). count p (upto i) ≤ count p (upto m)) (le-refl (count p (upto i))) (λ m l r. omega (arith, count-suc m)) n h

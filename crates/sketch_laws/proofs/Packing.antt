@@ -17,8 +17,7 @@ use borrow.Author.Tests.{ltb-true, lt-ltb}
 use Rattle.meaning.specs.Lists.{all, from, upto}
 use Rattle.meaning.specs.Sketch.{inRange, perByte, packedLength, packByte, packBytes, pack, group, symbolsAt, packable, allPackable, unpack}
 use Rattle.sketch_laws.specs.Packed.{symbolsOf}
-use Rattle.meaning.proofs.Lists.{not-so, and-intro, and-first, and-second, length-upto, upto-suc, upto-at, upto-all}
-use Rattle.sketch_laws.proofs.Lists.{all-upto}
+use Rattle.meaning.proofs.Lists.{not-so, and-intro, and-first, and-second, length-upto, upto-suc, upto-at, upto-all, all-upto}
 
 -- ---- symbols in range
 module _ (b : ℕ) where

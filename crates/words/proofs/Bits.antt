@@ -3,12 +3,12 @@ use mathlib.Core.Path.{_≡_, refl, sym, ap, ap₂, _∙_}
 use mathlib.Core.Bool.{Bool, true, false, cond, _||_, _&&_}
 use mathlib.Core.Logic.{_≢_}
 use mathlib.Core.List.{List, [], _∷_}
-use Prim.Native.Nat.{ℕ, zero, suc, _+_, _-_, _*_, _/_, _%_, _^_, _≤_, _<_, max, suc-le-suc}
+use Prim.Native.Nat.{ℕ, zero, suc, _+_, _-_, _*_, _/_, _%_, _^_, _≤_, _<_, min, max, suc-le-suc}
 use native.Mathlib.Nat.{pow-suc, div-one, le-div-iff-mul-le, zero-div}
 use native.Mathlib.Omega.{arith}
 use lib.Dec.{ltb, eqb, eqb·zero-suc, eqb·suc-zero, eqb·suc-suc}
 use lib.Pow.{pow-pos, pow-mono, pow-add, shr-shr}
-use lib.Bits.{bitAnd, bitOr, and-high, or-step, or-shr, or-add-and, or-lt, or-comm, and-le-r}
+use lib.Bits.{bitAnd, bitOr, and-step, and-shr, and-high, or-step, or-shr, or-add-and, or-lt, or-comm, and-le-r}
 use lib.ListN.{length, getD}
 use borrow.Author.Tests.{ltb-true, ltb-false, eqb-true, eqb-false, lt-ltb, le-ltb, eq-eqb, ne-eqb}
 use Rattle.words.specs.Bits.{bit, withBit, rising, bitsOf, lowest, ones}
@@ -61,6 +61,15 @@ pub bit-or : (a b k : ℕ) → bit (bitOr a b) k ≡ (bit a k || bit b k)
 bit-or a b k = bit-by max (_||_) acts (bitOr a b) a b k (omega (arith, or-shr a b k, or-step (a / 2 ^ k) (b / 2 ^ k)))
   where
     acts : (s t : Bool) → max (cond s 1 0) (cond t 1 0) ≡ cond (s || t) 1 0
+    acts true true = refl
+    acts true false = refl
+    acts false true = refl
+    acts false false = refl
+
+pub bit-and : (a b k : ℕ) → bit (bitAnd a b) k ≡ (bit a k && bit b k)
+bit-and a b k = bit-by min (_&&_) acts (bitAnd a b) a b k (omega (arith, and-shr a b k, and-step (a / 2 ^ k) (b / 2 ^ k)))
+  where
+    acts : (s t : Bool) → min (cond s 1 0) (cond t 1 0) ≡ cond (s && t) 1 0
     acts true true = refl
     acts true false = refl
     acts false true = refl

@@ -76,12 +76,15 @@ test-store-requires c κs =
 map-kept : (t : tie.After-test-store) → length (t .test-store .last .1 .1 .1 .0) ≡ t .before .before .map-words .result
 map-kept t = t .test-store .kept .1 .1 .1 .0 ∙ map-long (t .before .before)
 
+all-current-requires : tie.Need-all-current-requires
+all-current-requires c κs = known (c .before .before .before .before .before .before) .settings
+
 working-length-requires : tie.Need-working-length-requires
-working-length-requires c κs = header-limits _ _ (known (c .before .before .before .before .before .before))
+working-length-requires c κs = header-limits _ _ (known (c .before .before .before .before .before .before .before))
 
 zero-run-requires : tie.Need-zero-run-requires
 zero-run-requires c κs =
-    let t = c .before .before .before .before in
+    let t = c .before .before .before .before .before in
     let m = t .before .before in
     let k = m .before .before in
     let words = m .map-words .result in
@@ -103,10 +106,10 @@ returns-2 : tie.Need-returns-2
 returns-2 c =
     let z = c .before .before in
     let n = z .before .before in
-    let t = n .before .before .before in
+    let t = n .before .before .before .before in
     let m = t .before .before in (
       check-done _ _ (shows (m .before .before)) _ (m .map-words .ensures) _ (m .before .free-link .ensures) _ _ (t .test-store .ensures)
-          (map-kept t) _ (n .working-length .ensures) _ (z .zero-run .ensures),
+          _ (n .before .all-current .ensures) (map-kept t) _ (n .working-length .ensures) _ (z .zero-run .ensures),
       refl,
     )
 
@@ -124,6 +127,7 @@ check-spec =
     slice-relend-prefix-test-store
     slice-aggregate-test-store
     test-store-requires
+    all-current-requires
     working-length-requires
     zero-run-requires
     same-length-2

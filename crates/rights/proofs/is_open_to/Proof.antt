@@ -1,12 +1,12 @@
--- `rights::is_open_to` meets its contract, by the law of the open classes.
+-- `rights::is_open_to` meets its contract, by the law of the entry.
 use mathlib.Core.Path.{_∙_}
 use borrow.Author.Needs.{needs}
 use Rattle.rights.proofs.Open.{is-open-opens}
 use Rattle.rights.proofs.is_open_to.Statement.{statement}
 use Rattle.rights.proofs.is_open_to.Tie as tie
 
-open-classes-requires : tie.Need-open-classes-requires
-open-classes-requires c κs = search needs
+entry-requires : tie.Need-entry-requires
+entry-requires c κs = search needs
 
 is-open-requires : tie.Need-is-open-requires
 is-open-requires c κs = search needs
@@ -14,7 +14,7 @@ is-open-requires c κs = search needs
 returns : tie.Need-returns
 returns c =
     let args = c .before .before .before .args in
-    c .is-open .ensures ∙ rw (c .before .open-classes .ensures) (is-open-opens (args .ws .now) (args .reader) (args .class))
+    c .is-open .ensures ∙ rw (c .before .entry .ensures) (is-open-opens (args .ws .now) (args .reader) (args .class))
 
 pub is-open-to-spec : {M : Type 1} → statement M
-is-open-to-spec = tie.close (tie.spec open-classes-requires is-open-requires returns)
+is-open-to-spec = tie.close (tie.spec entry-requires is-open-requires returns)

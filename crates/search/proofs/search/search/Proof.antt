@@ -84,8 +84,8 @@ none e = sym (e .before .query-number .ensures) ∙ e .if1 .left
 passed : (e : tie.Else1) → (start (known e) .args .reader < 256) × Fits (header (known e)) (start (known e) .args .sketch .now)
 passed e = query-passed _ _ _ _ (none e)
 
-open-classes-requires : tie.Need-open-classes-requires
-open-classes-requires c κs = (opened (known c) .settings-long, omega (arith, passed c .0))
+entry-requires : tie.Need-entry-requires
+entry-requires c κs = (opened (known c) .settings-long, omega (arith, passed c .0))
 
 probe-of-requires : tie.Need-probe-of-requires
 probe-of-requires c κs = (opened (known (c .before)) .limits, passed (c .before) .1)
@@ -113,7 +113,7 @@ returns-3 c =
     let f = c .before .before .before .before .before .before in
     let p = f .before .before .before .before in
     let e = p .before .before in
-    promise-found _ _ _ _ _ _ (shows (known e)) _ (marks e .before .before .map-words .ensures) _ (marks e .clear-marks .ensures) (none e) _ (p .before .open-classes .ensures) _ (p .probe-of .ensures)
+    promise-found _ _ _ _ _ _ (shows (known e)) _ (marks e .before .before .map-words .ensures) _ (marks e .clear-marks .ensures) (none e) _ (p .before .entry .ensures) _ (p .probe-of .ensures)
     _ _ _ _ (f .find .ensures .0) (f .find .ensures .1)
 
 pub search-spec : {M : Type 1} → statement M
@@ -130,7 +130,7 @@ search-spec =
     query-number-requires
     same-length-2
     returns-2
-    open-classes-requires
+    entry-requires
     probe-of-requires
     find-requires
     same-length-3

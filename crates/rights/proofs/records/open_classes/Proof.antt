@@ -9,8 +9,8 @@ use Rattle.words.proofs.Bits.{lowest-lt, cut-lt}
 use Rattle.layout.specs.Settings.{membersAt}
 use Rattle.rights.specs.Open.{withGroup, withGroups, openClasses}
 use Rattle.rights.proofs.Open.{groups-none, groups-step}
-use Rattle.rights.proofs.open_classes.Statement.{statement}
-use Rattle.rights.proofs.open_classes.Tie as tie
+use Rattle.rights.proofs.records.open_classes.Statement.{statement}
+use Rattle.rights.proofs.records.open_classes.Tie as tie
 
 abbrev Inv-loop : tie.InvT-loop
 Inv-loop ws reader groups₀ low₀ high₀ groups low high =

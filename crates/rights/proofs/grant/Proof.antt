@@ -1,0 +1,31 @@
+-- `rights::grant` meets its contract: a record is written, and the class in the members' entries written anew.
+use mathlib.Core.Path.{_∙_}
+use borrow.Author.Needs.{needs}
+use Rattle.rights.specs.Entries.{registered}
+use Rattle.rights.proofs.grant.Statement.{statement}
+use Rattle.rights.proofs.grant.Tie as tie
+
+mul-set : tie.Need-mul-set
+mul-set c = search needs
+
+add-set : tie.Need-add-set
+add-set c = search needs
+
+set-requires : tie.Need-set-requires
+set-requires c κs = search needs
+
+renew-class-requires : tie.Need-renew-class-requires
+renew-class-requires c κs = search needs
+
+same-length : tie.Need-same-length
+same-length c = search needs
+
+returns : tie.Need-returns
+unfolding registered
+returns c =
+    let call = c .before .before in
+    call .renew-class .ensures ∙ rw (call .before .before .before .before .set .ensures)
+
+pub grant-spec : {M : Type 1} → statement M
+grant-spec =
+    tie.close (tie.spec mul-set add-set set-requires renew-class-requires same-length returns)

@@ -1,0 +1,31 @@
+-- `rights::leave` meets its contract: a record is struck, and the reader's entry written anew.
+use mathlib.Core.Path.{_∙_}
+use borrow.Author.Needs.{needs}
+use Rattle.rights.specs.Entries.{registered}
+use Rattle.rights.proofs.leave.Statement.{statement}
+use Rattle.rights.proofs.leave.Tie as tie
+
+mul-clear : tie.Need-mul-clear
+mul-clear c = search needs
+
+add-clear : tie.Need-add-clear
+add-clear c = search needs
+
+clear-requires : tie.Need-clear-requires
+clear-requires c κs = search needs
+
+renew-requires : tie.Need-renew-requires
+renew-requires c κs = search needs
+
+same-length : tie.Need-same-length
+same-length c = search needs
+
+returns : tie.Need-returns
+unfolding registered
+returns c =
+    let call = c .before .before in
+    call .renew .ensures ∙ rw (call .before .before .before .before .clear .ensures)
+
+pub leave-spec : {M : Type 1} → statement M
+leave-spec =
+    tie.close (tie.spec mul-clear add-clear clear-requires renew-requires same-length returns)
