@@ -3,6 +3,7 @@
 //!
 //!     bench_rights          all, beside plain Rust
 //!     bench_rights own      the library's times alone: what was called, then nanoseconds
+//!     bench_rights count groups searches      so many searches by a reader in so many groups, for an instruction count
 use std::hint::black_box;
 use std::time::Instant;
 use vetchdawn_tests::baselines::cases::empty;
@@ -15,7 +16,7 @@ const SEARCH_ROUNDS: usize = 41;
 const CALL_ROUNDS: usize = 501;
 const CHECK_ROUNDS: usize = 201;
 /// Pages, nodes and radius.
-const SEARCHES: [(usize, u32, u32); 5] = [(100, 1_000, 0), (1_000, 4_000, 0), (1_000, 4_000, 4), (65_535, 262_144, 0), (65_535, 262_144, 4)];
+const SEARCHES: [(usize, u32, u32); 4] = [(100, 1_000, 0), (1_000, 4_000, 0), (1_000, 4_000, 4), (65_535, 262_144, 4)];
 /// The group that is joined and left, and granted classes.
 const GROUP: u32 = 17;
 const JOIN: u64 = 0;
@@ -60,9 +61,13 @@ fn trie(c: &Case, pages: &Pages) -> Pointers {
     trie
 }
 
+fn case(n: usize, r: u32) -> Case {
+    Case { n, b: 4, m: 32, r, q: 4, threshold: 32, kind: Kind::Clustered, open: OPEN }
+}
+
 /// The same classes by one group and by 32, and the trie, which is given the set of them.
 fn searches(print: &Print, n: usize, nodes: u32, r: u32) {
-    let c = Case { n, b: 4, m: 32, r, q: 4, threshold: 32, kind: Kind::Clustered, open: OPEN };
+    let c = case(n, r);
     let (pages, queries) = c.pages();
     let mut trie = trie(&c, &pages);
     let mut libraries = [1, 32].map(|groups| Library::in_groups(&c, &pages, nodes, groups));
@@ -176,8 +181,7 @@ fn grants(print: &Print) {
 
 /// A store of 1,000 pages and 4,000 nodes, all readers in so many groups; beside it the plain test of the entries alone.
 fn checks(print: &Print) {
-    let c = Case { n: 1_000, b: 4, m: 32, r: 0, q: 4, threshold: 32, kind: Kind::Clustered, open: OPEN };
-    let (pages, _) = c.pages();
+    let (pages, _) = case(1_000, 0).pages();
     for groups in [0, 1, 32] {
         let s = Settings { b: 4, m: 32, q: 4, pages: 1_000, nodes: 4_000, thresholds: vec![32; 64] };
         let mut both = Register { library: empty(&s), ..Register::new() };
@@ -196,8 +200,26 @@ fn checks(print: &Print) {
     }
 }
 
+/// Some searches of the smallest store and nothing else; prints how many pages they listed.
+fn count(groups: u32, searches: usize) {
+    let (n, nodes, r) = SEARCHES[0];
+    let c = case(n, r);
+    let (pages, queries) = c.pages();
+    let (mut library, mut hits, mut listed) = (Library::in_groups(&c, &pages, nodes, groups), Hits::new(n), 0);
+    for query in queries.iter().cycle().take(searches) {
+        library.search(OPEN, r, query, &mut hits);
+        listed += hits.count();
+    }
+    println!("{listed}");
+}
+
 fn main() {
-    let print = Print { own: std::env::args().nth(1).is_some_and(|mode| mode == "own") };
+    let given: Vec<String> = std::env::args().skip(1).collect();
+    let mode = given.first().map_or("", String::as_str);
+    if mode == "count" {
+        return count(given[1].parse().unwrap(), given[2].parse().unwrap());
+    }
+    let print = Print { own: mode == "own" };
     if !print.own {
         println!("Nanoseconds a call. Searches: n pages, clustered, b 4, m 32, q 4, threshold 32, radius r, by a reader in so many groups; beside");
         println!("them a pointer trie that is given the open classes. Joins and leaves: of a reader who has so many groups with this one. Grants and");
