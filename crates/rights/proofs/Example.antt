@@ -3,16 +3,15 @@ use Prim.Native.Nat.{ℕ}
 use mathlib.Core.Path.{_≡_, refl}
 use mathlib.Core.Bool.{true, false}
 use mathlib.Core.List.{List}
-use lib.Bits.{bitOr}
-use lib.ListN.{set, replicate}
-use Rattle.meaning.specs.Lists.{all, any, from, upto}
+use lib.ListN.{replicate}
+use Rattle.meaning.specs.Lists.{any, from, upto}
 use Rattle.meaning.specs.Rights.{join, leave, grant, revoke}
 use Rattle.words.specs.Bits.{bit, withBit, rising, bitsOf, flag, withFlag}
 use Rattle.layout.specs.Settings.{settingsLength}
-use Rattle.layout.specs.Entries.{highAt, withEntry}
+use Rattle.layout.specs.Entries.{withEntry}
 use Rattle.rights.specs.Register.{isMember, isGranted, recorded, opens}
 use Rattle.rights.specs.Open.{withGroup, withGroups, openClasses}
-use Rattle.rights.specs.Entries.{renewed, classRenewed, registered, isCurrent}
+use Rattle.rights.specs.Entries.{renewed, classRenewed, registered}
 
 -- reader 7 is in groups 2 and 5, reader 9 in group 2; both groups are granted class 40
 granted : List ℕ
@@ -34,4 +33,3 @@ members = (refl, refl, refl)
 second-group : (opens revoked 9 40 ≡ false) × (opens revoked 7 40 ≡ true) × (opens left 7 40 ≡ false)
 unfolding granted revoked left registered renewed withEntry openClasses withGroups withGroup classRenewed recorded isMember isGranted opens flag withFlag withBit bit bitsOf rising any upto from
 second-group = (refl, refl, refl)
-

@@ -1,5 +1,5 @@
 -- No entry is stale: what that says class by class, and that every change of the register keeps it.
-use Prim.Native.Nat.{ℕ, _+_, _*_, _/_, _≤_, _<_}
+use Prim.Native.Nat.{ℕ, _+_, _*_, _≤_, _<_}
 use native.Mathlib.Omega.{arith}
 use native.Mathlib.Decide.{ℕ-discrete}
 use mathlib.Core.Path.{_≡_, refl, sym, ap, _∙_}
@@ -11,7 +11,7 @@ use lib.ListN.{length, take}
 use borrow.Author.Tests.{ltb-true, not-true}
 use Rattle.meaning.specs.Rights.{Change, join, leave, grant, revoke, changeInRange}
 use Rattle.meaning.proofs.Lists.{and-first, and-second, any-upto, upto-all, all-upto}
-use Rattle.words.proofs.Flags.{length-with, flag-with-other, flag-with-apart}
+use Rattle.words.proofs.Flags.{flag-with-other, flag-with-apart}
 use Rattle.layout.specs.Settings.{settingsLength, membersAt, grantsAt, entriesAt, freeAt}
 use Rattle.rights.specs.Register.{isMember, isGranted, withMember, withGrant, recorded, opens}
 use Rattle.rights.specs.Entries.{renewed, classRenewed, registered, same, isCurrent, allCurrent}

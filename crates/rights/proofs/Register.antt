@@ -7,14 +7,18 @@ use native.Mathlib.Omega.{arith}
 use lib.Dec.{eqb}
 use lib.Arith.{digits-div, digits-mod}
 use lib.ListN.{length, getD, take}
+use lib.Seq.{getD-take}
 use borrow.Author.Tests.{le-ltb, eqb-true, eqb-false, eq-eqb, ne-eqb}
 use Rattle.meaning.specs.Rights.{pair, samePair}
 use Rattle.words.specs.Bits.{flag, withFlag}
-use Rattle.words.proofs.Flags.{flag-take, length-with, word-with-other, flag-with, take-with, with-flag-again}
+use Rattle.words.proofs.Flags.{flag-take, length-with, word-with-other, flag-with, take-with}
 use Rattle.layout.specs.Settings.{membersAt, grantsAt, freeAt}
 use Rattle.rights.specs.Register.{withMember, withGrant, opens}
 
--- ---- a flag in another table with the same beginning
+-- ---- a word, and a flag, in another table with the same beginning
+
+pub word-same : (m : ℕ) (ws ws′ : List ℕ) → take m ws′ ≡ take m ws → (i : ℕ) → i < m → getD ws′ i 0 ≡ getD ws i 0
+word-same m ws ws′ e i h = sym (getD-take m ws′ i 0 h) ∙ ap (λ (l : List ℕ). getD l i 0) e ∙ getD-take m ws i 0 h
 
 pub flag-same : (m : ℕ) (ws ws′ : List ℕ) → take m ws′ ≡ take m ws → (base n : ℕ) → base + n / 32 < m → flag ws′ base n ≡ flag ws base n
 flag-same m ws ws′ e base n h = sym (flag-take m ws′ base n h) ∙ ap (λ (l : List ℕ). flag l base n) e ∙ flag-take m ws base n h
@@ -45,10 +49,6 @@ module _ (ws : List ℕ) (r g : ℕ) (v : Bool) where
   pub member-header : take membersAt (withMember ws r g v) ≡ take membersAt ws
   member-header = take-with ws membersAt (r * 32 + g) v membersAt (omega arith)
 
-  -- the second time changes nothing
-  pub member-again : withMember (withMember ws r g v) r g v ≡ withMember ws r g v
-  member-again = with-flag-again ws membersAt (r * 32 + g) v v
-
   module _ (hr : r < 256) (hg : g < 32) where
     -- the free link
     pub member-free : getD (withMember ws r g v) freeAt 0 ≡ getD ws freeAt 0
@@ -62,9 +62,6 @@ module _ (ws : List ℕ) (g c : ℕ) (v : Bool) where
 
   pub grant-header : take membersAt (withGrant ws g c v) ≡ take membersAt ws
   grant-header = take-with ws grantsAt (g * 64 + c) v membersAt (omega arith)
-
-  pub grant-again : withGrant (withGrant ws g c v) g c v ≡ withGrant ws g c v
-  grant-again = with-flag-again ws grantsAt (g * 64 + c) v v
 
   module _ (hg : g < 32) (hc : c < 64) where
     pub grant-free : getD (withGrant ws g c v) freeAt 0 ≡ getD ws freeAt 0
