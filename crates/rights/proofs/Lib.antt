@@ -3,7 +3,7 @@ pub mod Register
 pub mod Open
 pub mod Renewed
 pub mod Kept
-pub mod Again
+pub mod Repeat
 pub mod Pairs
 pub mod Holders
 pub mod Words

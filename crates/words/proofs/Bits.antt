@@ -171,8 +171,6 @@ with-or w k = omega (arith, or-add-and w (2 ^ k), and-bit w k, with-sum w k true
 pub with-and : (w k : ℕ) → w - bitAnd w (2 ^ k) ≡ withBit w k false
 with-and w k = omega (arith, and-bit w k, with-sum w k false)
 
--- ---- the width stays
-
 -- ---- the set bits, rising
 
 pub bits-of-zero : bitsOf 0 ≡ []
