@@ -96,8 +96,8 @@ static void load_and_search(const struct vetch_settings *settings, const char *n
     uint32_t sound;
     must("alloc", vetch_tables_alloc(&t, settings));
     if (!load(&t, name))
-        stop(name, "not as long as these settings need it");
-    must("check", vetch_tables_check(&t, &sound)); /* 6: another layout or byte order */
+        stop(name, "not as long as these settings need it, or of another layout");
+    must("check", vetch_tables_check(&t, &sound)); /* 6: another byte order, or another layout of this length */
     if (!sound)
         stop(name, "damaged");
     show_near(&t);

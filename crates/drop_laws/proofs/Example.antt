@@ -92,9 +92,9 @@ no-right i a b =
     let e : i ≡ membersAt + (i - membersAt) = omega arith in
     let below : i - membersAt < length {A = ℕ} (replicate registerLength 0) = omega (arith, length-replicate {A = ℕ} registerLength 0) in
     rw e (
-      getD-append-add (header given₁) (replicate registerLength 0 ++ 0 ∷ []) (i - membersAt) 0
-      ∙ List·getD-append (replicate registerLength 0) (0 ∷ []) 0 (i - membersAt) below
-      ∙ getD-replicate registerLength (i - membersAt) 0 0 (omega arith)
+    getD-append-add (header given₁) (replicate registerLength 0 ++ 0 ∷ []) (i - membersAt) 0
+    ∙ List·getD-append (replicate registerLength 0) (0 ∷ []) 0 (i - membersAt) below
+    ∙ getD-replicate registerLength (i - membersAt) 0 0 (omega arith)
     )
 
 sound : Sound T F

@@ -19,6 +19,7 @@ use Rattle.meaning.proofs.Lists.{length-onto}
 use Rattle.layout.specs.Lengths.{workingLength}
 use Rattle.promises.specs.Tables.{Tables, takesOf, withSettings, pageClass, pageRow, rowsOf}
 use Rattle.rights.specs.Entries.{registered}
+use Rattle.rights.proofs.Beside.{beside-free}
 use Rattle.promises.specs.Answers.{entered}
 use Rattle.promises.specs.Sound.{Sound}
 use Rattle.promises.specs.Readings.{workingLeft}
@@ -109,7 +110,7 @@ module _ (T : Tables) (L : Ledger) (F : List Tree) (W : Shows T L F) where
         let k = registered-as T L R c fits in
         rw (left, eq-eqb (a .number) 0 e) (record {
           tables = changes T L R c fits;
-          store = sound-others T (registered c (T .settings)) (T .working) (k .header) (k .free) (k .holds .entries) F (W .store);
+          store = sound-others T (registered c (T .settings)) (T .working) (k .beside .header) (beside-free _ _ (k .beside)) (k .holds .entries) F (W .store);
         }))
         (λ e. rw (left, ne-eqb (a .number) 0 e) W)
       where

@@ -84,7 +84,7 @@ module _ (T : Tables) (L : Ledger) (R : Represents T L) where
   changes c h =
       let k = registered-as c h in
       kept (withSettings T (registered c (T .settings))) (L .rows) (changed c (L .register))
-      (record { settings = k .long; nodes = refl; pages = refl; sketches = refl; working = refl }) (k .header) (k .holds) (rows-eq T L R) (R .classes)
+      (record { settings = k .beside .long; nodes = refl; pages = refl; sketches = refl; working = refl }) (k .beside .header) (k .holds) (rows-eq T L R) (R .classes)
 
   -- ---- a reading: of the tables only the working table may change
   pub works : (ws : List ℕ) → length ws ≡ length (T .working) → Represents (withWorking T ws) L

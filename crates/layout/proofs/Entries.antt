@@ -1,11 +1,11 @@
 -- A reader's entry: what a write to it changes, and what it leaves.
-use Prim.Native.Nat.{ℕ, _+_, _*_, _≤_, _<_}
+use Prim.Native.Nat.{ℕ, _≤_, _<_}
 use native.Mathlib.Omega.{arith}
 use mathlib.Core.Path.{_≡_, _∙_}
 use mathlib.Core.Logic.{_≢_}
 use mathlib.Core.List.{List}
-use lib.ListN.{length, getD, set, take, drop, length-set}
-use lib.Seq.{getD-set-same, getD-set-other, take-set-le, drop-set-lt}
+use lib.ListN.{length, set, take, drop, length-set}
+use lib.Seq.{getD-set-same, getD-set-other, take-set-le, drop-set-lt, set-getD}
 use Rattle.layout.specs.Settings.{settingsLength, entriesAt, freeAt}
 use Rattle.layout.specs.Entries.{lowAt, highAt, lowOf, highOf, withEntry}
 
@@ -52,3 +52,8 @@ module _ (ws : List ℕ) (r low high : ℕ) where
     high-other =
         getD-set-other (set ws (lowAt r) low) (highAt r) (highAt s) high 0 (λ e. other (omega arith))
         ∙ getD-set-other ws (lowAt r) (highAt s) low 0 (λ e. omega arith)
+
+-- the entry that is there already: nothing is changed
+pub entry-own : (ws : List ℕ) (r : ℕ) → withEntry ws r (lowOf ws r) (highOf ws r) ≡ ws
+unfolding withEntry lowOf highOf
+entry-own ws r = rw (set-getD ws (lowAt r) 0) (set-getD ws (highAt r) 0)

@@ -1,13 +1,16 @@
 -- The settings table: a written header shows its opening, and an opening hangs on the first 70 words alone.
-use Prim.Native.Nat.{ℕ, _≤_}
+use Prim.Native.Nat.{ℕ, _+_, _≤_, _<_}
 use native.Mathlib.Omega.{arith}
 use mathlib.Core.Path.{_≡_, sym, ap, _∙_}
+use mathlib.Core.Bool.{false}
+use mathlib.Core.Logic.{_≢_}
 use mathlib.Core.List.{List, _++_}
-use lib.ListN.{length, set, take, drop}
+use borrow.Author.Tests.{ne-eqb}
+use lib.ListN.{length, getD, set, take, drop}
 use lib.Seq.{take-at, take-take, getD-take, take-set-le}
 use Rattle.meaning.specs.Ledger.{Settings}
 use Rattle.meaning.specs.Questions.{inLimits}
-use Rattle.layout.specs.Settings.{header, settingsOf, showsOpening}
+use Rattle.layout.specs.Settings.{mark, header, settingsOf, showsOpening}
 use Rattle.layout.proofs.Parts.{drop-take}
 
 -- ---- a table that begins with a header
@@ -49,3 +52,12 @@ module _ (ws vs : List ℕ) (same : take 70 ws ≡ take 70 vs) where
 module _ (ws : List ℕ) (i v : ℕ) (behind : 70 ≤ i) where
   pub settings-set : settingsOf (set ws i v) ≡ settingsOf ws
   settings-set = settings-kept (set ws i v) ws (take-set-le 70 ws i v behind)
+
+-- ---- a table with another mark shows none
+another-mark : (ws : List ℕ) → getD ws 0 0 ≢ mark → showsOpening ws ≡ false
+unfolding showsOpening
+another-mark ws n = rw (ne-eqb (getD ws 0 0) mark n)
+
+-- not one of layout 1 or 2
+pub layouts-before : (ws : List ℕ) (k : ℕ) → k < 3 → getD ws 0 0 ≡ 0x56440000 + k → showsOpening ws ≡ false
+layouts-before ws k h e = another-mark ws (λ q. omega arith)

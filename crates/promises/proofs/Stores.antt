@@ -12,8 +12,9 @@ use Rattle.meaning.specs.Trie.{Tree}
 use Rattle.meaning.proofs.Lists.{and-first}
 use Rattle.layout.specs.Settings.{freeAt}
 use Rattle.layout.specs.Pages.{isLive}
+use Rattle.rights.specs.Register.{recorded, opens}
 use Rattle.rights.specs.Entries.{allCurrent}
-use Rattle.rights.proofs.Kept.{current-same}
+use Rattle.rights.proofs.Kept.{current-at, current-same}
 use Rattle.children.specs.Phys.{tree}
 use Rattle.promises.specs.Tables.{Tables, given}
 use Rattle.promises.specs.Sound.{livePage, Sound}
@@ -31,3 +32,7 @@ tries-count T F sound = ap length (sym (sound .forest)) ∙ length-map (sound .t
 pub entries-kept : (T : Tables) (F : List Tree) → Sound T F → (link : ℕ) → allCurrent (set (T .settings) freeAt link) ≡ true
 entries-kept T F sound link =
     current-same (T .settings) (set (T .settings) freeAt link) (take-set-le freeAt (T .settings) freeAt link (omega arith)) (sound .entries)
+
+-- on a sound store the entries open what the records do
+pub sound-opens : (T : Tables) (F : List Tree) → Sound T F → (r c : ℕ) → r < 256 → c < 64 → opens (T .settings) r c ≡ recorded (T .settings) r c
+sound-opens T F sound r c hr hc = current-at (T .settings) (sound .entries) r c hr hc

@@ -4,8 +4,8 @@ use native.Mathlib.Omega.{arith}
 use mathlib.Core.Path.{_≡_, refl, sym, _∙_}
 use mathlib.Core.Bool.{Bool, true, false, cond, _&&_}
 use mathlib.Core.List.{List, [], _∷_}
-use borrow.Author.Tests.{leb-true, ltb-true, ne-eqb}
-use lib.Dec.{ltb}
+use borrow.Author.Tests.{leb-true, ltb-true, eqb-true, ne-eqb}
+use lib.Dec.{ltb, eqb}
 use lib.ListN.{length}
 use Rattle.meaning.specs.Refusal.{ask, firstNo}
 use Rattle.meaning.specs.Rights.{Change, join, leave, grant, revoke}
@@ -17,7 +17,8 @@ use Rattle.layout.specs.declared.Opening.the-variants.{Shown, Refused}
 use Rattle.layout.specs.Settings.{settingsLength}
 use Rattle.layout.specs.Header.{openingOf, tablesFirst}
 use Rattle.layout.proofs.Openings.{shown-number, refused-number}
-use Rattle.rights.specs.Entries.{registered}
+use Rattle.rights.specs.Entries.{registered, allCurrent}
+use Rattle.rights.proofs.Kept.{stays-current}
 use Rattle.promises.specs.Tables.{settingsAlone}
 use Rattle.promises.specs.Answers.{number, entered, shown56, longSettings, longFor}
 use Rattle.promises.specs.Calls.{RightsPromise}
@@ -76,3 +77,14 @@ module _ {c : Change} {ws : List ℕ} {a A b B : ℕ} (C : Asks c ws a A b B) (n
   done z after e =
       let same : number (settingsAlone ws) [] (change c) ≡ 0 = C .asks ∙ sym answer ∙ z in
       record { answers = sym same; settings-left = rw same e }
+
+-- ---- accepted or refused, on any tables: all entries are current afterwards if they were before
+pub change-current : (c : Change) (ws : List ℕ) (n : ℕ) (after : List ℕ) → RightsPromise c ws n after → allCurrent ws ≡ true → allCurrent after ≡ true
+change-current c ws n after p current = rw (p .settings-left) (go (eqb (number (settingsAlone ws) [] (change c)) 0) refl)
+  where
+    go : (t : Bool) → eqb (number (settingsAlone ws) [] (change c)) 0 ≡ t → allCurrent (cond t (registered c ws) ws) ≡ true
+    go true e =
+        unfold number entered shown56 longSettings longFor asked in
+        let yes = all-yes _ (omega arith) (eqb-true (number (settingsAlone ws) [] (change c)) 0 e) in
+        stays-current ws (leb-true settingsLength (length ws) (yes .0)) current c (yes .1 .1 .0)
+    go false e = current

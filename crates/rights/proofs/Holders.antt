@@ -4,17 +4,15 @@ use native.Mathlib.Omega.{arith}
 use native.Mathlib.Numerals.{add-one}
 use native.Mathlib.Decide.{ℕ-discrete}
 use mathlib.Core.Path.{_≡_, refl, sym, ap, _∙_}
-use mathlib.Core.Logic.{_≢_, by-cases}
-use mathlib.Core.Bool.{Bool, true, false, cond, _&&_, not, true≢false}
+use mathlib.Core.Bool.{Bool, true, false, cond, _&&_, not}
 use mathlib.Core.List.{List}
 use lib.Dec.{eqb}
 use lib.Bits.{bitAnd, bitOr, and-le-l}
-use lib.ListN.{length, getD, take}
-use lib.Seq.{getD-take}
+use lib.ListN.{getD, take}
 use borrow.Author.Tests.{eqb-true, eqb-false}
 use Rattle.meaning.specs.Lists.{any, from, upto}
 use Rattle.meaning.proofs.Lists.{any-upto, upto-none}
-use Rattle.words.specs.Bits.{bit, withBit, withFlag}
+use Rattle.words.specs.Bits.{bit, withBit}
 use Rattle.words.proofs.Bits.{bit-zero, bit-and, bit-with-same, bit-with-other, zero-word, with-or}
 use Rattle.words.proofs.Flags.{flag-bit}
 use Rattle.words.proofs.Machine.{one-bit}
@@ -22,7 +20,7 @@ use Rattle.layout.specs.Settings.{membersAt, entriesAt}
 use Rattle.rights.specs.Register.{isMember, isGranted, recorded}
 use Rattle.rights.specs.Entries.{classRenewed}
 use Rattle.rights.specs.Holders.{holders, memberRenewed}
-use Rattle.rights.proofs.Register.{flag-same}
+use Rattle.rights.proofs.Register.{word-same, flag-same}
 use Rattle.rights.proofs.Renewed.{class-renewed}
 
 -- ---- its bits
@@ -96,10 +94,7 @@ module _ (ws : List ℕ) (g c n : ℕ) (hg : g < 32) (hc : c < 64) (hn : n < 256
   front = class-renewed ws g c hc n (omega arith) .front
 
   same-word : getD X (membersAt + n) 0 ≡ getD ws (membersAt + n) 0
-  same-word =
-      sym (getD-take entriesAt X (membersAt + n) 0 (omega arith))
-      ∙ ap (λ (l : List ℕ). getD l (membersAt + n) 0) front
-      ∙ getD-take entriesAt ws (membersAt + n) 0 (omega arith)
+  same-word = word-same entriesAt ws X front (membersAt + n) (omega arith)
 
   same-member : isMember X n g ≡ isMember ws n g
   unfolding isMember

@@ -1,17 +1,18 @@
 -- No entry is stale: what that says class by class, and that every change of the register keeps it.
-use Prim.Native.Nat.{ℕ, _+_, _*_, _/_, _≤_, _<_}
+use Prim.Native.Nat.{ℕ, _+_, _*_, _≤_, _<_}
 use native.Mathlib.Omega.{arith}
 use native.Mathlib.Decide.{ℕ-discrete}
 use mathlib.Core.Path.{_≡_, refl, sym, ap, _∙_}
 use mathlib.Core.Logic.{_≢_, by-cases}
 use mathlib.Core.Bool.{Bool, true, false, _&&_, not, true≢false}
 use mathlib.Core.List.{List}
-use lib.Dec.{ltb}
+use lib.Dec.{ltb, eqb}
 use lib.ListN.{length, take}
-use borrow.Author.Tests.{ltb-true, not-true}
+use borrow.Author.Tests.{ltb-true, not-true, eq-eqb, ne-eqb}
+use Rattle.meaning.specs.Lists.{any, upto}
 use Rattle.meaning.specs.Rights.{Change, join, leave, grant, revoke, changeInRange}
 use Rattle.meaning.proofs.Lists.{and-first, and-second, any-upto, upto-all, all-upto}
-use Rattle.words.proofs.Flags.{length-with, flag-with-other, flag-with-apart}
+use Rattle.words.proofs.Flags.{flag-with-same, flag-with-other, flag-with-apart}
 use Rattle.layout.specs.Settings.{settingsLength, membersAt, grantsAt, entriesAt, freeAt}
 use Rattle.rights.specs.Register.{isMember, isGranted, withMember, withGrant, recorded, opens}
 use Rattle.rights.specs.Entries.{renewed, classRenewed, registered, same, isCurrent, allCurrent}
@@ -131,7 +132,7 @@ module _ (ws : List ℕ) (g c : ℕ) (v : Bool) (hg : g < 32) (hc : c < 64) wher
         -- an entry's flag that no member's class is
         kept : (s d : ℕ) → s < 256 → d < 64 → ((n : ℕ) → isMember G n g ≡ true → s * 64 + d ≢ n * 64 + c) → recorded G s d ≡ recorded ws s d
             → opens X s d ≡ recorded G s d
-        kept s d hs hd apart same = opens-class-other G g c hc s d apart 256 ∙ grant-opens s d ∙ current-at ws current s d hs hd ∙ sym same
+        kept s d hs hd apart as-before = opens-class-other G g c hc s d apart 256 ∙ grant-opens s d ∙ current-at ws current s d hs hd ∙ sym as-before
 
         of-class : (s : ℕ) → s < 256 → (t : Bool) → isMember G s g ≡ t → opens X s c ≡ recorded G s c
         of-class s hs true e = opens-class G g c hc (omega (arith, grant-length ws g c v)) s e 256 (omega arith) hs
@@ -159,3 +160,22 @@ stays-current ws long current (grant g c) i =
     grant-current ws g c true (ltb-true g 32 (and-first (ltb g 32) (ltb c 64) i)) (ltb-true c 64 (and-second (ltb g 32) (ltb c 64) i)) long current
 stays-current ws long current (revoke g c) i =
     grant-current ws g c false (ltb-true g 32 (and-first (ltb g 32) (ltb c 64) i)) (ltb-true c 64 (and-second (ltb g 32) (ltb c 64) i)) long current
+
+-- ---- a revoke, on any tables: each of the group's members has the class from then on exactly by another of his groups
+
+struck : (ws : List ℕ) (g c : ℕ) → g < 32 → c < 64 → settingsLength ≤ length ws → isGranted (withGrant ws g c false) g c ≡ false
+unfolding isGranted
+struck ws g c hg hc long = flag-with-same ws grantsAt (g * 64 + c) false (omega arith)
+
+pub revoke-reaches : (ws : List ℕ) → settingsLength ≤ length ws → (g c r : ℕ) → g < 32 → c < 64 → r < 256 → isMember ws r g ≡ true
+    → opens (registered (revoke g c) ws) r c ≡ any (λ k. not (eqb k g) && (isMember ws r k && isGranted ws k c)) (upto 32)
+unfolding registered recorded
+revoke-reaches ws long g c r hg hc hr m =
+    opens-class W g c hc (omega (arith, grant-length ws g c false)) r (grant-member ws g c false hg hc r g hr hg ∙ m) 256 (omega arith) hr
+    ∙ any-upto (λ k. isMember W r k && isGranted W k c) (λ k. not (eqb k g) && (isMember ws r k && isGranted ws k c)) 32
+    (λ k l. by-cases (ℕ-discrete k g)
+    (λ e. rw (e, eq-eqb g g refl, struck ws g c hg hc long, grant-member ws g c false hg hc r g hr hg, m))
+    (λ n. rw (ne-eqb k g n, grant-member ws g c false hg hc r k hr l, grant-other ws g c false hg hc k c n hc)))
+  where
+    W : List ℕ
+    W = withGrant ws g c false

@@ -2,7 +2,9 @@ pub mod Any
 pub mod Register
 pub mod Open
 pub mod Renewed
+pub mod Beside
 pub mod Kept
+pub mod Repeat
 pub mod Pairs
 pub mod Holders
 pub mod Words

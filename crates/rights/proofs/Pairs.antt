@@ -8,7 +8,6 @@ use Prim.Native.Nat.{ℕ, _+_, _*_, _/_, _%_, _≤_, _<_}
 use native.Mathlib.Omega.{arith}
 use lib.Dec.{ltb, eqb}
 use lib.ListN.{length, getD, take}
-use lib.Seq.{take-take, getD-drop}
 use borrow.Author.Tests.{eqb-true, ltb-true}
 use Rattle.meaning.specs.Lists.{any, keep, from, upto}
 use Rattle.meaning.specs.Rights.{Pair, pair, samePair, stands, write, strike, Register, noRights, openTo, Change, join, leave, grant, revoke, changeInRange, changed}
@@ -19,8 +18,9 @@ use Rattle.words.proofs.Flags.{flag-with-apart}
 use Rattle.layout.specs.Settings.{settingsLength, membersAt, grantsAt, entriesAt, freeAt}
 use Rattle.rights.specs.Register.{isMember, isGranted, withMember, withGrant, recorded, opens}
 use Rattle.rights.specs.Entries.{renewed, classRenewed, registered, allCurrent}
-use Rattle.rights.proofs.Register.{flag-same, flag-put, member-length, member-header, member-free, grant-length, grant-header, grant-free}
+use Rattle.rights.proofs.Register.{flag-same, flag-put}
 use Rattle.rights.proofs.Renewed.{Renewed, entry-renewed, class-renewed}
+use Rattle.rights.proofs.Beside.{Beside, registered-beside}
 use Rattle.rights.proofs.Kept.{current-at, all-current, current-same, stays-current}
 
 -- ---- pairs
@@ -116,29 +116,18 @@ module _ (ws : List ℕ) (zeros : (i : ℕ) → membersAt ≤ i → i < freeAt �
     entries = all-current ws (λ r c hr hc. none-open r c hr hc ∙ sym (none-recorded r c hr));
   }
 
--- a table with another register: all else that is read of the settings table is as it was
+-- a table with another register: all else is as it was
 pub record Changed (ws ws′ : List ℕ) (R : Register) : Type 0 where
   pub holds : Holds ws′ R
-  pub long : length ws′ ≡ length ws
-  pub header : take membersAt ws′ ≡ take membersAt ws
-  pub free : getD ws′ freeAt 0 ≡ getD ws freeAt 0
+  pub beside : Beside ws ws′
 
--- entries written anew behind other records
-through : (ws W X : List ℕ) (R : Register) → Flags W membersAt 256 32 (R .members) → Flags W grantsAt 32 64 (R .grants) → length W ≡ length ws
-    → take membersAt W ≡ take membersAt ws → getD W freeAt 0 ≡ getD ws freeAt 0 → Renewed W X → allCurrent X ≡ true → Changed ws X R
-through ws W X R members grants long header free k current = record {
-  holds = record {
-    members = flags-same W membersAt 256 32 (R .members) members entriesAt X (k .front) (λ a b ha hb. omega arith);
-    grants = flags-same W grantsAt 32 64 (R .grants) grants entriesAt X (k .front) (λ a b ha hb. omega arith);
-    entries = current;
-  };
-  long = k .long ∙ long;
-  header =
-      sym (take-take membersAt entriesAt X (omega arith))
-      ∙ ap (λ (l : List ℕ). take membersAt l) (k .front)
-      ∙ take-take membersAt entriesAt W (omega arith)
-      ∙ header;
-  free = sym (getD-drop freeAt X 0 0) ∙ ap (λ (l : List ℕ). getD l 0 0) (k .rest) ∙ getD-drop freeAt W 0 0 ∙ free;
+-- entries written anew behind records that show a register
+holds-renewed : (W X : List ℕ) (R : Register) → Flags W membersAt 256 32 (R .members) → Flags W grantsAt 32 64 (R .grants) → Renewed W X
+    → allCurrent X ≡ true → Holds X R
+holds-renewed W X R members grants k current = record {
+  members = flags-same W membersAt 256 32 (R .members) members entriesAt X (k .front) (λ a b ha hb. omega arith);
+  grants = flags-same W grantsAt 32 64 (R .grants) grants entriesAt X (k .front) (λ a b ha hb. omega arith);
+  entries = current;
 }
 
 module _ (ws : List ℕ) (R : Register) (h : Holds ws R) where
@@ -171,27 +160,27 @@ module _ (ws : List ℕ) (R : Register) (h : Holds ws R) where
     -- a membership or a grant is written or struck
     with-member : (M : List Pair) (r g : ℕ) (v : Bool) → ((p : Pair) → stands p M ≡ cond (samePair p (pair r g)) v (stands p (R .members)))
         → ltb r 256 && ltb g 32 ≡ true → allCurrent (renewed (withMember ws r g v) r) ≡ true
-        → Changed ws (renewed (withMember ws r g v) r) (record { members = M; grants = R .grants })
+        → Holds (renewed (withMember ws r g v) r) (record { members = M; grants = R .grants })
     with-member M r g v e i =
         let hr = ltb-true r 256 (and-first (ltb r 256) (ltb g 32) i) in
         let hg = ltb-true g 32 (and-second (ltb r 256) (ltb g 32) i) in
-        through ws (withMember ws r g v) (renewed (withMember ws r g v) r) (record { members = M; grants = R .grants })
+        holds-renewed (withMember ws r g v) (renewed (withMember ws r g v) r) (record { members = M; grants = R .grants })
         (flags-put ws membersAt 256 32 (R .members) (h .members) M r g v hg (omega arith) e)
         (flags-keep ws grantsAt 32 64 (R .grants) (h .grants) membersAt (r * 32 + g) v (λ a b ha hb q. omega arith))
-        (member-length ws r g v) (member-header ws r g v) (member-free ws r g v hr hg) (entry-renewed (withMember ws r g v) r hr)
+        (entry-renewed (withMember ws r g v) r hr)
 
     with-grant : (G : List Pair) (g c : ℕ) (v : Bool) → ((p : Pair) → stands p G ≡ cond (samePair p (pair g c)) v (stands p (R .grants)))
         → ltb g 32 && ltb c 64 ≡ true → allCurrent (classRenewed (withGrant ws g c v) g c 256) ≡ true
-        → Changed ws (classRenewed (withGrant ws g c v) g c 256) (record { members = R .members; grants = G })
+        → Holds (classRenewed (withGrant ws g c v) g c 256) (record { members = R .members; grants = G })
     with-grant G g c v e i =
         let hg = ltb-true g 32 (and-first (ltb g 32) (ltb c 64) i) in
         let hc = ltb-true c 64 (and-second (ltb g 32) (ltb c 64) i) in
-        through ws (withGrant ws g c v) (classRenewed (withGrant ws g c v) g c 256) (record { members = R .members; grants = G })
+        holds-renewed (withGrant ws g c v) (classRenewed (withGrant ws g c v) g c 256) (record { members = R .members; grants = G })
         (flags-keep ws membersAt 256 32 (R .members) (h .members) grantsAt (g * 64 + c) v (λ a b ha hb q. omega arith))
         (flags-put ws grantsAt 32 64 (R .grants) (h .grants) G g c v hc (omega arith) e)
-        (grant-length ws g c v) (grant-header ws g c v) (grant-free ws g c v hg hc) (class-renewed (withGrant ws g c v) g c hc 256 (omega arith))
+        (class-renewed (withGrant ws g c v) g c hc 256 (omega arith))
 
-    written : (c : Change) → changeInRange c ≡ true → allCurrent (registered c ws) ≡ true → Changed ws (registered c ws) (changed c R)
+    written : (c : Change) → changeInRange c ≡ true → allCurrent (registered c ws) ≡ true → Holds (registered c ws) (changed c R)
     unfolding registered changed
     written (join r g) = with-member _ r g true (stands-write (pair r g) (R .members))
     written (leave r g) = with-member _ r g false (stands-strike (pair r g) (R .members))
@@ -200,4 +189,4 @@ module _ (ws : List ℕ) (R : Register) (h : Holds ws R) where
 
     -- a change whose numbers are in range
     pub made : (c : Change) → changeInRange c ≡ true → Changed ws (registered c ws) (changed c R)
-    made c i = written c i (stays-current ws l (h .entries) c i)
+    made c i = record { holds = written c i (stays-current ws l (h .entries) c i); beside = registered-beside ws c i }

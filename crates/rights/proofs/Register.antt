@@ -7,14 +7,18 @@ use native.Mathlib.Omega.{arith}
 use lib.Dec.{eqb}
 use lib.Arith.{digits-div, digits-mod}
 use lib.ListN.{length, getD, take}
+use lib.Seq.{getD-take}
 use borrow.Author.Tests.{le-ltb, eqb-true, eqb-false, eq-eqb, ne-eqb}
 use Rattle.meaning.specs.Rights.{pair, samePair}
 use Rattle.words.specs.Bits.{flag, withFlag}
-use Rattle.words.proofs.Flags.{flag-take, length-with, word-with-other, flag-with, take-with, with-flag-again}
-use Rattle.layout.specs.Settings.{membersAt, grantsAt, freeAt}
+use Rattle.words.proofs.Flags.{flag-take, length-with, flag-with}
+use Rattle.layout.specs.Settings.{membersAt, grantsAt}
 use Rattle.rights.specs.Register.{withMember, withGrant, opens}
 
--- ---- a flag in another table with the same beginning
+-- ---- a word, and a flag, in another table with the same beginning
+
+pub word-same : (m : ℕ) (ws ws′ : List ℕ) → take m ws′ ≡ take m ws → (i : ℕ) → i < m → getD ws′ i 0 ≡ getD ws i 0
+word-same m ws ws′ e i h = sym (getD-take m ws′ i 0 h) ∙ ap (λ (l : List ℕ). getD l i 0) e ∙ getD-take m ws i 0 h
 
 pub flag-same : (m : ℕ) (ws ws′ : List ℕ) → take m ws′ ≡ take m ws → (base n : ℕ) → base + n / 32 < m → flag ws′ base n ≡ flag ws base n
 flag-same m ws ws′ e base n h = sym (flag-take m ws′ base n h) ∙ ap (λ (l : List ℕ). flag l base n) e ∙ flag-take m ws base n h
@@ -36,39 +40,13 @@ pub flag-put : (ws : List ℕ) (base w a b : ℕ) (v : Bool) (c d : ℕ) → b <
     → flag (withFlag ws base (a * w + b) v) base (c * w + d) ≡ cond (samePair (pair c d) (pair a b)) v (flag ws base (c * w + d))
 flag-put ws base w a b v c d h h′ l = flag-with ws base (a * w + b) v l (c * w + d) ∙ rw (number-pair w c d a b h′ h)
 
--- ---- a membership written or struck
+-- ---- a record written or struck
 
-module _ (ws : List ℕ) (r g : ℕ) (v : Bool) where
-  pub member-length : length (withMember ws r g v) ≡ length ws
-  member-length = length-with ws membersAt (r * 32 + g) v
+pub member-length : (ws : List ℕ) (r g : ℕ) (v : Bool) → length (withMember ws r g v) ≡ length ws
+member-length ws r g v = length-with ws membersAt (r * 32 + g) v
 
-  pub member-header : take membersAt (withMember ws r g v) ≡ take membersAt ws
-  member-header = take-with ws membersAt (r * 32 + g) v membersAt (omega arith)
-
-  -- the second time changes nothing
-  pub member-again : withMember (withMember ws r g v) r g v ≡ withMember ws r g v
-  member-again = with-flag-again ws membersAt (r * 32 + g) v v
-
-  module _ (hr : r < 256) (hg : g < 32) where
-    -- the free link
-    pub member-free : getD (withMember ws r g v) freeAt 0 ≡ getD ws freeAt 0
-    member-free = word-with-other ws membersAt (r * 32 + g) v freeAt (λ e. omega arith)
-
--- ---- a grant written or struck
-
-module _ (ws : List ℕ) (g c : ℕ) (v : Bool) where
-  pub grant-length : length (withGrant ws g c v) ≡ length ws
-  grant-length = length-with ws grantsAt (g * 64 + c) v
-
-  pub grant-header : take membersAt (withGrant ws g c v) ≡ take membersAt ws
-  grant-header = take-with ws grantsAt (g * 64 + c) v membersAt (omega arith)
-
-  pub grant-again : withGrant (withGrant ws g c v) g c v ≡ withGrant ws g c v
-  grant-again = with-flag-again ws grantsAt (g * 64 + c) v v
-
-  module _ (hg : g < 32) (hc : c < 64) where
-    pub grant-free : getD (withGrant ws g c v) freeAt 0 ≡ getD ws freeAt 0
-    grant-free = word-with-other ws grantsAt (g * 64 + c) v freeAt (λ e. omega arith)
+pub grant-length : (ws : List ℕ) (g c : ℕ) (v : Bool) → length (withGrant ws g c v) ≡ length ws
+grant-length ws g c v = length-with ws grantsAt (g * 64 + c) v
 
 -- ---- the classes that are open
 

@@ -1,5 +1,5 @@
 -- Entries written anew: what that leaves of the table, and which classes are open afterwards.
-use Prim.Native.Nat.{ℕ, zero, suc, _+_, _*_, _/_, _≤_, _<_}
+use Prim.Native.Nat.{ℕ, zero, suc, _+_, _*_, _≤_, _<_}
 use native.Mathlib.Omega.{arith}
 use native.Mathlib.Decide.{ℕ-discrete}
 use mathlib.Core.Path.{_≡_, refl, sym, ap, _∙_}
@@ -10,7 +10,7 @@ use lib.Dec.{ltb}
 use lib.ListN.{length, take, drop}
 use borrow.Author.Tests.{lt-ltb}
 use Rattle.meaning.proofs.Lists.{any-upto}
-use Rattle.words.specs.Bits.{flag, withFlag}
+use Rattle.words.specs.Bits.{withFlag}
 use Rattle.words.proofs.Flags.{length-with, flag-with-same, flag-with-other, take-with, drop-with}
 use Rattle.layout.specs.Settings.{settingsLength, membersAt, grantsAt, entriesAt, freeAt}
 use Rattle.layout.proofs.Entries.{entry-length, entry-front, entry-rest, low-same, high-same, low-other, high-other}
@@ -48,7 +48,7 @@ module _ (ws : List ℕ) (r : ℕ) where
     rest = entry-rest ws r (openClasses ws r .low) (openClasses ws r .high) h;
   }
 
-  written : settingsLength ≤ length ws → r < 256 → entryOf (renewed ws r) r ≡ openClasses ws r
+  pub written : settingsLength ≤ length ws → r < 256 → entryOf (renewed ws r) r ≡ openClasses ws r
   unfolding entryOf renewed
   written long h = λ i. record {
     low = low-same ws r (openClasses ws r .low) (openClasses ws r .high) long h i;

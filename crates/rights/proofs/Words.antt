@@ -1,17 +1,15 @@
 -- An entry is current exactly where its two words are those of the set from the records.
-use Prim.Native.Nat.{ℕ, _+_, _%_, _^_, _≤_, _<_}
+use Prim.Native.Nat.{ℕ, _+_, _%_, _^_, _<_}
 use native.Mathlib.Omega.{arith}
 use mathlib.Core.Path.{_≡_, refl, sym, ap, _∙_}
-use mathlib.Core.Bool.{Bool, true, false, cond, _&&_}
+use mathlib.Core.Bool.{Bool, true, false, _&&_}
 use mathlib.Core.List.{List}
-use lib.Dec.{ltb, eqb}
+use lib.Dec.{eqb}
 use borrow.Author.Tests.{lt-ltb, le-ltb, eqb-true, eqb-false}
 use Rattle.meaning.proofs.Lists.{not-so}
 use Rattle.words.specs.Bits.{bit}
 use Rattle.words.proofs.Bits.{same-word}
-use Rattle.layout.specs.Entries.{lowOf, highOf}
 use Rattle.rights.specs.declared.Classes.{Classes}
-use Rattle.rights.specs.Register.{recorded, opens}
 use Rattle.rights.specs.Open.{isOpen, openClasses, entryOf}
 use Rattle.rights.specs.Entries.{isCurrent}
 use Rattle.rights.proofs.Open.{open-recorded, is-open-opens}

@@ -14,7 +14,7 @@ use Rattle.rights.specs.Open.{openClasses}
 unfoldable pub renewed : List ℕ → ℕ → List ℕ
 renewed ws reader = withEntry ws reader (openClasses ws reader .low) (openClasses ws reader .high)
 
--- with the class in the entries of the group's members as the records have it: of those below n
+-- with the class in the entries of the group's members as the records have it: of the readers below n
 unfoldable pub classRenewed : List ℕ → ℕ → ℕ → ℕ → List ℕ
 classRenewed ws group class zero = ws
 classRenewed ws group class (suc n) =
@@ -30,11 +30,11 @@ registered (leave r g) ws = renewed (withMember ws r g false) r
 registered (grant g c) ws = classRenewed (withGrant ws g c true) g c 256
 registered (revoke g c) ws = classRenewed (withGrant ws g c false) g c 256
 
--- an entry that is not current is stale
 abbrev pub same : Bool → Bool → Bool
 same true t = t
 same false t = not t
 
+-- the entry has exactly the classes that the records open to its reader; otherwise it is stale
 unfoldable pub isCurrent : List ℕ → ℕ → Bool
 isCurrent ws reader = all (λ c. same (opens ws reader c) (recorded ws reader c)) (upto 64)
 

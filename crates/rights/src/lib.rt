@@ -9,6 +9,7 @@ ghost use Rattle.layout.specs.Settings.{settingsLength};
 ghost use Rattle.rights.specs.Register.{opens};
 ghost use Rattle.rights.specs.Open.{entryOf, isOpen};
 ghost use Rattle.rights.specs.Entries.{registered};
+
 pub mod current;
 mod entries;
 mod records;

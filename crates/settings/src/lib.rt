@@ -16,12 +16,10 @@ const MARK: u32 = 0x56440003;
 // How many words the table needs.
 pub const LENGTH: usize = 903;
 
-// Where the thresholds, the memberships and the grants begin, and the free link.
+// Where the thresholds and the register begin, and the free link.
 const THRESHOLDS: usize = 6;
 
 pub const MEMBERS: usize = 70;
-
-pub const GRANTS: usize = 326;
 
 // The words of the register: a word for each of 256 readers, two for each of 32 groups, and two more for each reader.
 pub const REGISTER: usize = 832;

@@ -7,7 +7,7 @@ use Prim.Native.Nat.{ℕ, zero, suc, _+_, _-_, _*_, _/_, _%_, _^_, _≤_, _<_, m
 use native.Mathlib.Nat.{pow-suc, div-one, le-div-iff-mul-le, zero-div}
 use native.Mathlib.Omega.{arith}
 use lib.Dec.{ltb, eqb, eqb·zero-suc, eqb·suc-zero, eqb·suc-suc}
-use lib.Pow.{pow-pos, pow-mono, pow-add, shr-shr}
+use lib.Pow.{pow-pos, pow-add, shr-shr}
 use lib.Bits.{bitAnd, bitOr, and-step, and-shr, and-high, or-step, or-shr, or-add-and, or-lt, or-comm, and-le-r}
 use lib.ListN.{length, getD}
 use borrow.Author.Tests.{ltb-true, ltb-false, eqb-true, eqb-false, lt-ltb, le-ltb, eq-eqb, ne-eqb}
@@ -92,16 +92,6 @@ same-word (suc n) a b ha hb same =
 pub zero-word : (n w : ℕ) → w < 2 ^ n → ((k : ℕ) → k < n → bit w k ≡ false) → w ≡ 0
 zero-word n w h none = same-word n w 0 h (pow-pos n) (λ k l. none k l ∙ sym (bit-zero k))
 
-lt-pow : (n : ℕ) → n < 2 ^ n
-lt-pow zero = omega arith
-lt-pow (suc n) = omega (arith, lt-pow n, pow-suc 2 n)
-
--- at no width
-pub same-bits : (a b : ℕ) → ((k : ℕ) → bit a k ≡ bit b k) → a ≡ b
-same-bits a b same =
-    same-word (a + b) a b (omega (arith, lt-pow a, pow-mono {i = a} {j = a + b} (omega arith)))
-    (omega (arith, lt-pow b, pow-mono {i = b} {j = a + b} (omega arith))) (λ k l. same k)
-
 -- ---- a word with a bit set or cleared
 
 -- the sum that settles it
@@ -157,14 +147,11 @@ bit-with-same w k v = rw (bit-with w k v k, eq-eqb k k refl)
 pub bit-with-other : (w k : ℕ) (v : Bool) (j : ℕ) → j ≢ k → bit (withBit w k v) j ≡ bit w j
 bit-with-other w k v j h = rw (bit-with w k v j, ne-eqb j k h)
 
--- the last of two writes to a bit stands
-pub with-again : (w k : ℕ) (u v : Bool) → withBit (withBit w k u) k v ≡ withBit w k v
-with-again w k u v = same-bits (withBit (withBit w k u) k v) (withBit w k v) (λ j.
-    rw (bit-with (withBit w k u) k v j, bit-with w k v j, bit-with w k u j) (go (eqb j k) (bit w j)))
-  where
-    go : (t b : Bool) → cond t v (cond t u b) ≡ cond t v b
-    go true b = refl
-    go false b = refl
+-- a bit that is v already
+pub with-same : (w k : ℕ) (v : Bool) → bit w k ≡ v → withBit w k v ≡ w
+unfolding withBit
+with-same w k true e = rw e
+with-same w k false e = rw e
 
 -- ---- by the machine's operations
 
@@ -183,8 +170,6 @@ with-or w k = omega (arith, or-add-and w (2 ^ k), and-bit w k, with-sum w k true
 
 pub with-and : (w k : ℕ) → w - bitAnd w (2 ^ k) ≡ withBit w k false
 with-and w k = omega (arith, and-bit w k, with-sum w k false)
-
--- ---- the width stays
 
 -- ---- the set bits, rising
 

@@ -8,11 +8,11 @@ use native.Mathlib.Nat.{add-zero}
 use native.Mathlib.Omega.{arith}
 use native.Mathlib.Decide.{decLt, ℕ-discrete}
 use lib.ListN.{length, getD, set, take, drop, replicate, length-append, length-take, length-drop, length-set, length-replicate, getD-replicate, List·getD-append, take-append-drop, replicate-append-replicate}
-use lib.Seq.{getD-set-same, getD-set-other, take-set-le, drop-set-lt, getD-take, getD-append-add, length-take-le, drop-cons, set-at, set-out, set-set}
+use lib.Seq.{getD-set-same, getD-set-other, take-set-le, drop-set-lt, getD-take, getD-append-add, length-take-le, drop-cons, set-at, set-out, set-getD}
 use lib.Dec.{eqb}
 use borrow.Author.Tests.{eqb-true, eqb-false}
 use Rattle.words.specs.Bits.{bit, withBit, flag, withFlag, zeroed}
-use Rattle.words.proofs.Bits.{bit-zero, with-again, bit-with-same, bit-with-other}
+use Rattle.words.proofs.Bits.{bit-zero, with-same, bit-with-same, bit-with-other}
 
 -- ---- a flag is a bit of a word
 
@@ -74,6 +74,11 @@ module _ (ws : List ℕ) (base n : ℕ) (v : Bool) where
       go true e = rw (eqb-true k n e) (flag-with-same h)
       go false e = flag-with-other k (eqb-false k n e)
 
+  -- a flag that is v already: nothing is changed
+  pub with-own : flag ws base n ≡ v → withFlag ws base n v ≡ ws
+  unfolding flag withFlag
+  with-own e = rw (with-same (getD ws (base + n / 32) 0) (n % 32) v e) (set-getD ws (base + n / 32) 0)
+
   -- its parts
   pub take-with : (m : ℕ) → m ≤ base + n / 32 → take m (withFlag ws base n v) ≡ take m ws
   unfolding withFlag
@@ -82,22 +87,6 @@ module _ (ws : List ℕ) (base n : ℕ) (v : Bool) where
   pub drop-with : (m : ℕ) → base + n / 32 < m → drop m (withFlag ws base n v) ≡ drop m ws
   unfolding withFlag
   drop-with m h = drop-set-lt m ws (base + n / 32) (withBit (getD ws (base + n / 32) 0) (n % 32) v) h
-
--- the last of two writes to a flag stands
-pub with-flag-again : (ws : List ℕ) (base n : ℕ) (u v : Bool) → withFlag (withFlag ws base n u) base n v ≡ withFlag ws base n v
-unfolding withFlag
-with-flag-again ws base n u v = go (decLt i (length ws))
-  where
-    i : ℕ
-    i = base + n / 32
-
-    w : ℕ
-    w = getD ws i 0
-
-    go : Dec (i < length ws) → withFlag (withFlag ws base n u) base n v ≡ withFlag ws base n v
-    go (yes l) =
-        rw (getD-set-same ws i (withBit w (n % 32) u) 0 l, with-again w (n % 32) u v, set-set ws i (withBit w (n % 32) u) (withBit w (n % 32) v))
-    go (no l) = rw (with-beyond ws base n u (omega arith))
 
 -- ---- a run of zeros
 

@@ -1,5 +1,5 @@
 -- `holders` is the word of the groups that are granted the class. The invariant: of those passed.
-use Prim.Native.Nat.{ℕ, suc, _+_, _-_, _≤_, _<_}
+use Prim.Native.Nat.{_-_, _≤_}
 use native.Mathlib.Omega.{arith}
 use mathlib.Core.Path.{_≡_, refl, sym, ap, _∙_}
 use mathlib.Core.Logic.{⊎-elim}
@@ -48,9 +48,9 @@ loop-again c =
     let at = c .before .before .before .loop in (
       search needs,
       ⊎-elim
-      (λ w. w .1 ∙ rw (at .inv .1) (holder-more _ _ (at .group) (omega (arith, c .before .before .loop-test .taken)) (sym has ∙ w .0 .taken)))
-      (λ w. w .1 ∙ at .inv .1 ∙ holder-none _ _ (at .group) (sym has ∙ w .0 .left))
-      (c .if1 .came),
+          (λ w. w .1 ∙ rw (at .inv .1) (holder-more _ _ (at .group) (omega (arith, c .before .before .loop-test .taken)) (sym has ∙ w .0 .taken)))
+          (λ w. w .1 ∙ at .inv .1 ∙ holder-none _ _ (at .group) (sym has ∙ w .0 .left))
+          (c .if1 .came),
     )
 
 returns : tie.Need-returns Inv-loop μ-loop
