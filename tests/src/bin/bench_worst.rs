@@ -1,5 +1,8 @@
 //! How long a call takes at worst: 65,535 pages, 262,144 nodes. Each call is timed by itself, on the same tables as often as `PASSES`, and the
 //! median of these is its time; printed are the median and the most over the calls. Before each 4 MB of other memory are read.
+//!
+//!     bench_worst           all
+//!     bench_worst short     the calls too short to be timed singly
 use std::hint::black_box;
 use std::time::Instant;
 use vetchdawn_tests::calls;
@@ -228,12 +231,18 @@ fn short_calls() {
 }
 
 fn main() {
+    if std::env::args().nth(1).as_deref() != Some("short") {
+        long_calls();
+    }
+    println!("Nanoseconds a call, in rounds of 1,000: the median round, and the slowest but for one in a hundred.");
+    short_calls();
+}
+
+fn long_calls() {
     println!("Microseconds a call, 65,535 pages of random sketches, capacity for 262,144 nodes; 4 MB of other memory are read before each.");
     println!("call                         tables                                     median         most");
     readings();
     ordinary_changes();
     great_leaves();
     deep();
-    println!("Nanoseconds a call, in rounds of 1,000: the median round, and the slowest but for one in a hundred.");
-    short_calls();
 }
