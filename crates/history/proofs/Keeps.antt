@@ -19,7 +19,7 @@ use Rattle.meaning.proofs.Lists.{length-onto}
 use Rattle.layout.specs.Lengths.{workingLength}
 use Rattle.promises.specs.Tables.{Tables, takesOf, withSettings, pageClass, pageRow, rowsOf}
 use Rattle.rights.specs.Entries.{registered}
-use Rattle.rights.proofs.Beside.{beside-free}
+use Rattle.rights.proofs.Rest.{beside-free}
 use Rattle.promises.specs.Answers.{entered}
 use Rattle.promises.specs.Sound.{Sound}
 use Rattle.promises.specs.Readings.{workingLeft}

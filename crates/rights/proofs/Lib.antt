@@ -2,7 +2,7 @@ pub mod Any
 pub mod Register
 pub mod Open
 pub mod Renewed
-pub mod Beside
+pub mod Rest
 pub mod Kept
 pub mod Repeat
 pub mod Pairs

@@ -20,7 +20,7 @@ use Rattle.rights.specs.Register.{isMember, isGranted, withMember, withG
 use Rattle.rights.specs.Entries.{renewed, classRenewed, registered, allCurrent}
 use Rattle.rights.proofs.Register.{flag-same, flag-put}
 use Rattle.rights.proofs.Renewed.{Renewed, entry-renewed, class-renewed}
-use Rattle.rights.proofs.Beside.{Beside, registered-beside}
+use Rattle.rights.proofs.Rest.{Beside, registered-beside}
 use Rattle.rights.proofs.Kept.{current-at, all-current, current-same, stays-current}
 
 -- ---- pairs

@@ -18,7 +18,7 @@ pub fn renew(ws: &mut [u32], reader: usize)
     ws[at + 1] = classes.high;
 }
 
-// Writes the class in the reader's entry if he is a member of the group: it is open to him by one of the groups that hold it.
+// Writes the class in the reader's entry if he is a member of the group: it is open to him where one of his groups is a holder.
 fn renew_member(ws: &mut [u32], reader: usize, group: usize, class: usize, holders: u32)
     requires { ⌜ (settingsLength ≤ length (now ws)) × (reader < 256) × (group < 32) × (class < 64) ⌝ }
     ensures { λ r. ⌜ now (ws .exit) ≡ memberRenewed (now (ws .entry)) reader group class holders ⌝ }
