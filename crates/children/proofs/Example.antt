@@ -10,20 +10,20 @@ use Rattle.children.specs.Places.{placeFrom, findPlace}
 use Rattle.children.specs.Phys.{Phys, noKid, kid, leafP, innerP, headsFrom, cells, Sound}
 
 abbrev t : Phys
-t = innerP 0 (kid 1 (leafP 1 (0 ∷ [])) (kid 2 (leafP 2 (1 ∷ [])) (kid 40 (leafP 3 (2 ∷ [])) noKid)))
+t = innerP 0 (kid 1 (leafP 1 (0 ∷ [])) (kid 2 (leafP 2 (1 ∷ [])) (kid 40 (leafP 3 (2 ∷ 3 ∷ [])) noKid)))
 
 -- chain words, states, and the heads, of which two are not 0
 abbrev N : List ℕ
-N = 0 ∷ 524291 ∷ 1048576 ∷ 20971520 ∷ 1 ∷ 3 ∷ 4 ∷ 5 ∷ 2 ∷ 4 ∷ replicate 30 0
+N = 0 ∷ 524291 ∷ 1048576 ∷ 20971520 ∷ 65536 ∷ 65537 ∷ 65538 ∷ 131075 ∷ 2 ∷ 4 ∷ replicate 30 0
 
 abbrev P : List ℕ
-P = replicate 3 0
+P = 0 ∷ 0 ∷ 4 ∷ 0 ∷ []
 
 pub lies : Holds (cells 4 0 t) N P
 unfolding headsFrom
 lies = (refl, ((refl, (refl, (refl, (refl, (refl, (refl, (refl, (refl, tt)))))))), (refl, (search, (refl, (search, (refl, (search, tt))))))))
 
-pub sound : Sound 4 3 t
+pub sound : Sound 4 4 t
 sound = search arith
 
 -- a child that is there, with the slot that links to it, and two that are not

@@ -6,6 +6,7 @@ pub mod Places
 pub mod Kids
 pub mod Claims
 pub mod Owner
+pub mod Leaves
 pub mod Held
 pub mod SpotList
 pub mod Spot

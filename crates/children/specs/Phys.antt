@@ -4,6 +4,7 @@ use mathlib.Core.Path.{_≡_}
 use mathlib.Core.Bool.{cond}
 use mathlib.Core.List.{List, [], _∷_}
 use lib.Dec.{eqb}
+use lib.ListN.{length}
 use Rattle.meaning.specs.Trie.{Tree, leaf, inner, Children, none, child}
 use Rattle.layout.specs.Nodes.{chainWord, chainAt, stateAt, headAt, freeState, innerState, leafState}
 use Rattle.children.specs.Heap.{Cells, Heap, nil, node, page, _⊕_}
@@ -66,12 +67,13 @@ abbrev pub freeCells : ℕ → List ℕ → Cells
 freeCells cap [] = nil
 freeCells cap (f ∷ fs) = node (chainAt f) (first fs) ⊕ node (stateAt cap f) freeState ⊕ noKids cap f ⊕ freeCells cap fs
 
--- A tree owns its root's state and heads, the pages of its leaves, and the trees of the children with their chain words. A child's chain
--- word has its byte, and the link to the first child after it in its chain.
+-- A tree owns its root's state and heads, the pages of its leaves, and the trees of the children with their chain words. A leaf's state
+-- has the number of its pages, and the link to the first. A child's chain word has its byte, and the link to the first child after it in
+-- its chain.
 module _ (cap base : ℕ) where
   abbrev mutual
     pub cells : Phys → Cells
-    cells (leafP n ps) = node (stateAt cap n) (leafState (first ps)) ⊕ noKids cap n ⊕ pageCells base ps
+    cells (leafP n ps) = node (stateAt cap n) (leafState (length ps) (first ps)) ⊕ noKids cap n ⊕ pageCells base ps
     cells (innerP n ks) = node (stateAt cap n) innerState ⊕ heads cap n (firstIn ks) ⊕ linkedCells ks
 
     pub linkedCells : Kids → Cells

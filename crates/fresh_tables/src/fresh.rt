@@ -13,7 +13,7 @@ ghost use Rattle.promises.specs.Answers.{freeLink, freshChain, freshState, fres
 use layout::Header;
 
 // A leaf with no pages.
-const EMPTY: u32 = 2;
+const EMPTY: u32 = 131072;
 
 // The link to node x of the free chain, or none past the last node.
 pub fn free_link(cap: usize, x: usize) -> u32

@@ -58,6 +58,6 @@ another-mark : (ws : List ℕ) → getD ws 0 0 ≢ mark → showsOpening ws ≡ 
 unfolding showsOpening
 another-mark ws n = rw (ne-eqb (getD ws 0 0) mark n)
 
--- not one of layout 1 or 2
-pub layouts-before : (ws : List ℕ) (k : ℕ) → k < 3 → getD ws 0 0 ≡ 0x56440000 + k → showsOpening ws ≡ false
+-- not one of layouts 1 to 3
+pub layouts-before : (ws : List ℕ) (k : ℕ) → k < 4 → getD ws 0 0 ≡ 0x56440000 + k → showsOpening ws ≡ false
 layouts-before ws k h e = another-mark ws (λ q. omega arith)

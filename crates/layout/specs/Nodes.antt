@@ -1,5 +1,5 @@
 -- The node table, of N nodes: N chain words, N state words, then eight heads a node. A link is 0 for none, else a number + 1.
-use Prim.Native.Nat.{ℕ, _+_, _*_, _/_, _%_}
+use Prim.Native.Nat.{ℕ, zero, suc, _+_, _*_, _/_, _%_}
 
 -- the limit of document 01 on the capacity
 abbrev pub mostNodes : ℕ
@@ -49,12 +49,24 @@ headsAt N = 2 * N
 abbrev pub headAt : ℕ → ℕ → ℕ → ℕ
 headAt N x g = headsAt N + 8 * x + g
 
--- the state of a node: free, inner, or a leaf with the link to its first page
+-- the state of a leaf with pages holds their number, and below it the link to the first
+abbrev pub countBase : ℕ
+countBase = 65536
+
+abbrev pub stateWith : ℕ → ℕ → ℕ
+stateWith n link = link + n * countBase
+
+-- where there is no such link, the state is that of a free node, an inner one, or a leaf without pages
 abbrev pub freeState : ℕ
 freeState = 0
 
 abbrev pub innerState : ℕ
-innerState = 1
+innerState = 65536
 
-abbrev pub leafState : ℕ → ℕ
-leafState link = 2 + link
+abbrev pub emptyState : ℕ
+emptyState = 131072
+
+-- a leaf with n pages, the first at a link
+abbrev pub leafState : ℕ → ℕ → ℕ
+leafState zero link = emptyState
+leafState (suc n) link = stateWith (suc n) link

@@ -10,7 +10,7 @@ use Rattle.meaning.specs.Questions.{inLimits}
 
 -- the mark of an opening: the letters VD and the number of this layout, which changes with it
 abbrev pub mark : ℕ
-mark = 0x56440003
+mark = 0x56440004
 
 -- how many words the table needs
 abbrev pub settingsLength : ℕ

@@ -2,10 +2,10 @@
 ghost use mathlib.Core.Path.{_≡_};
 ghost use Prim.Native.Nat.{_≤_, _<_};
 ghost use lib.ListN.{set};
-ghost use Rattle.layout.specs.Nodes.{mostNodes, linkBase, linkOf, byteOf, chainWord, withLink, stateAt, headAt, innerState, leafState};
+ghost use Rattle.layout.specs.Nodes.{mostNodes, linkBase, linkOf, byteOf, chainWord, withLink, stateAt, headAt, innerState, emptyState};
 ghost use Rattle.layout.specs.Pages.{mostPages};
 ghost use Rattle.layout.specs.Tables.{NodeTable};
-ghost use Rattle.layout.specs.States.{kindOf, firstOf, nextFree, withFree};
+ghost use Rattle.layout.specs.States.{kindOf, firstOf, countOf, oneMore, oneLess, longer, shorter, nextFree, withFree};
 
 // The words of a node; of these the heads, which stand behind as many others.
 pub const WORDS: usize = 10;
@@ -20,12 +20,17 @@ pub const STEPS: usize = 10;
 // A chain word is a link and, times this, a byte.
 pub const LINKS: u32 = 524288;
 
-// The states of a node: free, inner, and that of a leaf without pages. A leaf's is above it by the link to its first page.
+// The states of a node: free, inner, and that of a leaf without pages.
 const FREE: u32 = 0;
 
-const INNER: u32 = 1;
+const INNER: u32 = 65536;
 
-const LEAF: u32 = 2;
+const EMPTY: u32 = 131072;
+
+// That of another leaf is the link to its first page and, times this, the number of its pages. Both are at most one less.
+const COUNTS: u32 = 65536;
+
+const MOST: u32 = 65535;
 
 // The link in a chain word or a head.
 pub fn link_of(w: u32) -> u32
@@ -92,7 +97,7 @@ pub fn kind_of(nodes: &[u32], cap: usize, x: usize) -> Kind
     if state == INNER {
         return Kind::Inner;
     }
-    Kind::Leaf(state - LEAF)
+    Kind::Leaf(state % COUNTS)
 }
 
 // The link to the first page of leaf x; 0 of another node.
@@ -107,6 +112,20 @@ pub fn first_page(nodes: &[u32], cap: usize, x: usize) -> u32
         Kind::Inner => 0,
         Kind::Leaf(first) => first,
     }
+}
+
+// The number of pages that stands in leaf x.
+pub fn page_count(nodes: &[u32], cap: usize, x: usize) -> u32
+    requires { ⌜ NodeTable cap (now nodes) ⌝ }
+    requires { ⌜ x < cap ⌝ }
+    ensures { λ r. ⌜ r ≡ countOf (now (nodes .entry)) cap x ⌝ }
+    ensures inside { λ r. ⌜ r ≤ mostPages ⌝ }
+{
+    let state = nodes[state_at(cap, x)];
+    if state == EMPTY {
+        return 0;
+    }
+    state / COUNTS
 }
 
 // The link of free node x to the next.
@@ -136,12 +155,54 @@ pub fn set_inner(nodes: &mut [u32], cap: usize, x: usize)
     nodes[state_at(cap, x)] = INNER;
 }
 
-// Node x is a leaf, its first page at a link.
-pub fn set_leaf(nodes: &mut [u32], cap: usize, x: usize, first: u32)
+// Node x is a leaf without pages.
+pub fn set_empty(nodes: &mut [u32], cap: usize, x: usize)
+    requires { ⌜ NodeTable cap (now nodes) ⌝ }
+    requires { ⌜ x < cap ⌝ }
+    ensures { λ r. ⌜ now (nodes .exit) ≡ set (now (nodes .entry)) (stateAt cap x) emptyState ⌝ }
+{
+    nodes[state_at(cap, x)] = EMPTY;
+}
+
+fn one_more(count: u32) -> u32
+    ensures { λ r. ⌜ r ≡ oneMore count ⌝ }
+    ensures inside { λ r. ⌜ r ≤ mostPages ⌝ }
+{
+    if count < MOST {
+        return count + 1;
+    }
+    MOST
+}
+
+fn one_less(count: u32) -> u32
+    requires { ⌜ count ≤ mostPages ⌝ }
+    ensures { λ r. ⌜ r ≡ oneLess count ⌝ }
+    ensures inside { λ r. ⌜ r ≤ mostPages ⌝ }
+{
+    if count > 0 {
+        return count - 1;
+    }
+    0
+}
+
+// Leaf x has one page more, and its first page is at a link.
+pub fn lengthen(nodes: &mut [u32], cap: usize, x: usize, first: u32)
     requires { ⌜ NodeTable cap (now nodes) ⌝ }
     requires { ⌜ x < cap ⌝ }
     requires { ⌜ first ≤ mostPages ⌝ }
-    ensures { λ r. ⌜ now (nodes .exit) ≡ set (now (nodes .entry)) (stateAt cap x) (leafState first) ⌝ }
+    ensures { λ r. ⌜ now (nodes .exit) ≡ longer (now (nodes .entry)) cap x first ⌝ }
 {
-    nodes[state_at(cap, x)] = LEAF + first;
+    let count = one_more(page_count(nodes, cap, x));
+    nodes[state_at(cap, x)] = first + count * COUNTS;
+}
+
+// Leaf x has one page less, but some, and its first page is at a link.
+pub fn shorten(nodes: &mut [u32], cap: usize, x: usize, first: u32)
+    requires { ⌜ NodeTable cap (now nodes) ⌝ }
+    requires { ⌜ x < cap ⌝ }
+    requires { ⌜ first ≤ mostPages ⌝ }
+    ensures { λ r. ⌜ now (nodes .exit) ≡ shorter (now (nodes .entry)) cap x first ⌝ }
+{
+    let count = one_less(page_count(nodes, cap, x));
+    nodes[state_at(cap, x)] = first + count * COUNTS;
 }

@@ -10,7 +10,7 @@ use Rattle.meaning.specs.Trie.{Tree}
 use Rattle.meaning.specs.Ledger.{Settings, Call, ifOpening}
 use Rattle.meaning.specs.Questions.{inLimits, asked}
 use Rattle.layout.specs.Settings.{settingsLength, registerLength, header, showsOpening}
-use Rattle.layout.specs.Nodes.{freeState, leafState}
+use Rattle.layout.specs.Nodes.{freeState, emptyState}
 use Rattle.layout.specs.Lengths.{nodesLength, pagesLength, sketchesLength, workingLength}
 use Rattle.promises.specs.Tables.{Tables, takes, given, byTables}
 
@@ -62,7 +62,7 @@ unfoldable pub freshChain : Settings → ℕ → ℕ
 freshChain s x = cond (ltb x (s .blocks)) 0 (freeLink (s .nodes) (suc x))
 
 unfoldable pub freshState : Settings → ℕ → ℕ
-freshState s x = cond (ltb x (s .blocks)) (leafState 0) freeState
+freshState s x = cond (ltb x (s .blocks)) emptyState freeState
 
 unfoldable pub freshNodes : Settings → List ℕ
 freshNodes s = map (freshChain s) (upto (s .nodes)) ++ (map (freshState s) (upto (s .nodes)) ++ replicate (8 * s .nodes) 0)

@@ -1,6 +1,7 @@
 -- A store is sound (document 01): the tables hold a trie for each block, in which the live pages stand and no others, and every
 -- other node is free to use. It need not be one that calls can reach. This layout adds that the signature stored for a live page is
--- that of its row, and document 02 (F-5) that each reader's entry is what the records of memberships and grants say.
+-- that of its row, and document 02 that each reader's entry is what the records of memberships and grants say (F-5), and that the number
+-- in a leaf is that of its pages (F-6), which `cells` says.
 use Prim.Native.Nat.{ℕ, suc, _+_, _<_}
 use mathlib.Core.Path.{_≡_}
 use mathlib.Core.Bool.{Bool, true, _&&_}

@@ -11,7 +11,7 @@ ghost use Rattle.layout.specs.Header.{headerOf, withThresholds, openingOf};
 use layout::Header;
 use layout::Opening;
 
-const MARK: u32 = 0x56440003;
+const MARK: u32 = 0x56440004;
 
 // How many words the table needs.
 pub const LENGTH: usize = 903;

@@ -11,10 +11,11 @@ use Rattle.meaning.specs.Trie.{Tree, inner, Children, byteAt}
 use Rattle.layout.specs.Nodes.{mostNodes}
 use Rattle.layout.specs.States.{kindOf}
 use Rattle.layout.specs.declared.nodes.Kind.the-variants as kind
-use Rattle.layout.proofs.States.{kind-state}
+use Rattle.layout.proofs.States.{inner-kind}
 use Rattle.children.specs.Heap.{Cells, Holds, node}
 use Rattle.children.specs.Places.{findPlace}
 use Rattle.children.specs.Phys.{Phys, Kids, root, tree, childrenOf, first, cells, State, leafP, innerP}
+use Rattle.children.proofs.Leaves.{held-kind}
 use Rattle.children.proofs.Held.{Held, gap, held, answer}
 use Rattle.children.proofs.Spot.{SpotK, spot}
 use Rattle.trie_laws.specs.Path.{hasBelow, hasPath, subtree, pathOf, depth}
@@ -107,14 +108,14 @@ module _ (cap pcap base : ℕ) (small : cap ≤ mostNodes) (bytesOf : ℕ → Li
     at-leaf : (k s n : ℕ) (ps : List ℕ) → Way cap pcap base small bytesOf p t k (leafP n ps) → Linked t k (leafP n ps) s → Arrives t (descend N cap Y n s k (length Y - k))
     unfolding hasBelow
     at-leaf k s n ps w l =
-        let z : kindOf N cap n ≡ kind.Leaf (first ps) = kind-state N cap n (kind.Leaf (first ps)) (there k (leafP n ps) w .0) in
+        let z : kindOf N cap n ≡ kind.Leaf (first ps) = held-kind N cap n ps (there k (leafP n ps) w .0) (w .sound .1) (st .pageTable .small) in
         subst (Arrives t) (desc-leaf N cap Y n s k (descend N cap Y n s k (length Y - k)) refl step.Leaf (step-leaf N cap Y n k (kindOf N cap n) refl (first ps) z) refl)
         (record { pages = ps; way = w; linked = l; deep = deep-end t k (leafP n ps) w refl })
 
     module _ (k s n : ℕ) (ks : Kids) (w : Way cap pcap base small bytesOf p t k (innerP n ks)) (l : k < length Y) (o : SpotK cap pcap base small ks n (byteAt bytesOf k p)) where
       step-by : (x : Held) → o .there ≡ x → stepBy (answer x (o .slot)) ≡ stepTo N cap Y n k
       step-by x e =
-          step-inner N cap Y n k (kindOf N cap n) refl (kind-state N cap n kind.Inner (there k (innerP n ks) w .0)) l (answer x (o .slot))
+          step-inner N cap Y n k (kindOf N cap n) refl (inner-kind N cap n (there k (innerP n ks) w .0)) l (answer x (o .slot))
           (ap (λ (z : Held). answer z (o .slot)) (sym e) ∙ sym (o .find N P (there k (innerP n ks) w .1)) ∙ ap (findPlace N cap n) (y .bytes k l))
 
       at-gap : o .there ≡ gap → Arrives t (descend N cap Y n s k (length Y - k))

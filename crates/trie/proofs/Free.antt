@@ -4,7 +4,7 @@ use native.Mathlib.Omega.{arith}
 use mathlib.Core.Path.{refl}
 use mathlib.Core.List.{List, [], _∷_}
 use lib.ListN.{length-set}
-use Rattle.layout.specs.Nodes.{stateAt, freeState, innerState, leafState, mostNodes}
+use Rattle.layout.specs.Nodes.{stateAt, freeState, innerState, emptyState, mostNodes}
 use Rattle.children.specs.Heap.{Cells, node, _⊕_}
 use Rattle.children.specs.Phys.{Kids, first, noKids, freeCells, cells, kidCells, State, leafP, innerP}
 use Rattle.children.proofs.Frame.{Less, less, same-swap, node-write, nodes-kept}
@@ -27,7 +27,7 @@ module _ (cap pcap base : ℕ) (small : cap ≤ mostNodes) {N P : List ℕ} {fre
     abbrev S : Cells
     S = noKids cap c ⊕ kidCells cap base (s .put gap) n ⊕ R
 
-    loose : Less (node c v ⊕ cells cap base (leafP c []) ⊕ kidCells cap base (s .put gap) n ⊕ R) (node (stateAt cap c) (leafState 0) ⊕ node c v ⊕ S)
+    loose : Less (node c v ⊕ cells cap base (leafP c []) ⊕ kidCells cap base (s .put gap) n ⊕ R) (node (stateAt cap c) emptyState ⊕ node c v ⊕ S)
     loose = record { holds = λ N P h. search; nodes = λ a. omega arith; pages = λ a. omega arith }
 
     together : Less (node c (first fs) ⊕ node (stateAt cap c) freeState ⊕ S) (cells cap base (innerP n (s .put gap)) ⊕ freeCells cap (c ∷ fs) ⊕ G)

@@ -5,7 +5,7 @@ use mathlib.Core.List.{List, [], _∷_}
 use native.Mathlib.Omega.{arith}
 use lib.ListN.{length-set}
 use Rattle.meaning.specs.Trie.{nodes}
-use Rattle.layout.specs.Nodes.{stateAt, freeState, innerState, leafState, mostNodes}
+use Rattle.layout.specs.Nodes.{stateAt, freeState, innerState, emptyState, mostNodes}
 use Rattle.layout.specs.States.{nextFree}
 use Rattle.trie.specs.declared.leaf.Got.the-variants.{Node}
 use Rattle.children.specs.Heap.{Cells, Heap, node, _⊕_}
@@ -31,7 +31,7 @@ module _ (cap pcap base : ℕ) (small : cap ≤ mostNodes) where
     unfolding R
     apart = record { holds = λ N P h. search; nodes = λ a. omega arith; pages = λ a. omega arith }
 
-    loose : Less (node (stateAt cap f) (leafState 0) ⊕ noKids cap f ⊕ node f (first fs) ⊕ kidCells cap base (s .put gap) n ⊕ R)
+    loose : Less (node (stateAt cap f) emptyState ⊕ noKids cap f ⊕ node f (first fs) ⊕ kidCells cap base (s .put gap) n ⊕ R)
         (node f (first fs) ⊕ cells cap base (leafP f []) ⊕ kidCells cap base (s .put gap) n ⊕ R)
     loose = record { holds = λ N P h. search; nodes = λ a. omega arith; pages = λ a. omega arith }
 
@@ -45,7 +45,7 @@ module _ (cap pcap base : ℕ) (small : cap ≤ mostNodes) where
         let h = less apart (subst (λ (x : Kids). Heap N P (cells cap base (innerP n x) ⊕ freeCells cap (f ∷ fs) ⊕ G)) (sym (spot-same cap pcap base small s none)) (st .heap)) in
         let t = st .nodeTable in
         let lf : f < cap = st .below .0 in
-        let h1 = less loose (node-write (leafState 0) h (omega (arith, t .long))) in
+        let h1 = less loose (node-write emptyState h (omega (arith, t .long))) in
         record {
           heap = less together (put-in cap pcap base small s R (leafP f []) (first fs) (nodes-kept (simp length-set) t) (st .sound .0) lf h1);
           sound = (st .sound .0, s .sound (held (leafP f [])) (lf, tt));

@@ -1,4 +1,4 @@
--- Chains of numbers: how `spanFrom` walks them, and that a leaf has no more pages than there are.
+-- Chains: how `spanFrom` walks the free nodes, and that a leaf has no more pages than there are.
 use Prim.Native.Nat.{ℕ, zero, suc, _+_, _-_, _<_, _≤_}
 use mathlib.Core.Path.{_≡_, refl, _∙_, sym}
 use mathlib.Core.List.{List, [], _∷_}
@@ -16,30 +16,27 @@ use Rattle.children.specs.Phys.{first, pageCells, freeCells, Below, State, leaf
 use Rattle.children.proofs.Frame.{hit-other, hit-same}
 use Rattle.trie.proofs.Steps.{span-out, span-end, span-next}
 
--- each number of a list links to the next, from base on
+-- ---- the free nodes
+abbrev pub spanOf : ℕ → ℕ → Span
+spanOf f n = cond (leb f n) Enough Short
+
+pub free-span : (N P : List ℕ) (cap : ℕ) (fs : List ℕ) (l n : ℕ) → Holds (freeCells cap fs) N P → Below cap fs → l ≡ first fs → spanFrom N cap l n ≡ spanOf n (length fs)
+free-span N P cap fs l zero h b e = rw (le-leb 0 (length fs) (omega arith)) (sym (span-out N cap l 0 _ refl refl))
+free-span N P cap [] l (suc n) h b e = rw (lt-leb (suc n) 0 (omega arith)) (sym (span-end N cap l (suc n) _ refl (omega arith) e))
+free-span N P cap (f ∷ fs) l (suc n) h b e =
+    let q : l - 1 ≡ f = omega arith in
+    let z : suc n - 1 ≡ n = omega arith in
+    let w = span-next N cap l (suc n) _ refl (omega arith) (omega arith) (omega (arith, b .0)) _ refl in
+    sym w ∙ rw (q, z, leb·suc-suc n (length fs)) (free-span N P cap fs (getD N f 0) n (h .1 .1 .1) (b .1) (h .0))
+
+-- ---- the pages of a leaf: each links to the next, from base on
 abbrev pub Linked : List ℕ → ℕ → List ℕ → Type 0
 Linked T base [] = Unit {0}
 Linked T base (x ∷ xs) = (getD T (base + x) 0 ≡ first xs) × Linked T base xs
 
-abbrev pub spanOf : ℕ → ℕ → Span
-spanOf f n = cond (leb f n) Enough Short
-
-pub span-right : (T : List ℕ) (base cap : ℕ) (xs : List ℕ) (l f : ℕ) → Linked T base xs → Below cap xs → l ≡ first xs → spanFrom T base cap l f ≡ spanOf f (length xs)
-span-right T base cap xs l zero h b e = rw (le-leb 0 (length xs) (omega arith)) (sym (span-out T base cap l 0 _ refl refl))
-span-right T base cap [] l (suc f) h b e = rw (lt-leb (suc f) 0 (omega arith)) (sym (span-end T base cap l (suc f) _ refl (omega arith) e))
-span-right T base cap (x ∷ xs) l (suc f) h b e =
-    let q : l - 1 ≡ x = omega arith in
-    let z : suc f - 1 ≡ f = omega arith in
-    let w = span-next T base cap l (suc f) _ refl (omega arith) (omega arith) (omega (arith, b .0)) in
-    sym w ∙ rw (q, z, leb·suc-suc f (length xs)) (span-right T base cap xs (getD T (base + x) 0) f (h .1) (b .1) (h .0))
-
 pub pages-linked : (N P : List ℕ) (base : ℕ) (ps : List ℕ) → Holds (pageCells base ps) N P → Linked P base ps
 pages-linked N P base [] h = tt
 pages-linked N P base (p ∷ ps) h = (h .0, pages-linked N P base ps (h .1))
-
-pub frees-linked : (N P : List ℕ) (cap : ℕ) (fs : List ℕ) → Holds (freeCells cap fs) N P → Linked N 0 fs
-frees-linked N P cap [] h = tt
-frees-linked N P cap (f ∷ fs) h = let e : 0 + f ≡ f = omega arith in (rw e (h .0), frees-linked N P cap fs (h .1 .1 .1))
 
 -- a sum over the numbers below m
 unfoldable pub sumTo : ℕ → (ℕ → ℕ) → ℕ

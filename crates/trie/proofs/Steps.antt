@@ -54,15 +54,15 @@ module _ (N : List ℕ) (cap n b free : ℕ) (r : Place) (e : r ≡ findPlace N 
   child-nowhere q = rw (sym e ∙ q) refl
 
 -- `spanFrom` at each way out of a turn. R is what the walk comes to in the end
-module _ (T : List ℕ) (base cap l f : ℕ) (R : Span) (inv : spanFrom T base cap l f ≡ R) where
+module _ (N : List ℕ) (cap l f : ℕ) (R : Span) (inv : spanFrom N cap l f ≡ R) where
   pub span-out : f ≡ 0 → Enough ≡ R
   unfolding spanFrom
   span-out e = rw e at inv
 
   module _ (h : f ≡ 0 → ⊥) where
-    span-step : cond (eqb l 0) Short (cond (ltb cap l) spans.Broken (spanFrom T base cap (getD T (base + (l - 1)) 0) (f - 1))) ≡ R
+    span-step : cond (eqb l 0) Short (cond (ltb cap l) spans.Broken (spanFrom N cap (nextFree N (l - 1)) (f - 1))) ≡ R
     unfolding spanFrom
-    span-step = ap (spanFrom T base cap l) (sym (suc-pred f h)) ∙ inv
+    span-step = ap (spanFrom N cap l) (sym (suc-pred f h)) ∙ inv
 
     pub span-end : l ≡ 0 → Short ≡ R
     span-end e = rw (eq-eqb l 0 e) at span-step
@@ -71,5 +71,5 @@ module _ (T : List ℕ) (base cap l f : ℕ) (R : Span) (inv : spanFrom T base c
       pub span-broken : cap < l → spans.Broken ≡ R
       span-broken m = rw (ne-eqb l 0 e, lt-ltb cap l m) at span-step
 
-      pub span-next : l ≤ cap → spanFrom T base cap (getD T (base + (l - 1)) 0) (f - 1) ≡ R
-      span-next m = rw (ne-eqb l 0 e, le-ltb cap l m) at span-step
+      pub span-next : l ≤ cap → (next : ℕ) → next ≡ nextFree N (l - 1) → spanFrom N cap next (f - 1) ≡ R
+      span-next m next q = rw q (rw (ne-eqb l 0 e, le-ltb cap l m) at span-step)

@@ -4,7 +4,7 @@ use mathlib.Core.List.{List}
 use mathlib.Core.Bool.{cond}
 use lib.Dec.{ltb, eqb}
 use lib.ListN.{getD, set}
-use Rattle.layout.specs.Nodes.{stateAt, leafState}
+use Rattle.layout.specs.Nodes.{stateAt, emptyState}
 use Rattle.layout.specs.States.{nextFree, withFree}
 use Rattle.children.specs.Places.{findPlace}
 use Rattle.children.specs.Links.{putIn, takeOut}
@@ -19,7 +19,7 @@ use Rattle.trie.specs.declared.span.Span.the-variants as spans
 
 -- node f as an empty leaf with byte b, linked into slot s before what the slot linked to
 unfoldable pub linkLeaf : List ℕ → ℕ → ℕ → ℕ → ℕ → List ℕ
-linkLeaf N cap s f b = putIn (set N (stateAt cap f) (leafState 0)) s f b
+linkLeaf N cap s f b = putIn (set N (stateAt cap f) emptyState) s f b
 
 -- the node table and the answer
 pub data Made : Type 0 where
@@ -50,7 +50,7 @@ childLeaf N cap n b free = madeAt N cap b free (findPlace N cap n b)
 unfoldable pub freeChild : List ℕ → ℕ → ℕ → ℕ → ℕ → List ℕ
 freeChild N cap s c free = withFree (takeOut N s c) cap c free
 
--- whether a chain from link l on has f members, whose links stand from base on
-unfoldable pub spanFrom : List ℕ → ℕ → ℕ → ℕ → ℕ → Span
-spanFrom T base cap l zero = Enough
-spanFrom T base cap l (suc f) = cond (eqb l 0) Short (cond (ltb cap l) spans.Broken (spanFrom T base cap (getD T (base + (l - 1)) 0) f))
+-- whether the chain of free nodes from link l on has f members
+unfoldable pub spanFrom : List ℕ → ℕ → ℕ → ℕ → Span
+spanFrom N cap l zero = Enough
+spanFrom N cap l (suc f) = cond (eqb l 0) Short (cond (ltb cap l) spans.Broken (spanFrom N cap (nextFree N (l - 1)) f))

@@ -9,8 +9,8 @@ use children::links::take_out;
 use children::place::Place;
 use children::place::find_place;
 use layout::nodes::next_free;
+use layout::nodes::set_empty;
 use layout::nodes::set_free;
-use layout::nodes::set_leaf;
 
 // Node f as an empty leaf with a byte, linked into a slot before what the slot linked to.
 fn link_leaf(nodes: &mut [u32], cap: usize, slot: usize, f: usize, byte: u32)
@@ -20,7 +20,7 @@ fn link_leaf(nodes: &mut [u32], cap: usize, slot: usize, f: usize, byte: u32)
     requires { ⌜ byte < 256 ⌝ }
     ensures { λ r. ⌜ now (nodes .exit) ≡ linkLeaf (now (nodes .entry)) cap slot f byte ⌝ }
 {
-    set_leaf(nodes, cap, f, 0);
+    set_empty(nodes, cap, f);
     put_in(nodes, cap, slot, f, byte);
 }
 

@@ -94,6 +94,7 @@ pub fn trace_to(
     ensures { λ r. ⌜ r ≡ descendTo (now (nodes .entry)) cap root (now (bytes .entry)) ⌝ }
     ensures inside { λ r. ⌜ Inside cap (length (now (bytes .entry))) r ⌝ }
     ensures path { λ r. ⌜ Noted (noted (now (above .exit)) (now (slots .exit))) (passedAt (now (nodes .entry)) cap root (now (bytes .entry))) (levelOf r) ⌝ }
+    ensures long { λ r. ⌜ (length (now (above .exit)) ≡ 64) × (length (now (slots .exit)) ≡ 64) ⌝ }
 {
     let mut n = root;
     let mut slot = 0;

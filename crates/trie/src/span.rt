@@ -1,20 +1,20 @@
-// Chains of links: the free nodes, or the pages of a leaf.
+// How many nodes are free.
 ghost use mathlib.Core.Path.{_≡_};
-ghost use Prim.Native.Nat.{_+_, _≤_};
-ghost use lib.ListN.{length};
+ghost use Rattle.layout.specs.Tables.{NodeTable};
 ghost use Rattle.trie.specs.Model.{spanFrom};
+use layout::nodes::next_free;
 
-// Whether a chain has a number of members.
+// Whether their chain has a number of members.
 pub enum Span {
     Enough,
     Short,
     Broken,
 }
 
-// The chain begins at link `first`; member i, below `cap`, has its link at base + i.
-pub fn at_least(table: &[u32], base: usize, cap: usize, first: u32, need: usize) -> Span
-    requires { ⌜ base + cap ≤ length (now table) ⌝ }
-    ensures { λ r. ⌜ r ≡ spanFrom (now (table .entry)) base cap first need ⌝ }
+// Are at least `need` nodes free? Their chain begins at link `first`.
+pub fn enough_free(nodes: &[u32], cap: usize, first: u32, need: usize) -> Span
+    requires { ⌜ NodeTable cap (now nodes) ⌝ }
+    ensures { λ r. ⌜ r ≡ spanFrom (now (nodes .entry)) cap first need ⌝ }
 {
     let mut link = first as usize;
     let mut left = need;
@@ -28,7 +28,7 @@ pub fn at_least(table: &[u32], base: usize, cap: usize, first: u32, need: usize)
         if cap < link {
             return Span::Broken;
         }
-        link = table[base + (link - 1)] as usize;
+        link = next_free(nodes, cap, link - 1) as usize;
         left -= 1;
     }
 }

@@ -1,7 +1,7 @@
 -- `kind_of` is `kindOf`, a test at a time.
-use borrow.Author.Needs.{needs}
 use borrow.Author.Tests.{eq-eqb, ne-eqb}
 use Rattle.layout.specs.States.{kindOf}
+use borrow.Author.Needs.{needs}
 use Rattle.layout.proofs.nodes.kind_of.Statement.{statement}
 use Rattle.layout.proofs.nodes.kind_of.Tie as tie
 
@@ -22,9 +22,6 @@ returns-2 : tie.Need-returns-2
 unfolding kindOf
 returns-2 c = rw (← c .before .before .before .state-at .ensures, ne-eqb _ _ (c .before .if1 .left), eq-eqb _ _ (c .if2 .taken))
 
-sub-t8 : tie.Need-sub-t8
-sub-t8 c = search needs
-
 returns-3 : tie.Need-returns-3
 unfolding kindOf
 returns-3 c = rw (← c .before .before .before .state-at .ensures, ne-eqb _ _ (c .before .if1 .left), ne-eqb _ _ (c .if2 .left))
@@ -32,11 +29,4 @@ returns-3 c = rw (← c .before .before .before .state-at .ensures, ne-eqb _ _ (
 pub kind-of-spec : {M : Type 1} → statement M
 kind-of-spec =
     tie.close
-    (tie.spec
-    state-at-requires
-    mul-state
-    shared-slice-read-state
-    returns
-    returns-2
-    sub-t8
-    returns-3)
+    (tie.spec state-at-requires mul-state shared-slice-read-state returns returns-2 returns-3)

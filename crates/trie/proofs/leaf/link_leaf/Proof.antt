@@ -4,8 +4,8 @@ use borrow.Author.Needs.{needs}
 use Rattle.trie.proofs.leaf.link_leaf.Statement.{statement}
 use Rattle.trie.proofs.leaf.link_leaf.Tie as tie
 
-set-leaf-requires : tie.Need-set-leaf-requires
-set-leaf-requires c κs = search needs
+set-empty-requires : tie.Need-set-empty-requires
+set-empty-requires c κs = search needs
 
 put-in-requires : tie.Need-put-in-requires
 put-in-requires c κs = search needs
@@ -18,4 +18,4 @@ unfolding linkLeaf
 returns c = cc
 
 pub link-leaf-spec : {M : Type 1} → statement M
-link-leaf-spec = tie.close (tie.spec set-leaf-requires put-in-requires same-length returns)
+link-leaf-spec = tie.close (tie.spec set-empty-requires put-in-requires same-length returns)

@@ -72,19 +72,19 @@ enum-told : tie.Need-enum-told Inv-loop μ-loop
 enum-told c = search needs
 
 returns : tie.Need-returns Inv-loop μ-loop
-returns c = (search desc-leaf, ((omega arith, omega arith, omega arith), search needs))
+returns c = (search desc-leaf, ((omega arith, omega arith, omega arith), (search needs, (search needs, search needs))))
 
 enum-known-step-2 : tie.Need-enum-known-step-2 Inv-loop μ-loop
 enum-known-step-2 c = search needs
 
 returns-2 : tie.Need-returns-2 Inv-loop μ-loop
-returns-2 c = (search desc-gap, ((omega arith, search gap-at, search gap-below), search needs))
+returns-2 c = (search desc-gap, ((omega arith, search gap-at, search gap-below), (search needs, (search needs, search needs))))
 
 enum-told-2 : tie.Need-enum-told-2 Inv-loop μ-loop
 enum-told-2 c = search needs
 
 returns-3 : tie.Need-returns-3 Inv-loop μ-loop
-returns-3 c = (search desc-nowhere, (tt, λ j l. absurd (omega arith)))
+returns-3 c = (search desc-nowhere, (tt, ((λ j l. absurd (omega arith)), (search needs, search needs))))
 
 pub trace-to-spec : {M : Type 1} → statement M
 trace-to-spec =

@@ -1,21 +1,18 @@
--- `at_least` is `spanFrom`: each turn takes one step of the definition.
+-- `enough_free` is `spanFrom`: each turn takes one step of the definition.
 use Prim.Native.Nat.{_≤_}
 use mathlib.Core.Path.{_≡_, refl}
 use native.Mathlib.Omega.{arith}
-use mir.Syntax.{w32}
-use mir.Facts.{fits-widen}
 use borrow.Author.Needs.{needs}
 use Rattle.trie.specs.Model.{spanFrom}
 use Rattle.trie.proofs.Steps.{span-out, span-end, span-broken, span-next}
-use Rattle.trie.proofs.span.at_least.Statement.{statement}
-use Rattle.trie.proofs.span.at_least.Tie as tie
+use Rattle.trie.proofs.span.enough_free.Statement.{statement}
+use Rattle.trie.proofs.span.enough_free.Tie as tie
 
 abbrev Inv-loop : tie.InvT-loop
-Inv-loop table base cap first need link₀ left₀ link left =
-    (spanFrom table base cap link left ≡ spanFrom table base cap first need) × (left ≤ need)
+Inv-loop nodes cap first need link₀ left₀ link left = (spanFrom nodes cap link left ≡ spanFrom nodes cap first need) × (left ≤ need)
 
 abbrev μ-loop : tie.MeasureT-loop
-μ-loop table base cap first need link₀ left₀ link left = left
+μ-loop nodes cap first need link₀ left₀ link left = left
 
 loop-holds : tie.Need-loop-holds Inv-loop μ-loop
 loop-holds c = (refl, omega arith)
@@ -29,20 +26,14 @@ returns-2 c = search span-end
 returns-3 : tie.Need-returns-3 Inv-loop μ-loop
 returns-3 c = search span-broken
 
-sub-link : tie.Need-sub-link Inv-loop μ-loop
-sub-link c = search needs
+sub-next-free : tie.Need-sub-next-free Inv-loop μ-loop
+sub-next-free c = search needs
 
-add-link : tie.Need-add-link Inv-loop μ-loop
-add-link c = search needs
-
-mul-link : tie.Need-mul-link Inv-loop μ-loop
-mul-link c = search needs
-
-shared-slice-read-link : tie.Need-shared-slice-read-link Inv-loop μ-loop
-shared-slice-read-link c = search needs
+next-free-requires : tie.Need-next-free-requires Inv-loop μ-loop
+next-free-requires c κs = search (needs, arith)
 
 cast-link : tie.Need-cast-link Inv-loop μ-loop
-cast-link c = fits-widen {w = w32} tt (c .shared-slice-known .given _)
+cast-link c = search needs
 
 sub-left : tie.Need-sub-left Inv-loop μ-loop
 sub-left c = search needs
@@ -53,8 +44,8 @@ loop-less c = omega arith
 loop-again : tie.Need-loop-again Inv-loop μ-loop
 loop-again c = search (span-next, arith)
 
-pub at-least-spec : {M : Type 1} → statement M
-at-least-spec =
+pub enough-free-spec : {M : Type 1} → statement M
+enough-free-spec =
     tie.close
     (tie.spec
     Inv-loop
@@ -63,10 +54,8 @@ at-least-spec =
     returns
     returns-2
     returns-3
-    sub-link
-    add-link
-    mul-link
-    shared-slice-read-link
+    sub-next-free
+    next-free-requires
     cast-link
     sub-left
     loop-less
