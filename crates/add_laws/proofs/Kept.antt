@@ -13,7 +13,7 @@ use Rattle.layout.specs.Lengths.{pagesLength}
 use Rattle.layout.specs.Pages.{nextAt, linksAt}
 use Rattle.layout.specs.Nodes.{stateAt, nodeWords}
 use Rattle.layout.proofs.Words.{link-behind}
-use Rattle.layout.specs.States.{kindOf}
+use Rattle.layout.specs.States.{kindOf, longer}
 use Rattle.layout.specs.declared.nodes.Kind.{Kind}
 use Rattle.layout.specs.declared.nodes.Kind.the-variants as kind
 use Rattle.blocks.specs.declared.Level.{Level}
@@ -22,9 +22,6 @@ use Rattle.trie.specs.declared.leaf.Got.the-variants.{Node, Full}
 use Rattle.trie.specs.declared.leaf.Got.the-variants as got
 use Rattle.children.specs.declared.place.Place.{Place}
 use Rattle.children.specs.declared.place.Place.the-variants.{Found, Missing, Broken}
-use Rattle.trie.specs.declared.span.Span.{Span}
-use Rattle.trie.specs.declared.span.Span.the-variants.{Enough, Short}
-use Rattle.trie.specs.declared.span.Span.the-variants as spans
 use Rattle.blocks.specs.Tables.{RowTable}
 use Rattle.blocks.specs.Packed.{pageByte, levelAt}
 use Rattle.children.specs.Places.{Inside, findPlace}
@@ -40,7 +37,7 @@ use Rattle.trie.proofs.Inside.{descend-inside}
 use Rattle.trie_insert.specs.declared.insert.Target.the-variants.{Ready, NoRoom}
 use Rattle.trie_insert.specs.declared.insert.Target.the-variants as target
 use Rattle.trie_insert.specs.Pages.{Pushed, pushed, pushAt, pushPage, After, after, putDone, putInto, putLeafM}
-use Rattle.trie_insert.specs.Split.{onPut, splitFrom, openLeaf, tooLong, splitLeaf, growSpan, growInto, growLeaf}
+use Rattle.trie_insert.specs.Split.{onPut, splitFrom, openLeaf, tooLong, splitLeaf, growBy, growInto, growLeaf}
 use Rattle.trie_insert.specs.Insert.{Aimed, aimed, targetIn, aimMade, aimAt, leafFor, insertAt, insertPage}
 use Rattle.blocks.specs.RowBytes.{rowsOf}
 use Rattle.store.specs.Within.{Within, Both}
@@ -111,7 +108,7 @@ module _ (cap lo hi : ℕ) where
 -- the links of a block's pages lie from base on
 module _ (cap pcap base lo hi : ℕ) (low : lo ≤ base) (high : base + pcap ≤ hi) where
   push-kept : (N P : List ℕ) (n p : ℕ) → n < cap → p < pcap → KeptP cap lo hi N P (pushPage N P cap base n p)
-  unfolding pushPage
+  unfolding pushPage longer
   push-kept N P n p ln lp = go (kindOf N cap n)
     where
       go : (q : Kind) → KeptP cap lo hi N P (pushAt N P cap base n p q)
@@ -159,14 +156,13 @@ module _ (cap pcap base lo hi : ℕ) (low : lo ≤ base) (high : base + pcap ≤
         go false e false m (after N' P' got.Broken) h ih = h (omega (arith, eqb-false l 0 e, ltb-false pcap l m))
 
     module _ (τ : List ℕ) (r : Rows) (rows : RowTable pcap r S) where
-      span-kept : (N P : List ℕ) (k n p free : ℕ) → n < cap → (q : Span) → Kept cap lo hi N P (growSpan S τ r cap pcap base N P k n p free q)
+      by-kept : (N P : List ℕ) (k n p free : ℕ) → n < cap → (q : Bool) → Kept cap lo hi N P (growBy S τ r cap pcap base N P k n p free q)
       unfolding splitLeaf
-      span-kept N P k n p free ln Enough =
+      by-kept N P k n p free ln true =
           onto N P (openLeaf N cap n) P (node-set cap N (stateAt cap n) _ (omega arith)) within-none
           (splitFrom S (levelAt r k) cap pcap base n (openLeaf N cap n) P (p + 1) free (pcap + 1))
           (split-kept (levelAt r k) n ln (λ q. byte-small pcap (levelAt r k) S q (level-table pcap r S k rows)) (pcap + 1) (openLeaf N cap n) P (p + 1) free)
-      span-kept N P k n p free ln Short = (within-none, within-none)
-      span-kept N P k n p free ln spans.Broken = (within-none, within-none)
+      by-kept N P k n p free ln false = (within-none, within-none)
 
       grow-kept : (N P : List ℕ) (k n p free : ℕ) → n < cap → p < pcap → Kept cap lo hi N P (growLeaf S τ r cap pcap base N P k n p free)
       unfolding growLeaf
@@ -175,8 +171,8 @@ module _ (cap pcap base lo hi : ℕ) (low : lo ≤ base) (high : base + pcap ≤
           go : (q : Pushed) → KeptP cap lo hi N P q → Kept cap lo hi N P (growInto S τ r cap pcap base k n p free q)
           go (pushed N' P' false) h = h
           go (pushed N' P' true) h =
-              onto N P N' P' (h .0) (h .1) (growSpan S τ r cap pcap base N' P' k n p free (tooLong τ r pcap base P' k (p + 1)))
-              (span-kept N' P' k n p free ln (tooLong τ r pcap base P' k (p + 1)))
+              onto N P N' P' (h .0) (h .1) (growBy S τ r cap pcap base N' P' k n p free (tooLong τ r N' cap k n))
+              (by-kept N' P' k n p free ln (tooLong τ r N' cap k n))
 
       insert-kept : (N P Y : List ℕ) → ((k : ℕ) → getD Y k 0 < 256) → (root p free : ℕ) → root < cap → p < pcap →
           Kept cap lo hi N P (insertPage S τ r cap pcap base N P Y root p free)

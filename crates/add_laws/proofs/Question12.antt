@@ -15,7 +15,7 @@ use Rattle.layout.specs.Settings.{freeAt}
 use Rattle.trie.specs.declared.span.Span.the-variants.{Enough, Short}
 use Rattle.children.specs.Heap.{nil}
 use Rattle.children.proofs.Frame.{less}
-use Rattle.trie.proofs.Spans.{span-right, frees-linked}
+use Rattle.trie.proofs.Spans.{free-span}
 use Rattle.trie_laws.specs.Block.{SoundBlock, EachFrom}
 use Rattle.trie_laws.specs.Needed.{sumFrom}
 use Rattle.trie_laws.proofs.Forest.{total-add}
@@ -65,8 +65,7 @@ module _ (T : Tables) (F : List Tree) (sound : Sound T F) (roomy : Roomy (given 
   room-right =
       let H = sound .holding in
       rw (all-right)
-      (span-right (T .nodes) 0 (given T .nodes) (sound .free) (getD (T .settings) freeAt 0) newNeeds
-      (frees-linked (T .nodes) (T .pages) (given T .nodes) (sound .free) (H .words .holds .1)) (H .below) (H .chain)
+      (free-span (T .nodes) (T .pages) (given T .nodes) (sound .free) (getD (T .settings) freeAt 0) newNeeds (H .words .holds .1) (H .below) (H .chain)
       ∙ ap (λ t. cond t Enough Short)
       (sym (ap (λ n. leb n (given T .nodes)) (total-add (given T) (rowsOf T) p c x F)
       ∙ leb-sum (totalNodes F) newNeeds (length (sound .free)) (given T .nodes)

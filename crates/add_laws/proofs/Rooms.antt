@@ -49,7 +49,7 @@ needs-few s N P S x j r e n m =
 
 -- and whether so many are free
 module _ (s : Settings) (N P S x : List ℕ) (free : ℕ) (r : Needed) (e : r ≡ allNeeded s N P S x) where
-  pub room-counted : (n : ℕ) → r ≡ Nodes n → (q : Span) → q ≡ spanFrom N 0 (s .nodes) free n → q ≡ roomOf s N P S x free
+  pub room-counted : (n : ℕ) → r ≡ Nodes n → (q : Span) → q ≡ spanFrom N (s .nodes) free n → q ≡ roomOf s N P S x free
   unfolding roomOf
   room-counted n m q f = rw (← e, m) f
 

@@ -36,4 +36,4 @@ module _ (s : Settings) (N P S x : List ℕ) where
 
   -- are so many free, from the free link on?
   unfoldable pub roomOf : ℕ → Span
-  roomOf free = whereFree (spanFrom N 0 (s .nodes) free) allNeeded
+  roomOf free = whereFree (spanFrom N (s .nodes) free) allNeeded

@@ -11,7 +11,7 @@ use blocks::rows_of;
 use layout::Header;
 use leaf_bytes::Needed;
 use trie::span::Span;
-use trie_room::needed::enough_free;
+use trie::span::enough_free;
 use trie_room::needed::nodes_needed;
 
 // How many nodes the trie of block j needs.

@@ -1,29 +1,28 @@
 -- A page put into a leaf, which is split where it is too long then: `growLeaf` is `addLeaf`, if there are free nodes enough.
 use Prim.Native.Nat.{ℕ, suc, _+_, _<_, _≤_}
-use mathlib.Core.Path.{_≡_, refl, ap, _∙_, sym}
+use mathlib.Core.Path.{_≡_, refl, ap, sym}
 use mathlib.Core.List.{List, _∷_}
 use mathlib.Core.Bool.{Bool, true, false, cond, _&&_}
 use native.Mathlib.Omega.{arith}
-use borrow.Author.Tests.{le-leb, lt-leb, ltb-true, ltb-false}
+use borrow.Author.Tests.{ltb-true}
 use lib.Dec.{ltb}
 use lib.ListN.{length, getD}
 use Rattle.meaning.specs.Trie.{Tree, leaf, inner, none, byteAt, split, addLeaf, nodes, nodesIn}
 use Rattle.layout.specs.Nodes.{stateAt, innerState, leafState, mostNodes}
 use Rattle.trie.specs.declared.leaf.Got.the-variants.{Node}
 use Rattle.blocks.specs.declared.Rows.{Rows}
-use Rattle.trie.specs.declared.span.Span.the-variants.{Enough, Short}
 use Rattle.children.specs.Heap.{Cells, node, page, _⊕_}
 use Rattle.blocks.specs.Tables.{RowTable}
 use Rattle.blocks.specs.Packed.{pageByte, levelAt}
-use Rattle.trie.specs.Model.{spanFrom}
-use Rattle.children.specs.Phys.{Phys, noKid, root, tree, first, pageCells, noKids, freeCells, cells, Below, State, leafP, innerP}
+use Rattle.children.specs.Phys.{Phys, noKid, root, tree, first, pageCells, noKids, freeCells, cells, State, leafP, innerP}
 use Rattle.children.proofs.Frame.{Less}
+use Rattle.children.proofs.Leaves.{held-count}
 use Rattle.trie.proofs.Restate.{restate}
 use Rattle.blocks.proofs.Bytes.{level-table, byte-small}
-use Rattle.trie.proofs.Spans.{Linked, spanOf, span-right, pages-linked, leaf-most}
+use Rattle.trie.proofs.Spans.{leaf-most}
 use Rattle.trie_insert.specs.Pages.{pushNodes, pushPages, pushPage, After, pushed, after}
 use Rattle.trie_insert.specs.Split.{splitFrom, openLeaf, tooLong, splitLeaf, growLeaf}
-use Rattle.trie_insert.proofs.Steps.{long-deep, long-span, grow-short, grow-split}
+use Rattle.trie_insert.proofs.Steps.{grow-short, grow-split}
 use Rattle.trie_insert.proofs.Push.{push-ok, push-state}
 use Rattle.trie_insert.proofs.Splits.{SplitDone, split-right}
 
@@ -43,7 +42,7 @@ pub record Grown (cap pcap base n total : ℕ) (want : Tree) (G : Cells) (a : Af
 
 -- a leaf opened: its pages are loose
 module _ {cap pcap base : ℕ} {N P : List ℕ} {free n : ℕ} {ps fs : List ℕ} {G : Cells} (st : State cap pcap base N P free (leafP n ps) fs G) where
-  apart : Less (cells cap base (leafP n ps) ⊕ freeCells cap fs ⊕ G) (node (stateAt cap n) (leafState (first ps)) ⊕ noKids cap n ⊕ freeCells cap fs ⊕ pageCells base ps ⊕ G)
+  apart : Less (cells cap base (leafP n ps) ⊕ freeCells cap fs ⊕ G) (node (stateAt cap n) (leafState (length ps) (first ps)) ⊕ noKids cap n ⊕ freeCells cap fs ⊕ pageCells base ps ⊕ G)
   apart = record { holds = λ N P h. search; nodes = λ a. omega arith; pages = λ a. omega arith }
 
   together : Less (node (stateAt cap n) innerState ⊕ noKids cap n ⊕ freeCells cap fs ⊕ pageCells base ps ⊕ G) (cells cap base (innerP n noKid) ⊕ freeCells cap fs ⊕ pageCells base ps ⊕ G)
@@ -54,21 +53,6 @@ module _ {cap pcap base : ℕ} {N P : List ℕ} {free n : ℕ} {ps fs : List ℕ
 
 module _ (bytesOf : ℕ → List ℕ) (S τ : List ℕ) (r : Rows) (cap pcap base k : ℕ) (rows : RowTable pcap r S)
     (are : k < r .bytes → (p : ℕ) → p < pcap → byteAt bytesOf k p ≡ pageByte S (levelAt r k) p) where
-  -- whether the leaf is too long
-  long-right : (N P : List ℕ) (p : ℕ) (ps : List ℕ) → Linked P base (p ∷ ps) → Below pcap (p ∷ ps) →
-      tooLong τ r pcap base P k (p + 1) ≡ cond (ltb k (r .bytes) && ltb (getD τ k 0) (suc (length ps))) Enough Short
-  long-right N P p ps h b = go (ltb k (r .bytes)) refl (ltb (getD τ k 0) (suc (length ps))) refl
-    where
-      span : spanFrom P base pcap (p + 1) (getD τ k 0 + 1) ≡ spanOf (getD τ k 0 + 1) (suc (length ps))
-      span = span-right P base pcap (p ∷ ps) (p + 1) (getD τ k 0 + 1) h b refl
-
-      go : (x : Bool) → ltb k (r .bytes) ≡ x → (y : Bool) → ltb (getD τ k 0) (suc (length ps)) ≡ y → tooLong τ r pcap base P k (p + 1) ≡ cond (x && y) Enough Short
-      go false e y q = sym (long-deep τ r pcap base P k (p + 1) (ltb-false k (r .bytes) e))
-      go true e true q =
-          sym (long-span τ r pcap base P k (p + 1) (ltb-true k (r .bytes) e) Enough (sym (span ∙ rw (le-leb (getD τ k 0 + 1) (suc (length ps)) (omega (arith, ltb-true (getD τ k 0) (suc (length ps)) q))) refl)))
-      go true e false q =
-          sym (long-span τ r pcap base P k (p + 1) (ltb-true k (r .bytes) e) Short (sym (span ∙ rw (lt-leb (getD τ k 0 + 1) (suc (length ps)) (omega (arith, ltb-false (getD τ k 0) (suc (length ps)) q))) refl)))
-
   module _ {N P : List ℕ} {free n p v : ℕ} {ps fs : List ℕ} {G : Cells} (small : cap ≤ mostNodes)
       (st : State cap pcap base N P free (leafP n ps) fs (page (base + p) v ⊕ G)) (lp : p < pcap) where
     N1 : List ℕ
@@ -81,15 +65,17 @@ module _ (bytesOf : ℕ → List ℕ) (S τ : List ℕ) (r : Rows) (cap pcap bas
     unfolding N1 P1
     st1 = push-state st lp
 
-    long : tooLong τ r pcap base P1 k (p + 1) ≡ cond (ltb k (r .bytes) && ltb (getD τ k 0) (suc (length ps))) Enough Short
-    long = long-right N1 P1 p ps (pages-linked N1 P1 base (p ∷ ps) (st1 .heap .holds .0 .1 .1)) (st1 .sound .1)
+    -- whether the leaf is too long
+    long : tooLong τ r N1 cap k n ≡ (ltb k (r .bytes) && ltb (getD τ k 0) (suc (length ps)))
+    unfolding tooLong
+    long = rw (held-count N1 cap n (p ∷ ps) (st1 .heap .holds .0 .0) (st1 .sound .1) (st1 .pageTable .small)) refl
 
     ok : pushed N1 P1 true ≡ pushPage N P cap base n p
     unfolding N1 P1
     ok = sym (push-ok st lp)
 
     -- it stays a leaf
-    grow-leaf : tooLong τ r pcap base P1 k (p + 1) ≡ Short → Grown cap pcap base n (1 + length fs) (leaf (p ∷ ps)) G (growLeaf S τ r cap pcap base N P k n p free)
+    grow-leaf : tooLong τ r N1 cap k n ≡ false → Grown cap pcap base n (1 + length fs) (leaf (p ∷ ps)) G (growLeaf S τ r cap pcap base N P k n p free)
     unfolding nodes
     grow-leaf e =
         record {
@@ -99,7 +85,7 @@ module _ (bytesOf : ℕ → List ℕ) (S τ : List ℕ) (r : Rows) (cap pcap bas
           freeTo = free;
           to = leafP n (p ∷ ps);
           freesTo = fs;
-          is = sym (grow-short S τ r cap pcap base N P k n p free N1 P1 true ok refl Short (sym e) refl);
+          is = sym (grow-short S τ r cap pcap base N P k n p free N1 P1 true ok refl false (sym e) refl);
           state = st1;
           roots = refl;
           grown = refl;
@@ -107,7 +93,7 @@ module _ (bytesOf : ℕ → List ℕ) (S τ : List ℕ) (r : Rows) (cap pcap bas
         }
 
     -- or it is opened, and its pages are split
-    grow-inner : tooLong τ r pcap base P1 k (p + 1) ≡ Enough → k < r .bytes → nodesIn (split bytesOf k (p ∷ ps) none) ≤ length fs →
+    grow-inner : tooLong τ r N1 cap k n ≡ true → k < r .bytes → nodesIn (split bytesOf k (p ∷ ps) none) ≤ length fs →
         Grown cap pcap base n (1 + length fs) (inner (split bytesOf k (p ∷ ps) none)) G (growLeaf S τ r cap pcap base N P k n p free)
     unfolding nodes splitLeaf
     grow-inner e l m = wrap (split-right bytesOf S (levelAt r k) cap pcap base n k small (λ x. byte-small pcap (levelAt r k) S x (level-table pcap r S k rows)) (are l) (p ∷ ps) (p + 1) (pcap + 1) (open-state st1) tt (st1 .sound .1) refl (omega (arith, leaf-most st1)) (omega arith))
@@ -122,7 +108,7 @@ module _ (bytesOf : ℕ → List ℕ) (S τ : List ℕ) (r : Rows) (cap pcap bas
               freeTo = E .freeTo;
               to = innerP n (E .kidsTo);
               freesTo = E .freesTo;
-              is = sym (grow-split S τ r cap pcap base N P k n p free N1 P1 true ok refl Enough (sym e) refl (E .nodesTo) (E .pagesTo) (Node n (E .freeTo)) (sym (E .is)));
+              is = sym (grow-split S τ r cap pcap base N P k n p free N1 P1 true ok refl true (sym e) refl (E .nodesTo) (E .pagesTo) (Node n (E .freeTo)) (sym (E .is)));
               state = E .state;
               roots = refl;
               grown = ap inner (E .grown);
@@ -134,7 +120,7 @@ module _ (bytesOf : ℕ → List ℕ) (S τ : List ℕ) (r : Rows) (cap pcap bas
     unfolding addLeaf nodes
     grow-right m = go (ltb k (r .bytes)) refl (ltb (getD τ k 0) (suc (length ps))) long m
       where
-        go : (x : Bool) → ltb k (r .bytes) ≡ x → (y : Bool) → tooLong τ r pcap base P1 k (p + 1) ≡ cond (x && y) Enough Short →
+        go : (x : Bool) → ltb k (r .bytes) ≡ x → (y : Bool) → tooLong τ r N1 cap k n ≡ (x && y) →
             nodes (cond (x && y) (inner (split bytesOf k (p ∷ ps) none)) (leaf (p ∷ ps))) ≤ 1 + length fs →
             Grown cap pcap base n (1 + length fs) (cond (x && y) (inner (split bytesOf k (p ∷ ps) none)) (leaf (p ∷ ps))) G (growLeaf S τ r cap pcap base N P k n p free)
         go false e y q m = grow-leaf q

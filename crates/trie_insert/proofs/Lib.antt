@@ -5,3 +5,4 @@ pub mod Put
 pub mod Splits
 pub mod Grow
 pub mod Inserts
+pub mod Example

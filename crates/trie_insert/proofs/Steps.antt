@@ -2,12 +2,12 @@
 use Prim.Native.Nat.{ℕ, _+_, _-_, _<_, _≤_}
 use mathlib.Core.Path.{_≡_, refl, ap, _∙_, sym}
 use mathlib.Core.List.{List}
-use mathlib.Core.Bool.{Bool, true, false, cond}
+use mathlib.Core.Bool.{Bool, true, false, cond, false≢true}
 use native.Mathlib.Omega.{arith}
 use borrow.Author.Tests.{le-ltb, lt-ltb, eq-eqb, ne-eqb, ltb-true, ltb-false}
 use lib.Dec.{ltb, eqb}
 use lib.ListN.{getD}
-use Rattle.layout.specs.States.{kindOf}
+use Rattle.layout.specs.States.{kindOf, countOf}
 use Rattle.layout.specs.declared.nodes.Kind.{Kind}
 use Rattle.layout.specs.declared.nodes.Kind.the-variants as kind
 use Rattle.blocks.specs.declared.Level.{Level}
@@ -15,12 +15,9 @@ use Rattle.blocks.specs.declared.Rows.{Rows}
 use Rattle.trie.specs.declared.leaf.Got.{Got}
 use Rattle.trie.specs.declared.leaf.Got.the-variants.{Node, Full}
 use Rattle.trie.specs.declared.leaf.Got.the-variants as got
-use Rattle.trie.specs.declared.span.Span.{Span}
-use Rattle.trie.specs.declared.span.Span.the-variants.{Enough, Short}
-use Rattle.trie.specs.declared.span.Span.the-variants as spans
 use Rattle.blocks.specs.Tables.{RowTable}
 use Rattle.blocks.specs.Packed.{pageByte, levelAt}
-use Rattle.trie.specs.Model.{made, freshLeaf, childLeaf, spanFrom}
+use Rattle.trie.specs.Model.{made, freshLeaf, childLeaf}
 use Rattle.children.proofs.Steps.{suc-pred}
 use Rattle.trie.specs.declared.path.Reach.{Reach}
 use Rattle.trie.specs.declared.path.Reach.the-variants.{Leaf, Gap, Broken}
@@ -29,10 +26,8 @@ use Rattle.trie_insert.specs.declared.insert.Target.{Target}
 use Rattle.trie_insert.specs.declared.insert.Target.the-variants.{Ready, NoRoom}
 use Rattle.trie_insert.specs.declared.insert.Target.the-variants as target
 use Rattle.trie_insert.specs.Pages.{pushNodes, pushPages, pushed, pushPage, After, after, putLeafM}
-use Rattle.trie_insert.specs.Split.{onPut, splitFrom, openLeaf, tooLong, splitLeaf, growSpan, growInto, growLeaf}
+use Rattle.trie_insert.specs.Split.{onPut, splitFrom, openLeaf, tooLong, splitLeaf, growBy, growInto, growLeaf}
 use Rattle.trie_insert.specs.Insert.{aimed, targetIn, aimMade, aimAt, leafFor, insertAt, insertPage}
-use mir.Val.{Fits}
-use mir.Syntax.{w32, w64}
 
 -- `pushPage`, by each way
 module _ (N P : List ℕ) (cap base n p : ℕ) (q : Kind) (e : q ≡ kindOf N cap n) where
@@ -105,24 +100,21 @@ module _ (S : List ℕ) (v : Level) (cap pcap base n : ℕ) (N P : List ℕ) (l 
         split-failed q = rw q at split-go
 
 -- `tooLong`, by each way
-module _ (τ : List ℕ) (r : Rows) (pcap base : ℕ) (P : List ℕ) (k l : ℕ) where
-  pub long-deep : r .bytes ≤ k → Short ≡ tooLong τ r pcap base P k l
+module _ (τ : List ℕ) (r : Rows) (N : List ℕ) (cap k n : ℕ) where
+  pub long-deep : r .bytes ≤ k → false ≡ tooLong τ r N cap k n
   unfolding tooLong
   long-deep h = rw (le-ltb k (r .bytes) h) refl
 
-  pub long-span : k < r .bytes → (g : Span) → g ≡ spanFrom P base pcap l (getD τ k 0 + 1) → g ≡ tooLong τ r pcap base P k l
+  pub long-count : k < r .bytes → (count : ℕ) → count ≡ countOf N cap n → ltb (getD τ k 0) count ≡ tooLong τ r N cap k n
   unfolding tooLong
-  long-span h g e = rw (lt-ltb k (r .bytes) h) e
+  long-count h count e = rw (lt-ltb k (r .bytes) h, e) refl
 
-  pub long-below : (S : List ℕ) (g : Span) → g ≡ tooLong τ r pcap base P k l → g ≡ Enough → RowTable pcap r S → k < 64
-  long-below S g e q t = go (ltb k (r .bytes)) refl
+  pub long-below : (pcap : ℕ) (S : List ℕ) (b : Bool) → b ≡ tooLong τ r N cap k n → b ≡ true → RowTable pcap r S → k < 64
+  long-below pcap S b e q t = go (ltb k (r .bytes)) refl
     where
-      short : Enough ≡ Short → k < 64
-      short z = let x : _≡_ {A = ℕ} 0 1 = cc in absurd (omega arith)
-
       go : (b : Bool) → ltb k (r .bytes) ≡ b → k < 64
       go true h = omega (arith, ltb-true k (r .bytes) h, t .short)
-      go false h = short (sym q ∙ e ∙ sym (long-deep (ltb-false k (r .bytes) h)))
+      go false h = absurd (false≢true (long-deep (ltb-false k (r .bytes) h) ∙ sym e ∙ q))
 
 -- `growLeaf`, by each way
 module _ (S τ : List ℕ) (r : Rows) (cap pcap base : ℕ) (N P : List ℕ) (k n p free : ℕ) (ns ps : List ℕ) (done : Bool) (e : pushed ns ps done ≡ pushPage N P cap base n p) where
@@ -133,22 +125,15 @@ module _ (S τ : List ℕ) (r : Rows) (cap pcap base : ℕ) (N P : List ℕ) (k 
   pub grow-none : done ≡ false → after ns ps got.Broken ≡ growLeaf S τ r cap pcap base N P k n p free
   grow-none d = rw d at grow-step
 
-  module _ (d : done ≡ true) (g : Span) (q : g ≡ tooLong τ r pcap base ps k (p + 1)) where
-    grow-span : growSpan S τ r cap pcap base ns ps k n p free g ≡ growLeaf S τ r cap pcap base N P k n p free
-    grow-span = ap (growSpan S τ r cap pcap base ns ps k n p free) q ∙ rw d at grow-step
+  module _ (d : done ≡ true) (g : Bool) (q : g ≡ tooLong τ r ns cap k n) where
+    grow-by : growBy S τ r cap pcap base ns ps k n p free g ≡ growLeaf S τ r cap pcap base N P k n p free
+    grow-by = ap (growBy S τ r cap pcap base ns ps k n p free) q ∙ rw d at grow-step
 
-    pub grow-short : g ≡ Short → after ns ps (Node n free) ≡ growLeaf S τ r cap pcap base N P k n p free
-    grow-short z = rw z at grow-span
+    pub grow-short : g ≡ false → after ns ps (Node n free) ≡ growLeaf S τ r cap pcap base N P k n p free
+    grow-short z = rw z at grow-by
 
-    pub grow-broken : g ≡ spans.Broken → after ns ps got.Broken ≡ growLeaf S τ r cap pcap base N P k n p free
-    grow-broken z = rw z at grow-span
-
-    pub grow-split : g ≡ Enough → (ns' ps' : List ℕ) (a : Got) → after ns' ps' a ≡ splitLeaf S r cap pcap base ns ps k n (p + 1) free → after ns' ps' a ≡ growLeaf S τ r cap pcap base N P k n p free
-    grow-split z ns' ps' a u = u ∙ rw z at grow-span
-
--- one more than a word fits a usize
-pub word-more : {n : ℕ} → Fits w32 n → Fits w64 (n + 1)
-word-more f = record { fits = omega (arith, f .fits) }
+    pub grow-split : g ≡ true → (ns' ps' : List ℕ) (a : Got) → after ns' ps' a ≡ splitLeaf S r cap pcap base ns ps k n (p + 1) free → after ns' ps' a ≡ growLeaf S τ r cap pcap base N P k n p free
+    grow-split z ns' ps' a u = u ∙ rw z at grow-by
 
 -- `splitLeaf`, from its parts
 pub split-leaf : (S : List ℕ) (r : Rows) (cap pcap base : ℕ) (N P : List ℕ) (k n l free : ℕ) (v : Level) (ns ns' ps' : List ℕ) (a : Got) →

@@ -3,8 +3,7 @@ use Prim.Native.Nat.{ℕ, _+_}
 use mathlib.Core.List.{List}
 use mathlib.Core.Bool.{Bool, true, false}
 use lib.ListN.{set}
-use Rattle.layout.specs.Nodes.{stateAt, leafState}
-use Rattle.layout.specs.States.{kindOf}
+use Rattle.layout.specs.States.{kindOf, longer}
 use Rattle.layout.specs.declared.nodes.Kind.{Kind}
 use Rattle.layout.specs.declared.nodes.Kind.the-variants as kind
 use Rattle.trie.specs.declared.leaf.Got.{Got}
@@ -18,7 +17,7 @@ pub data Pushed : Type 0 where
 
 -- page p put first into leaf n, before a link
 abbrev pub pushNodes : List ℕ → ℕ → ℕ → ℕ → List ℕ
-pushNodes N cap n p = set N (stateAt cap n) (leafState (p + 1))
+pushNodes N cap n p = longer N cap n (p + 1)
 
 abbrev pub pushPages : List ℕ → ℕ → ℕ → ℕ → List ℕ
 pushPages P base p next = set P (base + p) next

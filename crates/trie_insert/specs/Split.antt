@@ -1,19 +1,16 @@
 -- A leaf split where it is too long: pcap is the capacity of pages, S the sketch table.
 use Prim.Native.Nat.{ℕ, zero, suc, _+_, _-_}
 use mathlib.Core.List.{List}
-use mathlib.Core.Bool.{true, false, cond}
+use mathlib.Core.Bool.{Bool, true, false, cond, _&&_}
 use lib.Dec.{ltb, eqb}
 use lib.ListN.{getD, set}
 use Rattle.layout.specs.Nodes.{stateAt, innerState}
+use Rattle.layout.specs.States.{countOf}
 use Rattle.blocks.specs.declared.Level.{Level}
 use Rattle.blocks.specs.declared.Rows.{Rows}
 use Rattle.trie.specs.declared.leaf.Got.the-variants.{Node, Full}
 use Rattle.trie.specs.declared.leaf.Got.the-variants as got
-use Rattle.trie.specs.declared.span.Span.{Span}
-use Rattle.trie.specs.declared.span.Span.the-variants.{Enough, Short}
-use Rattle.trie.specs.declared.span.Span.the-variants as spans
 use Rattle.blocks.specs.Packed.{pageByte, levelAt}
-use Rattle.trie.specs.Model.{spanFrom}
 use Rattle.trie_insert.specs.Pages.{Pushed, pushed, pushPage, After, after, putLeafM}
 
 abbrev pub onPut : (List ℕ → List ℕ → ℕ → After) → After → After
@@ -34,9 +31,9 @@ splitFrom S v cap pcap base n N P l free (suc f) =
 abbrev pub openLeaf : List ℕ → ℕ → ℕ → List ℕ
 openLeaf N cap n = set N (stateAt cap n) innerState
 
--- whether the leaf at level k whose first page is at link l is too long; τ are the thresholds
-unfoldable pub tooLong : List ℕ → Rows → ℕ → ℕ → List ℕ → ℕ → ℕ → Span
-tooLong τ r pcap base P k l = cond (ltb k (r .bytes)) (spanFrom P base pcap l (getD τ k 0 + 1)) Short
+-- whether leaf n at level k is too long, by the number that stands in it; τ are the thresholds
+unfoldable pub tooLong : List ℕ → Rows → List ℕ → ℕ → ℕ → ℕ → Bool
+tooLong τ r N cap k n = ltb k (r .bytes) && ltb (getD τ k 0) (countOf N cap n)
 
 -- leaf n at level k as an inner node, its pages, from link l on, in leaves below
 unfoldable pub splitLeaf : List ℕ → Rows → ℕ → ℕ → ℕ → List ℕ → List ℕ → ℕ → ℕ → ℕ → ℕ → After
@@ -44,14 +41,13 @@ splitLeaf S r cap pcap base N P k n l free = splitFrom S (levelAt r k) cap pcap 
 
 -- page p put into leaf n at level k, which is split where it is too long then
 module _ (S τ : List ℕ) (r : Rows) (cap pcap base : ℕ) where
-  abbrev pub growSpan : List ℕ → List ℕ → ℕ → ℕ → ℕ → ℕ → Span → After
-  growSpan N P k n p free Enough = splitLeaf S r cap pcap base N P k n (p + 1) free
-  growSpan N P k n p free Short = after N P (Node n free)
-  growSpan N P k n p free spans.Broken = after N P got.Broken
+  abbrev pub growBy : List ℕ → List ℕ → ℕ → ℕ → ℕ → ℕ → Bool → After
+  growBy N P k n p free true = splitLeaf S r cap pcap base N P k n (p + 1) free
+  growBy N P k n p free false = after N P (Node n free)
 
   abbrev pub growInto : ℕ → ℕ → ℕ → ℕ → Pushed → After
   growInto k n p free (pushed N P false) = after N P got.Broken
-  growInto k n p free (pushed N P true) = growSpan N P k n p free (tooLong τ r pcap base P k (p + 1))
+  growInto k n p free (pushed N P true) = growBy N P k n p free (tooLong τ r N cap k n)
 
   unfoldable pub growLeaf : List ℕ → List ℕ → ℕ → ℕ → ℕ → ℕ → After
   growLeaf N P k n p free = growInto k n p free (pushPage N P cap base n p)

@@ -6,7 +6,7 @@ ghost use Rattle.trie_insert.specs.Pages.{pushed, pushPage, after, putLe
 use layout::Block;
 use layout::nodes::Kind;
 use layout::nodes::kind_of;
-use layout::nodes::set_leaf;
+use layout::nodes::lengthen;
 use trie::leaf::Got;
 use trie::leaf::child_leaf;
 
@@ -22,7 +22,7 @@ pub fn push_page(nodes: &mut [u32], pages: &mut [u32], block: Block, n: usize, p
     match kind {
         Kind::Leaf(first) => {
             pages[block.base + p] = first;
-            set_leaf(nodes, block.nodes, n, (p + 1) as u32);
+            lengthen(nodes, block.nodes, n, (p + 1) as u32);
             true
         }
         Kind::Inner => false,

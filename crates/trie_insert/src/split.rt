@@ -13,10 +13,9 @@ use blocks::Rows;
 use blocks::packed::level_at;
 use blocks::packed::page_byte;
 use layout::Block;
+use layout::nodes::page_count;
 use layout::nodes::set_inner;
 use trie::leaf::Got;
-use trie::span::Span;
-use trie::span::at_least;
 
 // The pages of a chain, each in turn put into the child leaf of its byte; the answer is node n.
 pub fn split_pages(
@@ -68,24 +67,17 @@ pub fn split_pages(
     }
 }
 
-// Whether the leaf at level k whose first page is at a link is too long.
-fn too_long(
-    pages: &[u32],
-    thresholds: &[u32],
-    block: Block,
-    rows: Rows,
-    k: usize,
-    first: u32,
-) -> Span
-    requires { ⌜ PageTable (block .pages) (block .base) (now pages) ⌝ }
+// Whether leaf n at level k is too long, by the number that stands in it.
+fn too_long(nodes: &[u32], thresholds: &[u32], cap: usize, rows: Rows, k: usize, n: usize) -> bool
+    requires { ⌜ NodeTable cap (now nodes) ⌝ }
     requires { ⌜ rows .bytes ≤ length (now thresholds) ⌝ }
-    ensures { λ r. ⌜ r ≡ tooLong (now (thresholds .entry)) rows (block .pages) (block .base) (now (pages .entry)) k first ⌝ }
+    requires { ⌜ n < cap ⌝ }
+    ensures { λ r. ⌜ r ≡ tooLong (now (thresholds .entry)) rows (now (nodes .entry)) cap k n ⌝ }
 {
     if k >= rows.bytes {
-        return Span::Short;
+        return false;
     }
-    let most = thresholds[k] as usize;
-    at_least(pages, block.base, block.pages, first, most + 1)
+    thresholds[k] < page_count(nodes, cap, n)
 }
 
 // Leaf n at level k as an inner node without children, its pages, which are loose then, in leaves below.
@@ -136,11 +128,9 @@ pub fn grow_leaf(
     if !push_page(nodes, pages, block, n, p) {
         return Got::Broken;
     }
-    let first = (p + 1) as u32;
-    let span = too_long(pages, thresholds, block, rows, k, first);
-    match span {
-        Span::Enough => split_leaf(nodes, pages, sketches, block, rows, k, n, first, free),
-        Span::Short => Got::Node(n, free),
-        Span::Broken => Got::Broken,
+    if !too_long(nodes, thresholds, block.nodes, rows, k, n) {
+        return Got::Node(n, free);
     }
+    let first = (p + 1) as u32;
+    split_leaf(nodes, pages, sketches, block, rows, k, n, first, free)
 }

@@ -12,16 +12,14 @@ use Rattle.meaning.specs.Lists.{any, count}
 use Rattle.meaning.specs.Trie.{byteAt, pagesIn}
 use Rattle.meaning.specs.Ledger.{Settings}
 use Rattle.layout.specs.Nodes.{mostNodes}
-use Rattle.layout.specs.States.{kindOf, firstOf}
-use Rattle.layout.specs.declared.nodes.Kind.the-variants as kind
-use Rattle.layout.proofs.States.{kind-state}
+use Rattle.layout.specs.States.{kindOf, firstOf, countOf}
 use Rattle.blocks.specs.declared.Rows.{Rows}
 use Rattle.children.specs.Heap.{Cells, _⊕_}
 use Rattle.blocks.specs.Packed.{pageByte, levelAt}
-use Rattle.trie.specs.Model.{spanFrom}
 use Rattle.children.specs.Phys.{Phys, root, tree, childrenOf, first, Below, State, leafP}
+use Rattle.children.proofs.Leaves.{held-kind, held-count}
 use Rattle.trie.proofs.Context.{enter}
-use Rattle.trie.proofs.Spans.{Linked, spanOf, span-right, pages-linked, frees-linked, leaf-most}
+use Rattle.trie.proofs.Spans.{Linked, pages-linked, leaf-most}
 use Rattle.trie_laws.specs.Sound.{Agree}
 use Rattle.trie_laws.specs.Path.{pathOf}
 use Rattle.trie_laws.specs.Needed.{distinct, splits, splitNodes, needed}
@@ -38,7 +36,7 @@ use Rattle.trie.proofs.Arrival.{Leads, Arrives, arrives}
 use Rattle.leaf_bytes.specs.declared.Needed.the-variants.{Nodes}
 use Rattle.blocks.specs.RowBytes.{rowBytes, rowsOf}
 use Rattle.leaf_bytes.specs.Bytes.{distinctBytes}
-use Rattle.trie_room.specs.Needs.{whereLong, leafNeeds, gapNeeds, neededAt, nodesNeeded}
+use Rattle.trie_room.specs.Needs.{leafNeeds, gapNeeds, neededAt, nodesNeeded}
 use Rattle.blocks.proofs.RowBytes.{level-byte}
 use Rattle.trie_room.proofs.Distinct.{distinct-right}
 
@@ -46,7 +44,7 @@ module _ (bytesOf : ℕ → List ℕ) (P S τ : List ℕ) (pcap base : ℕ) (r :
   -- a leaf that holds ps
   leaf-right : (k : ℕ) (ps : List ℕ) → Linked P base ps → Below pcap ps → length ps ≤ pcap →
       ((x : ℕ) → any (eqb x) ps ≡ true → byteAt bytesOf k x ≡ pageByte S (levelAt r k) x) →
-      cond (ltb k (length Y)) (leafNeeds P S τ pcap base r k (first ps) (getD Y k 0)) (Nodes 0) ≡ Nodes (splitNodes bytesOf (length Y) τ k (p ∷ ps))
+      cond (ltb k (length Y)) (leafNeeds P S τ pcap base r k (length ps) (first ps) (getD Y k 0)) (Nodes 0) ≡ Nodes (splitNodes bytesOf (length Y) τ k (p ∷ ps))
   unfolding leafNeeds splitNodes splits
   leaf-right k ps h b l e = go (ltb k (length Y)) refl (leb (getD τ k 0) (length ps)) refl
     where
@@ -55,13 +53,11 @@ module _ (bytesOf : ℕ → List ℕ) (P S τ : List ℕ) (pcap base : ℕ) (r :
       long false z = le-ltb (getD τ k 0) (suc (length ps)) (omega (arith, leb-false (getD τ k 0) (length ps) z))
 
       go : (i : Bool) → ltb k (length Y) ≡ i → (q : Bool) → leb (getD τ k 0) (length ps) ≡ q →
-          cond i (whereLong (distinctBytes P S pcap base (levelAt r k) (first ps) (getD Y k 0)) (spanFrom P base pcap (first ps) (getD τ k 0))) (Nodes 0)
+          cond i (cond q (distinctBytes P S pcap base (levelAt r k) (first ps) (getD Y k 0)) (Nodes 0)) (Nodes 0)
           ≡ Nodes (cond (i && ltb (getD τ k 0) (suc (length ps))) (distinct bytesOf k (p ∷ ps)) 0)
       go false y q z = refl
-      go true y true z =
-          rw (long true z, span-right P base pcap ps (first ps) (getD τ k 0) h b refl, z, ← (bytes k (ltb-true k (length Y) y)))
-          (distinct-right bytesOf P S pcap base k p (levelAt r k) ps h b l e)
-      go true y false z = rw (long false z, span-right P base pcap ps (first ps) (getD τ k 0) h b refl, z) refl
+      go true y true z = rw (long true z, ← (bytes k (ltb-true k (length Y) y))) (distinct-right bytesOf P S pcap base k p (levelAt r k) ps h b l e)
+      go true y false z = rw (long false z) refl
 
 -- a gap
 gap-right : (bytesOf : ℕ → List ℕ) (τ : List ℕ) (len p k : ℕ) → gapNeeds τ len k ≡ suc (splitNodes bytesOf len τ k (p ∷ []))
@@ -91,8 +87,9 @@ module _ {cap pcap base : ℕ} (small : cap ≤ mostNodes) (bytesOf : ℕ → Li
     at-right (Leaf n s k) a =
         let ps : List ℕ = a .pages in
         let u = part (a .way) in
-        let link : firstOf (kindOf N cap n) ≡ first ps = ap firstOf (kind-state N cap n (kind.Leaf (first ps)) (u .heap .holds .0 .0)) in
-        rw (link, needed-at-leaf bytesOf (length Y) τ p k 0 (tree t) (a .way .path) ps (a .way .sub), zero-add k)
+        let link : firstOf (kindOf N cap n) ≡ first ps = ap firstOf (held-kind N cap n ps (u .heap .holds .0 .0) (u .sound .1) (u .pageTable .small)) in
+        let many : countOf N cap n ≡ length ps = held-count N cap n ps (u .heap .holds .0 .0) (u .sound .1) (u .pageTable .small) in
+        rw (link, many, needed-at-leaf bytesOf (length Y) τ p k 0 (tree t) (a .way .path) ps (a .way .sub), zero-add k)
         (leaf-right bytesOf P S τ pcap base r Y p (y .bytes) k ps (pages-linked N P base ps (u .heap .holds .0 .1 .1)) (u .sound .1) (leaf-most u)
         (λ x m. reads k x (inside (a .way) x m)))
     at-right (Gap n s k) a =
@@ -111,7 +108,3 @@ module _ {cap pcap base : ℕ} {N P : List ℕ} {free : ℕ} {t : Phys} {fs : Li
   unfolding byteAt
   needed-block bytesOf p y S τ s j h e =
       needed-right (st .nodeTable .small) bytesOf p st y S τ (rowsOf s j) (λ k x m. ap (λ (ys : List ℕ). getD ys k 0) (e x m) ∙ level-byte s j h S k x)
-
-  -- the law of `enough_free`
-  pub free-right : (n : ℕ) → spanFrom N 0 cap free n ≡ spanOf n (length fs)
-  free-right n = span-right N 0 cap fs free n (frees-linked N P cap fs (st .heap .holds .1 .0)) (st .below) (st .chain)

@@ -6,10 +6,8 @@ use lib.ListN.{replicate}
 use Rattle.meaning.specs.Sketch.{perByte, packedLength, blockStart, blockLength}
 use Rattle.meaning.specs.Ledger.{settingsGiven, Settings}
 use Rattle.meaning.specs.Forest.{blockBytes}
-use Rattle.layout.specs.States.{kindOf}
+use Rattle.layout.specs.States.{kindOf, countOf}
 use Rattle.blocks.specs.Packed.{rowByte, pageByte, levelAt}
-use Rattle.trie.specs.Model.{spanFrom}
-use Rattle.trie.specs.declared.span.Span.the-variants.{Enough, Short}
 use Rattle.trie_laws.specs.Needed.{distinctFrom}
 use Rattle.trie.specs.Descend.{stepTo, descend, descendTo}
 use Rattle.leaf_bytes.specs.declared.Needed.{Needed}
@@ -22,9 +20,9 @@ use Rattle.trie_room.specs.Needs.{gapNeeds, leafNeeds, nodesNeeded}
 settings : Settings
 settings = settingsGiven 2 4 1 2 4 []
 
--- chain words, states, heads: the root's first page is page 0, and nodes 1, 2 and 3 are free
+-- chain words, states, heads: the root has one page, page 0, and nodes 1, 2 and 3 are free
 nodes : List ℕ
-nodes = (0 ∷ 3 ∷ 4 ∷ 0 ∷ []) ++ (3 ∷ 0 ∷ 0 ∷ 0 ∷ []) ++ replicate 32 0
+nodes = (0 ∷ 3 ∷ 4 ∷ 0 ∷ []) ++ (65537 ∷ 0 ∷ 0 ∷ 0 ∷ []) ++ replicate 32 0
 
 -- live, class, links
 pages : ℕ → List ℕ
@@ -38,15 +36,10 @@ answer link threshold byte = nodesNeeded (pages link) sketches (threshold ∷ []
 
 -- another byte: two children; the same byte: one; below the threshold: none; a chain that leaves the table, or does not end
 sums : (answer 0 1 180 ≡ Nodes 2) × (answer 0 1 228 ≡ Nodes 1) × (answer 0 2 180 ≡ Nodes 0) × (answer 3 1 180 ≡ Broken) × (answer 1 1 180 ≡ Broken)
-unfolding answer nodes pages sketches settings nodesNeeded kindOf descendTo descend stepTo leafNeeds distinctBytes chainFrom spanFrom levelAt rowsOf blockBytes packedLength perByte blockStart blockLength pageByte rowByte distinctFrom
+unfolding answer nodes pages sketches settings nodesNeeded kindOf countOf descendTo descend stepTo leafNeeds distinctBytes chainFrom levelAt rowsOf blockBytes packedLength perByte blockStart blockLength pageByte rowByte distinctFrom
 sums = (refl, refl, refl, refl, refl)
 
 -- a new leaf at level 1 splits at once where the threshold there is 0 and there is a byte
 gaps : (gapNeeds (1 ∷ 0 ∷ []) 2 1 ≡ 2) × (gapNeeds (1 ∷ 0 ∷ []) 1 1 ≡ 1) × (gapNeeds (0 ∷ 1 ∷ []) 2 1 ≡ 1)
 unfolding gapNeeds
 gaps = (refl, refl, refl)
-
--- three nodes are free, and not four
-free : (spanFrom nodes 0 4 2 3 ≡ Enough) × (spanFrom nodes 0 4 2 4 ≡ Short)
-unfolding nodes spanFrom
-free = (refl, refl)

@@ -3,36 +3,28 @@ use Prim.Native.Nat.{ℕ, suc, _+_, _≤_}
 use mathlib.Core.Bool.{Bool, true, false, cond, _&&_}
 use mathlib.Core.List.{List}
 use native.Mathlib.Omega.{arith}
-use lib.Dec.{ltb, eqb}
+use lib.Dec.{ltb, leb, eqb}
 use lib.ListN.{length, getD}
-use Rattle.layout.specs.States.{kindOf, firstOf}
+use Rattle.layout.specs.States.{kindOf, firstOf, countOf}
 use Rattle.blocks.specs.declared.Rows.{Rows}
-use Rattle.trie.specs.declared.span.Span.{Span}
-use Rattle.trie.specs.declared.span.Span.the-variants.{Enough, Short}
-use Rattle.trie.specs.declared.span.Span.the-variants as spans
 use Rattle.blocks.specs.Packed.{levelAt}
-use Rattle.trie.specs.Model.{spanFrom}
 use Rattle.trie.specs.declared.path.Reach.{Reach}
 use Rattle.trie.specs.declared.path.Reach.the-variants.{Leaf, Gap}
 use Rattle.trie.specs.declared.path.Reach.the-variants as reach
 use Rattle.trie.specs.Descend.{descendTo}
-use Rattle.leaf_bytes.specs.declared.Needed.{Needed}
 use Rattle.leaf_bytes.specs.declared.Needed.the-variants.{Nodes}
 use Rattle.leaf_bytes.specs.Bytes.{countIn, distinctBytes}
 use Rattle.leaf_bytes.proofs.Few.{distinct-few}
-use Rattle.trie_room.specs.Needs.{whereLong, gapNeeds, leafNeeds, neededAt, nodesNeeded}
-
-long-few : (x : Needed) (q : Span) (n : ℕ) → countIn x ≤ n → countIn (whereLong x q) ≤ n
-long-few x Enough n h = h
-long-few x Short n h = omega arith
-long-few x spans.Broken n h = omega arith
+use Rattle.trie_room.specs.Needs.{gapNeeds, leafNeeds, neededAt, nodesNeeded}
 
 module _ (P S τ : List ℕ) (pcap base : ℕ) (r : Rows) where
-  leaf-few : (k link byte : ℕ) → countIn (leafNeeds P S τ pcap base r k link byte) ≤ pcap + 1
+  leaf-few : (k count link byte : ℕ) → countIn (leafNeeds P S τ pcap base r k count link byte) ≤ pcap + 1
   unfolding leafNeeds
-  leaf-few k link byte =
-      long-few (distinctBytes P S pcap base (levelAt r k) link byte) (spanFrom P base pcap link (getD τ k 0)) (pcap + 1)
-      (distinct-few P S pcap base (levelAt r k) link byte)
+  leaf-few k count link byte = go (leb (getD τ k 0) count)
+    where
+      go : (q : Bool) → countIn (cond q (distinctBytes P S pcap base (levelAt r k) link byte) (Nodes 0)) ≤ pcap + 1
+      go true = distinct-few P S pcap base (levelAt r k) link byte
+      go false = omega arith
 
   gap-few : (len k : ℕ) → gapNeeds τ len k ≤ 2
   unfolding gapNeeds
@@ -45,8 +37,8 @@ module _ (P S τ : List ℕ) (pcap base : ℕ) (r : Rows) where
   pub at-few : (Y N : List ℕ) (cap : ℕ) (g : Reach) → countIn (neededAt P S τ pcap base r Y N cap g) ≤ pcap + 2
   at-few Y N cap (Leaf n s k) = go (ltb k (length Y))
     where
-      go : (q : Bool) → countIn (cond q (leafNeeds P S τ pcap base r k (firstOf (kindOf N cap n)) (getD Y k 0)) (Nodes 0)) ≤ pcap + 2
-      go true = omega (arith, leaf-few k (firstOf (kindOf N cap n)) (getD Y k 0))
+      go : (q : Bool) → countIn (cond q (leafNeeds P S τ pcap base r k (countOf N cap n) (firstOf (kindOf N cap n)) (getD Y k 0)) (Nodes 0)) ≤ pcap + 2
+      go true = omega (arith, leaf-few k (countOf N cap n) (firstOf (kindOf N cap n)) (getD Y k 0))
       go false = omega arith
   at-few Y N cap (Gap n s k) = omega (arith, gap-few (length Y) (suc k))
   at-few Y N cap reach.Broken = omega arith

@@ -1,18 +1,14 @@
 -- The models without a loop, by each way through the code.
 use Prim.Native.Nat.{ℕ, _+_, _<_, _≤_}
-use mathlib.Core.Path.{_≡_, refl, ap, _∙_, sym}
+use mathlib.Core.Path.{_≡_, refl, ap, _∙_}
 use mathlib.Core.List.{List}
 use native.Mathlib.Numerals.{add-one}
-use borrow.Author.Tests.{le-ltb, lt-ltb, eq-eqb, ne-eqb}
+use borrow.Author.Tests.{le-ltb, lt-ltb, le-leb, lt-leb, eq-eqb, ne-eqb}
 use lib.ListN.{length, getD}
-use Rattle.layout.specs.States.{kindOf, firstOf}
+use Rattle.layout.specs.States.{kindOf, firstOf, countOf}
 use Rattle.blocks.specs.declared.Level.{Level}
 use Rattle.blocks.specs.declared.Rows.{Rows}
-use Rattle.trie.specs.declared.span.Span.{Span}
-use Rattle.trie.specs.declared.span.Span.the-variants.{Enough, Short}
-use Rattle.trie.specs.declared.span.Span.the-variants as spans
 use Rattle.blocks.specs.Packed.{levelAt}
-use Rattle.trie.specs.Model.{spanFrom}
 use Rattle.trie.specs.declared.path.Reach.{Reach}
 use Rattle.trie.specs.declared.path.Reach.the-variants.{Leaf, Gap}
 use Rattle.trie.specs.declared.path.Reach.the-variants as reach
@@ -37,18 +33,15 @@ module _ (τ : List ℕ) (len k : ℕ) where
     gap-stays e = rw (lt-ltb k len l, ne-eqb (getD τ k 0) 0 e) refl
 
 -- `leafNeeds`
-module _ (P S τ : List ℕ) (pcap base : ℕ) (r : Rows) (k link byte : ℕ) (q : Span) (e : q ≡ spanFrom P base pcap link (getD τ k 0)) where
-  pub leaf-splits : q ≡ Enough → (v : Level) → v ≡ levelAt r k → (x : Needed) → x ≡ distinctBytes P S pcap base v link byte → x ≡ leafNeeds P S τ pcap base r k link byte
+module _ (P S τ : List ℕ) (pcap base : ℕ) (r : Rows) (k count link byte : ℕ) where
+  pub leaf-splits : getD τ k 0 ≤ count → (v : Level) → v ≡ levelAt r k → (x : Needed) → x ≡ distinctBytes P S pcap base v link byte →
+      x ≡ leafNeeds P S τ pcap base r k count link byte
   unfolding leafNeeds
-  leaf-splits z v w x u = rw (sym e ∙ z, ← w) u
+  leaf-splits l v w x u = rw (le-leb (getD τ k 0) count l, ← w) u
 
-  pub leaf-stays : q ≡ Short → Nodes 0 ≡ leafNeeds P S τ pcap base r k link byte
+  pub leaf-stays : count < getD τ k 0 → Nodes 0 ≡ leafNeeds P S τ pcap base r k count link byte
   unfolding leafNeeds
-  leaf-stays z = rw (sym e ∙ z) refl
-
-  pub leaf-broken : q ≡ spans.Broken → Broken ≡ leafNeeds P S τ pcap base r k link byte
-  unfolding leafNeeds
-  leaf-broken z = rw (sym e ∙ z) refl
+  leaf-stays l = rw (lt-leb (getD τ k 0) count l) refl
 
 -- `neededAt`
 module _ (P S τ : List ℕ) (pcap base : ℕ) (r : Rows) (Y N : List ℕ) (cap : ℕ) (g : Reach) where
@@ -56,8 +49,9 @@ module _ (P S τ : List ℕ) (pcap base : ℕ) (r : Rows) (Y N : List ℕ) (cap 
     pub at-end : length Y ≤ k → Nodes 0 ≡ neededAt P S τ pcap base r Y N cap g
     at-end l = rw (q, le-ltb k (length Y) l) refl
 
-    pub at-leaf : k < length Y → (first : ℕ) → first ≡ firstOf (kindOf N cap n) → (x : Needed) → x ≡ leafNeeds P S τ pcap base r k first (getD Y k 0) → x ≡ neededAt P S τ pcap base r Y N cap g
-    at-leaf l first f x e = rw (q, lt-ltb k (length Y) l, ← f) e
+    pub at-leaf : k < length Y → (count : ℕ) → count ≡ countOf N cap n → (first : ℕ) → first ≡ firstOf (kindOf N cap n) → (x : Needed) →
+        x ≡ leafNeeds P S τ pcap base r k count first (getD Y k 0) → x ≡ neededAt P S τ pcap base r Y N cap g
+    at-leaf l count c first f x e = rw (q, lt-ltb k (length Y) l, ← c, ← f) e
 
   pub at-gap : (n s k : ℕ) → g ≡ Gap n s k → (x : ℕ) → x ≡ gapNeeds τ (length Y) (k + 1) → Nodes x ≡ neededAt P S τ pcap base r Y N cap g
   at-gap n s k q x e = rw q (ap Nodes (e ∙ ap (gapNeeds τ (length Y)) (add-one k)))

@@ -1,2 +1,2 @@
-// How many nodes an add needs in one block, and whether so many are free: question 12, decided before anything is written.
+// How many nodes an add needs in one block: a part of question 12, decided before anything is written.
 pub mod needed;

@@ -4,22 +4,20 @@ ghost use Prim.Native.Nat.{_<_, _≤_};
 ghost use lib.ListN.{length};
 ghost use Rattle.layout.specs.Tables.{NodeTable, PageTable};
 ghost use Rattle.blocks.specs.Tables.{RowTable};
-ghost use Rattle.trie.specs.Model.{spanFrom};
 ghost use Rattle.trie.specs.Descend.{Inside};
 ghost use Rattle.trie_room.specs.Needs.{leafNeeds, gapNeeds, neededAt, nodesNeeded};
 use blocks::Rows;
 use blocks::packed::level_at;
 use layout::Block;
 use layout::nodes::first_page;
+use layout::nodes::page_count;
 use leaf_bytes::Needed;
 use leaf_bytes::distinct_bytes;
 use trie::path::Reach;
 use trie::path::descend_to;
-use trie::span::Span;
-use trie::span::at_least;
 
-// A leaf at level k, its first page at a link, that takes a page with this byte there: it splits where it has as many pages as the
-// threshold already.
+// A leaf at level k with so many pages, the first at a link, that takes a page with this byte there: it splits where they are as many as
+// the threshold already.
 fn leaf_needs(
     pages: &[u32],
     sketches: &[u8],
@@ -27,6 +25,7 @@ fn leaf_needs(
     block: Block,
     rows: Rows,
     k: usize,
+    count: u32,
     first: u32,
     byte: u32,
 ) -> Needed
@@ -35,18 +34,13 @@ fn leaf_needs(
     requires { ⌜ rows .bytes ≤ length (now thresholds) ⌝ }
     requires { ⌜ k < rows .bytes ⌝ }
     requires { ⌜ byte < 256 ⌝ }
-    ensures { λ r. ⌜ r ≡ leafNeeds (now (pages .entry)) (now (sketches .entry)) (now (thresholds .entry)) (block .pages) (block .base) rows k first byte ⌝ }
+    ensures { λ r. ⌜ r ≡ leafNeeds (now (pages .entry)) (now (sketches .entry)) (now (thresholds .entry)) (block .pages) (block .base) rows k count first byte ⌝ }
 {
-    let most = thresholds[k] as usize;
-    let span = at_least(pages, block.base, block.pages, first, most);
-    match span {
-        Span::Enough => {
-            let level = level_at(rows, k);
-            distinct_bytes(pages, sketches, block, level, first, byte)
-        }
-        Span::Short => Needed::Nodes(0),
-        Span::Broken => Needed::Broken,
+    if thresholds[k] > count {
+        return Needed::Nodes(0);
     }
+    let level = level_at(rows, k);
+    distinct_bytes(pages, sketches, block, level, first, byte)
 }
 
 // A new leaf at level k, where so many levels have a byte: it splits at once where the threshold is 0.
@@ -87,6 +81,7 @@ pub fn needed_at(
             if k >= bytes.len() {
                 return Needed::Nodes(0);
             }
+            let count = page_count(nodes, block.nodes, n);
             let first = first_page(nodes, block.nodes, n);
             leaf_needs(
                 pages,
@@ -95,6 +90,7 @@ pub fn needed_at(
                 block,
                 rows,
                 k,
+                count,
                 first,
                 bytes[k] as u32,
             )
@@ -134,12 +130,4 @@ pub fn nodes_needed(
         bytes,
         reach,
     )
-}
-
-// Are at least n nodes free? Their chain begins at a link and goes on in the chain words.
-pub fn enough_free(nodes: &[u32], cap: usize, first: u32, n: usize) -> Span
-    requires { ⌜ NodeTable cap (now nodes) ⌝ }
-    ensures { λ r. ⌜ r ≡ spanFrom (now (nodes .entry)) 0 cap first n ⌝ }
-{
-    at_least(nodes, 0, cap, first, n)
 }

@@ -19,14 +19,14 @@ mul-pages c = search needs
 slice-write-pages : tie.Need-slice-write-pages
 slice-write-pages c = search needs
 
-add-set-leaf : tie.Need-add-set-leaf
-add-set-leaf c = search needs
+add-lengthen : tie.Need-add-lengthen
+add-lengthen c = search needs
 
-cast-set-leaf : tie.Need-cast-set-leaf
-cast-set-leaf c = search needs
+cast-lengthen : tie.Need-cast-lengthen
+cast-lengthen c = search needs
 
-set-leaf-requires : tie.Need-set-leaf-requires
-set-leaf-requires c κs = search needs
+lengthen-requires : tie.Need-lengthen-requires
+lengthen-requires c κs = search needs
 
 enum-told : tie.Need-enum-told
 enum-told c = search needs
@@ -64,9 +64,9 @@ push-page-spec =
     add-pages
     mul-pages
     slice-write-pages
-    add-set-leaf
-    cast-set-leaf
-    set-leaf-requires
+    add-lengthen
+    cast-lengthen
+    lengthen-requires
     enum-told
     enum-told-2
     same-length

@@ -12,6 +12,9 @@ enum-known-reach c = search needs
 returns : tie.Need-returns
 returns c = search at-end
 
+page-count-requires : tie.Need-page-count-requires
+page-count-requires c κs = (search needs, search leaf-node)
+
 first-page-requires : tie.Need-first-page-requires
 first-page-requires c κs = (search needs, search leaf-node)
 
@@ -19,12 +22,12 @@ shared-slice-read-leaf-needs : tie.Need-shared-slice-read-leaf-needs
 shared-slice-read-leaf-needs c = search needs
 
 cast-leaf-needs : tie.Need-cast-leaf-needs
-cast-leaf-needs c = omega (arith, c .shared-slice-known6 .given (c .before .before .before .before .reach .given .0 .1 .1 .0))
+cast-leaf-needs c = omega (arith, c .shared-slice-known6 .given (c .before .before .before .before .before .reach .given .0 .1 .1 .0))
 
 leaf-needs-requires : tie.Need-leaf-needs-requires
 leaf-needs-requires c κs =
-    let pre = c .before .before .before .before .before .before .before .before .before .before .before .pre in
-    (pre .1 .0, (pre .1 .1 .0, (pre .1 .1 .1 .0, (omega arith, omega (arith, c .shared-slice-known6 .given (c .before .before .before .before .reach .given .0 .1 .1 .0))))))
+    let pre = c .before .before .before .before .before .before .before .before .before .before .before .before .pre in
+    (pre .1 .0, (pre .1 .1 .0, (pre .1 .1 .1 .0, (omega arith, omega (arith, c .shared-slice-known6 .given (c .before .before .before .before .before .reach .given .0 .1 .1 .0))))))
 
 enum-known-reach-2 : tie.Need-enum-known-reach-2
 enum-known-reach-2 c = search needs
@@ -55,6 +58,7 @@ needed-at-spec =
     (tie.spec
     enum-known-reach
     returns
+    page-count-requires
     first-page-requires
     shared-slice-read-leaf-needs
     cast-leaf-needs
