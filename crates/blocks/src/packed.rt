@@ -82,25 +82,25 @@ pub fn level_at(rows: Rows, k: usize) -> Level
     }
 }
 
-// The packed bytes of block j of a page's row, at the beginning. Symbols are taken modulo 2^b, so that every table has such bytes.
-pub fn row_bytes(h: Header, sketches: &[u8], p: usize, j: usize) -> [u8; 64]
+// Writes the packed bytes of block j of a page's row, at the beginning. Symbols are taken modulo 2^b, so that every table has such bytes.
+pub fn row_bytes(bytes: &mut [u8; 64], h: Header, sketches: &[u8], p: usize, j: usize)
     requires { ⌜ HeaderLimits h ⌝ }
     requires { ⌜ sketchesLength (bare h) ≤ length (now sketches) ⌝ }
     requires { ⌜ p < h .pages ⌝ }
     requires { ⌜ j < h .q ⌝ }
-    ensures { λ r. ⌜ take (blockBytes (bare h) j) r ≡ rowBytes (bare h) j (now (sketches .entry)) p ⌝ }
+    requires { ⌜ length (now bytes) ≡ 64 ⌝ }
+    ensures { λ r. ⌜ take (blockBytes (bare h) j) (now (bytes .exit)) ≡ rowBytes (bare h) j (now (sketches .entry)) p ⌝ }
+    ensures long { λ r. ⌜ length (now (bytes .exit)) ≡ 64 ⌝ }
 {
     let block = block_of(h, j);
     let rows = rows_of(h, j);
     let n = rows.bytes;
-    let mut bytes = [0u8; 64];
     let mut k = 0;
     while k < n {
         let level = level_at(rows, k);
         bytes[k] = page_byte(sketches, level, block, p) as u8;
         k += 1;
     }
-    bytes
 }
 
 // The packed bytes of block j of a sketch, at the beginning.

@@ -35,7 +35,7 @@ use Rattle.trie_remove.specs.declared.Removed.the-variants.{Done}
 use Rattle.trie_remove.specs.Take.{takePage}
 use Rattle.trie.specs.Model.{freeChild}
 use Rattle.trie_remove.specs.Prune.{pruneUp}
-use Rattle.trie_remove.specs.Remove.{setFirst, removeAt, removePage, gone}
+use Rattle.trie_remove.specs.Remove.{shortenLeaf, removeAt, removePage, gone}
 use Rattle.trie_remove.proofs.Example.{nodesOf, pagesOf, node-claims, page-claims, once-count}
 use Rattle.promises.specs.Tables.{Tables, tables, given, byTables, pageClass, pageRow, rowsOf}
 use Rattle.promises.specs.Answers.{number, entered, shown56, longSettings, longFor, longNodes, longPages}
@@ -49,7 +49,7 @@ given₁ = settingsGiven 1 2 2 1 3 (replicate 64 1)
 
 -- node 2 is the child of node 0 with byte 0
 abbrev N : List ℕ
-N = 0 ∷ 0 ∷ 0 ∷ 1 ∷ 3 ∷ 3 ∷ 3 ∷ replicate 23 0
+N = 0 ∷ 0 ∷ 0 ∷ 65536 ∷ 65537 ∷ 65537 ∷ 3 ∷ replicate 23 0
 
 unfoldable settings : List ℕ
 settings = header given₁ ++ (replicate registerLength 0 ++ 0 ∷ [])
@@ -124,6 +124,6 @@ sound = record {
 done : DropSound T 0 (forestAfter (given T) (rowsOf T) (drop 0) F)
 done = drop-sound T F sound 0 (admitted T 0 passes)
 
-computed : removeAll (given T) (T .sketches) 0 N (T .pages) 0 ≡ gone (0 ∷ 0 ∷ 0 ∷ 2 ∷ 2 ∷ 0 ∷ 0 ∷ replicate 23 0) (T .pages) (Done 3)
-unfolding removeAll removeFrom removeBlock removePage removeAt setFirst pruneUp bare all upto from freeChild kindOf takePage descendTo descend stepTo passedAt findPlace placeFrom settings settingsOf header given₁ rowBytes reduced rowOf bytesOfSketch pack packBytes packByte packedLength perByte block blockLength blockStart
+computed : removeAll (given T) (T .sketches) 0 N (T .pages) 0 ≡ gone (0 ∷ 0 ∷ 0 ∷ 131072 ∷ 131072 ∷ 0 ∷ 0 ∷ replicate 23 0) (T .pages) (Done 3)
+unfolding removeAll removeFrom removeBlock removePage removeAt shortenLeaf pruneUp bare all upto from freeChild kindOf takePage descendTo descend stepTo passedAt findPlace placeFrom settings settingsOf header given₁ rowBytes reduced rowOf bytesOfSketch pack packBytes packByte packedLength perByte block blockLength blockStart
 computed = refl

@@ -8,8 +8,8 @@ use borrow.Author.Tests.{eqb-false, ltb-false}
 use lib.Dec.{ltb, eqb}
 use lib.ListN.{length, getD, set}
 use Rattle.meaning.specs.Ledger.{Settings}
-use Rattle.layout.specs.Nodes.{stateAt, withLink, freeState, leafState, nodeWords}
-use Rattle.layout.specs.States.{kindOf, firstOf}
+use Rattle.layout.specs.Nodes.{stateAt, withLink, freeState, emptyState, nodeWords}
+use Rattle.layout.specs.States.{kindOf, firstOf, shorter}
 use Rattle.layout.specs.Pages.{nextAt, linksAt}
 use Rattle.layout.specs.Lengths.{pagesLength}
 use Rattle.layout.proofs.Words.{link-behind}
@@ -24,13 +24,13 @@ use Rattle.trie.proofs.Notes.{passed-inside}
 use Rattle.blocks.specs.RowBytes.{rowBytes}
 use Rattle.blocks.proofs.BlockBytes.{row-octets}
 use Rattle.blocks.proofs.Tables.{links-high}
-use Rattle.trie_remove.specs.declared.Taken.the-variants.{First}
+use Rattle.trie_remove.specs.declared.Taken.the-variants.{Out}
 use Rattle.trie_remove.specs.declared.Taken.the-variants as taken
 use Rattle.trie_remove.specs.declared.Removed.the-variants.{Done, Broken}
 use Rattle.trie_remove.specs.Take.{Took, took, takeFrom, takePage}
 use Rattle.trie.specs.Model.{freeChild}
 use Rattle.trie_remove.specs.Prune.{Freed, freed, pruneUp, InTable}
-use Rattle.trie_remove.specs.Remove.{Gone, gone, goneTo, setFirst, removeTaken, removeAt, removeReached, removePage}
+use Rattle.trie_remove.specs.Remove.{Gone, gone, goneTo, shortenLeaf, removeTaken, removeAt, removeReached, removePage}
 use Rattle.store.specs.Within.{Within, Both}
 use Rattle.store.proofs.Within.{within-none, within-both, within-set, node-set}
 use Rattle.drop_laws.specs.Removal.{onRemoved, removeBlock, removeFrom, removeAll}
@@ -40,14 +40,14 @@ module _ (lo hi pcap base p : ℕ) (low : lo ≤ base) (high : base + pcap ≤ h
   abbrev TookIn : List ℕ → Took → Type 0
   TookIn P (took P' r) = Within lo hi P P'
 
-  behind-within : (f : ℕ) (P : List ℕ) (l : ℕ) → TookIn P (takeFrom P pcap base p l f)
+  behind-within : (f : ℕ) (P : List ℕ) (a l : ℕ) → TookIn P (takeFrom P pcap base p a l f)
   unfolding takeFrom
-  behind-within zero P l = within-none
-  behind-within (suc f) P l = go (eqb l 0) refl (ltb pcap l) refl (eqb (getD P (base + (l - 1)) 0) (p + 1)) (behind-within f P (getD P (base + (l - 1)) 0))
+  behind-within zero P a l = within-none
+  behind-within (suc f) P a l = go (eqb l 0) refl (ltb pcap l) refl (eqb (getD P (base + (l - 1)) 0) (p + 1)) (behind-within f P a (getD P (base + (l - 1)) 0))
     where
-      go : (z : Bool) → eqb l 0 ≡ z → (w : Bool) → ltb pcap l ≡ w → (h : Bool) → TookIn P (takeFrom P pcap base p (getD P (base + (l - 1)) 0) f) →
-          TookIn P (cond z (took P taken.Missing) (cond w (took P taken.Broken) (cond h (took (set P (base + (l - 1)) (getD P (base + p) 0)) taken.Inside)
-          (takeFrom P pcap base p (getD P (base + (l - 1)) 0) f))))
+      go : (z : Bool) → eqb l 0 ≡ z → (w : Bool) → ltb pcap l ≡ w → (h : Bool) → TookIn P (takeFrom P pcap base p a (getD P (base + (l - 1)) 0) f) →
+          TookIn P (cond z (took P taken.Missing) (cond w (took P taken.Broken) (cond h (took (set P (base + (l - 1)) (getD P (base + p) 0)) (Out a))
+          (takeFrom P pcap base p a (getD P (base + (l - 1)) 0) f))))
       go true e w m h ih = within-none
       go false e true m h ih = within-none
       go false e false m true ih =
@@ -60,12 +60,12 @@ module _ (lo hi pcap base p : ℕ) (low : lo ≤ base) (high : base + pcap ≤ h
   unfolding takePage
   take-within P l = go (eqb l (p + 1)) (ltb pcap (getD P (base + p) 0))
     where
-      go : (z w : Bool) → TookIn P (cond z (cond w (took P taken.Broken) (took P (First (getD P (base + p) 0)))) (takeFrom P pcap base p l pcap))
+      go : (z w : Bool) → TookIn P (cond z (cond w (took P taken.Broken) (took P (Out (getD P (base + p) 0)))) (takeFrom P pcap base p l l pcap))
       go true true = within-none
       go true false = within-none
-      go false w = behind-within pcap P l
+      go false w = behind-within pcap P l l
 
--- ---- a leaf with another first page
+-- ---- a leaf with one page less
 module _ (cap : ℕ) where
   abbrev FreedIn : List ℕ → Freed → Type 0
   FreedIn N (freed N' free) = Within 0 (nodeWords cap) N N'
@@ -78,8 +78,12 @@ module _ (cap : ℕ) where
       (within-both (node-set cap M (stateAt cap c) freeState (omega arith))
       (node-set cap (set M (stateAt cap c) freeState) c free (omega arith)))
 
-  put-within : (N : List ℕ) (n l : ℕ) → n < cap → Within 0 (nodeWords cap) N (set N (stateAt cap n) (leafState l))
-  put-within N n l ln = node-set cap N (stateAt cap n) (leafState l) (omega arith)
+  empty-within : (N : List ℕ) (n : ℕ) → n < cap → Within 0 (nodeWords cap) N (set N (stateAt cap n) emptyState)
+  empty-within N n ln = node-set cap N (stateAt cap n) emptyState (omega arith)
+
+  shorter-within : (N : List ℕ) (n l : ℕ) → n < cap → Within 0 (nodeWords cap) N (shorter N cap n l)
+  unfolding shorter
+  shorter-within N n l ln = node-set cap N (stateAt cap n) _ (omega arith)
 
   -- nodes freed on the way up
   up-within : (way : ℕ → Passed) (k : ℕ) → InTable cap way k → (N : List ℕ) (n s free : ℕ) → n < cap → s < nodeWords cap → FreedIn N (pruneUp N cap way k n s free)
@@ -87,8 +91,8 @@ module _ (cap : ℕ) where
   up-within way zero w N n s free ln ls = within-none
   up-within way (suc k) w N n s free ln ls =
       let x = w k (omega arith) in
-      go (bare M cap (way k .node)) (pruneUp (set M (stateAt cap (way k .node)) (leafState 0)) cap way k (way k .node) (way k .slot) (n + 1))
-      (up-within way k (λ j l. w j (omega arith)) (set M (stateAt cap (way k .node)) (leafState 0)) (way k .node) (way k .slot) (n + 1) (x .0) (x .1))
+      go (bare M cap (way k .node)) (pruneUp (set M (stateAt cap (way k .node)) emptyState) cap way k (way k .node) (way k .slot) (n + 1))
+      (up-within way k (λ j l. w j (omega arith)) (set M (stateAt cap (way k .node)) emptyState) (way k .node) (way k .slot) (n + 1) (x .0) (x .1))
     where
       M : List ℕ
       M = freeChild N cap s n free
@@ -96,25 +100,25 @@ module _ (cap : ℕ) where
       out : Within 0 (nodeWords cap) N M
       out = free-within N s n free ls ln
 
-      on : (r : Freed) → FreedIn (set M (stateAt cap (way k .node)) (leafState 0)) r → FreedIn N r
-      on (freed N' free') h = within-both out (within-both (put-within M (way k .node) 0 (w k (omega arith) .0)) h)
+      on : (r : Freed) → FreedIn (set M (stateAt cap (way k .node)) emptyState) r → FreedIn N r
+      on (freed N' free') h = within-both out (within-both (empty-within M (way k .node) (w k (omega arith) .0)) h)
 
-      go : (t : Bool) (r : Freed) → FreedIn (set M (stateAt cap (way k .node)) (leafState 0)) r → FreedIn N (cond t r (freed M (n + 1)))
+      go : (t : Bool) (r : Freed) → FreedIn (set M (stateAt cap (way k .node)) emptyState) r → FreedIn N (cond t r (freed M (n + 1)))
       go true r h = on r h
       go false r h = out
 
-  first-within : (way : ℕ → Passed) (N : List ℕ) (n s k l free : ℕ) → n < cap → s < nodeWords cap → InTable cap way k → FreedIn N (setFirst N cap way n s k l free)
-  unfolding setFirst
-  first-within way N n s k l free ln ls w = go (ltb 0 l) (pruneUp M cap way k n s free) (up-within way k w M n s free ln ls)
+  leaf-within : (way : ℕ → Passed) (N : List ℕ) (n s k l free : ℕ) → n < cap → s < nodeWords cap → InTable cap way k → FreedIn N (shortenLeaf N cap way n s k l free)
+  unfolding shortenLeaf
+  leaf-within way N n s k l free ln ls w = go (ltb 0 l) (pruneUp M cap way k n s free) (up-within way k w M n s free ln ls)
     where
       M : List ℕ
-      M = set N (stateAt cap n) (leafState l)
+      M = set N (stateAt cap n) emptyState
 
       on : (r : Freed) → FreedIn M r → FreedIn N r
-      on (freed N' free') h = within-both (put-within N n l ln) h
+      on (freed N' free') h = within-both (empty-within N n ln) h
 
-      go : (t : Bool) (r : Freed) → FreedIn M r → FreedIn N (cond t (freed M free) r)
-      go true r h = put-within N n l ln
+      go : (t : Bool) (r : Freed) → FreedIn M r → FreedIn N (cond t (freed (shorter N cap n l) free) r)
+      go true r h = shorter-within N n l ln
       go false r h = on r h
 
 -- ---- both tables
@@ -131,8 +135,7 @@ module _ (cap lo hi pcap base p : ℕ) (low : lo ≤ base) (high : base + pcap �
       left P' (freed N' free') h g = (h, g)
 
       go : (t : Took) → TookIn lo hi pcap base p low high P t → GoneIn cap lo hi N P (removeTaken N cap way n s k free t)
-      go (took P' (First l)) h = left P' (setFirst N cap way n s k l free) (first-within cap way N n s k l free ln ls w) h
-      go (took P' taken.Inside) h = (within-none, h)
+      go (took P' (Out l)) h = left P' (shortenLeaf N cap way n s k l free) (leaf-within cap way N n s k l free ln ls w) h
       go (took P' taken.Missing) h = (within-none, h)
       go (took P' taken.Broken) h = (within-none, h)
 

@@ -1,6 +1,7 @@
 // The page taken out of the trie of each block.
 ghost use mathlib.Core.Path.{_≡_};
 ghost use Prim.Native.Nat.{_<_};
+ghost use lib.ListN.{length};
 ghost use Rattle.layout.specs.Header.{bare};
 ghost use Rattle.layout.specs.Tables.{Lent};
 ghost use Rattle.trie_remove.specs.Remove.{gone};
@@ -11,9 +12,12 @@ use blocks::rows_of;
 use layout::Header;
 use trie_remove::Removed;
 
+// Of one block; the arrays are for the path to the page's leaf.
 fn remove_block(
     nodes: &mut [u32],
     pages: &mut [u32],
+    above: &mut [u32; 64],
+    slots: &mut [u32; 64],
     sketches: &[u8],
     h: Header,
     p: usize,
@@ -23,13 +27,16 @@ fn remove_block(
     requires { ⌜ Lent h (now nodes) (now pages) (now sketches) ⌝ }
     requires { ⌜ p < h .pages ⌝ }
     requires { ⌜ j < h .q ⌝ }
+    requires { ⌜ (length (now above) ≡ 64) × (length (now slots) ≡ 64) ⌝ }
     ensures { λ r. ⌜ gone (now (nodes .exit)) (now (pages .exit)) r ≡ removeBlock (bare h) (now (sketches .entry)) p j (now (nodes .entry)) (now (pages .entry)) free ⌝ }
+    ensures long { λ r. ⌜ (length (now (above .exit)) ≡ 64) × (length (now (slots .exit)) ≡ 64) ⌝ }
 {
-    let bytes = row_bytes(h, sketches, p, j);
+    let mut bytes = [0u8; 64];
+    row_bytes(&mut bytes, h, sketches, p, j);
     let block = block_of(h, j);
     let rows = rows_of(h, j);
     let n = rows.bytes;
-    trie_remove::remove_page(nodes, pages, block, j, &bytes[..n], p, free)
+    trie_remove::remove_page(nodes, pages, above, slots, block, j, &bytes[..n], p, free)
 }
 
 // The free link then, or that it stopped on unsound tables.
@@ -46,10 +53,22 @@ pub fn remove_all(
     ensures { λ r. ⌜ gone (now (nodes .exit)) (now (pages .exit)) r ≡ removeAll (bare h) (now (sketches .entry)) p (now (nodes .entry)) (now (pages .entry)) free ⌝ }
 {
     let q = h.q;
+    let mut above = [0u32; 64];
+    let mut slots = [0u32; 64];
     let mut link = free;
     let mut j = 0;
     while j < q {
-        let removed = remove_block(nodes, pages, sketches, h, p, j, link);
+        let removed = remove_block(
+            nodes,
+            pages,
+            &mut above,
+            &mut slots,
+            sketches,
+            h,
+            p,
+            j,
+            link,
+        );
         match removed {
             Removed::Done(next) => {
                 link = next;

@@ -10,7 +10,7 @@ use lib.ListN.{getD, replicate}
 use Rattle.meaning.specs.Lists.{all, any, count, from, upto}
 use Rattle.meaning.specs.Sketch.{perByte, symbolsAt, packable}
 use Rattle.meaning.specs.Trie.{byteAt, pagesIn}
-use Rattle.layout.specs.States.{kindOf}
+use Rattle.layout.specs.States.{kindOf, countOf, shorter}
 use Rattle.children.specs.Heap.{Cells, hit, nodeClaims, pageClaims, nil, node, page, _⊕_}
 use Rattle.children.specs.Order.{bare}
 use Rattle.children.specs.Places.{placeFrom, findPlace}
@@ -21,10 +21,10 @@ use Rattle.trie_laws.proofs.Lists.{holds, fails, truth, any-none}
 use Rattle.trie.specs.Descend.{stepTo, descend, descendTo, passedAt}
 use Rattle.trie.proofs.Arrival.{Leads, sound-leads}
 use Rattle.trie_remove.specs.declared.Removed.the-variants.{Done}
-use Rattle.trie_remove.specs.Take.{takePage}
+use Rattle.trie_remove.specs.Take.{takeFrom, takePage}
 use Rattle.trie.specs.Model.{freeChild}
 use Rattle.trie_remove.specs.Prune.{pruneUp}
-use Rattle.trie_remove.specs.Remove.{setFirst, removeAt, removePage, gone}
+use Rattle.trie_remove.specs.Remove.{shortenLeaf, removeAt, removePage, gone}
 use Rattle.trie_remove.proofs.Removal.{RemoveDone, remove-right}
 
 -- ---- cells at different addresses claim no word twice
@@ -80,7 +80,7 @@ abbrev bytesOf : ℕ → List ℕ
 bytesOf x = (x + 1) ∷ []
 
 abbrev N : List ℕ
-N = 0 ∷ 524291 ∷ 1048576 ∷ 1 ∷ 3 ∷ 4 ∷ 2 ∷ replicate 23 0
+N = 0 ∷ 524291 ∷ 1048576 ∷ 65536 ∷ 65537 ∷ 65538 ∷ 2 ∷ replicate 23 0
 
 abbrev P : List ℕ
 P = 0 ∷ 0 ∷ []
@@ -125,12 +125,33 @@ leads = sound-leads bytesOf 8 1 1 (tree t) (2 ∷ []) sound (λ k l. refl) octet
 done : RemoveDone 3 2 0 bytesOf 1 N P t [] nil (removePage N P 3 2 0 0 (2 ∷ []) 1 0)
 done = remove-right bytesOf 1 state leads 8 1 1 sound stands
 
-computed : removePage N P 3 2 0 0 (2 ∷ []) 1 0 ≡ gone (0 ∷ 524288 ∷ 0 ∷ 1 ∷ 3 ∷ 0 ∷ 2 ∷ replicate 23 0) P (Done 3)
-unfolding removePage removeAt setFirst pruneUp bare all upto from freeChild kindOf takePage descendTo descend stepTo passedAt findPlace placeFrom
+computed : removePage N P 3 2 0 0 (2 ∷ []) 1 0 ≡ gone (0 ∷ 524288 ∷ 0 ∷ 65536 ∷ 65537 ∷ 0 ∷ 2 ∷ replicate 23 0) P (Done 3)
+unfolding removePage removeAt shortenLeaf pruneUp bare all upto from freeChild kindOf takePage descendTo descend stepTo passedAt findPlace placeFrom
 computed = refl
 
 -- ---- page 0 alone in node 2, below node 1 and the root: both are freed, and the root is an empty leaf
-chain : removePage (0 ∷ 524288 ∷ 1048576 ∷ 1 ∷ 1 ∷ 3 ∷ 2 ∷ replicate 7 0 ++ 3 ∷ replicate 15 0) (0 ∷ []) 3 1 0 0 (1 ∷ 2 ∷ []) 0 0 ≡
-    gone (0 ∷ 3 ∷ 0 ∷ 2 ∷ replicate 26 0) (0 ∷ []) (Done 2)
-unfolding removePage removeAt setFirst pruneUp bare all upto from freeChild kindOf takePage descendTo descend stepTo passedAt findPlace placeFrom
+chain : removePage (0 ∷ 524288 ∷ 1048576 ∷ 65536 ∷ 65536 ∷ 65537 ∷ 2 ∷ replicate 7 0 ++ 3 ∷ replicate 15 0) (0 ∷ []) 3 1 0 0 (1 ∷ 2 ∷ []) 0 0 ≡
+    gone (0 ∷ 3 ∷ 0 ∷ 131072 ∷ replicate 26 0) (0 ∷ []) (Done 2)
+unfolding removePage removeAt shortenLeaf pruneUp bare all upto from freeChild kindOf takePage descendTo descend stepTo passedAt findPlace placeFrom
 chain = refl
+
+-- ---- pages 2, 1 and 0 in the root, a leaf: whichever is taken out, two are left
+abbrev three : List ℕ
+three = 0 ∷ 196611 ∷ replicate 8 0
+
+first-out : removePage three (0 ∷ 1 ∷ 2 ∷ []) 1 3 0 0 [] 2 0 ≡ gone (0 ∷ 131074 ∷ replicate 8 0) (0 ∷ 1 ∷ 2 ∷ []) (Done 0)
+unfolding removePage removeAt shortenLeaf shorter countOf kindOf takePage descendTo descend stepTo passedAt
+first-out = refl
+
+inside-out : removePage three (0 ∷ 1 ∷ 2 ∷ []) 1 3 0 0 [] 1 0 ≡ gone (0 ∷ 131075 ∷ replicate 8 0) (0 ∷ 1 ∷ 1 ∷ []) (Done 0)
+unfolding removePage removeAt shortenLeaf shorter countOf kindOf takePage takeFrom descendTo descend stepTo passedAt
+inside-out = refl
+
+last-out : removePage three (0 ∷ 1 ∷ 2 ∷ []) 1 3 0 0 [] 0 0 ≡ gone (0 ∷ 131075 ∷ replicate 8 0) (0 ∷ 0 ∷ 2 ∷ []) (Done 0)
+unfolding removePage removeAt shortenLeaf shorter countOf kindOf takePage takeFrom descendTo descend stepTo passedAt
+last-out = refl
+
+-- on damaged tables, where the number was 0, it stays 0
+damaged : removePage (0 ∷ 3 ∷ replicate 8 0) (0 ∷ 1 ∷ 2 ∷ []) 1 3 0 0 [] 2 0 ≡ gone (0 ∷ 2 ∷ replicate 8 0) (0 ∷ 1 ∷ 2 ∷ []) (Done 0)
+unfolding removePage removeAt shortenLeaf shorter countOf kindOf takePage descendTo descend stepTo passedAt
+damaged = refl

@@ -1,29 +1,28 @@
 -- A page out of a leaf that holds it: what `removeAt` comes to, and the state with the leaf that is left.
-use Prim.Native.Nat.{ℕ, _+_, _<_}
+use Prim.Native.Nat.{ℕ, suc, _+_, _<_}
 use native.Mathlib.Omega.{arith}
 use mathlib.Core.Path.{_≡_, refl, ap, _∙_, sym}
-use mathlib.Core.Bool.{Bool, true, false, cond, false≢true}
+use mathlib.Core.Bool.{Bool, true, false, cond}
 use mathlib.Core.List.{List, [], _∷_}
 use lib.Dec.{eqb}
 use lib.ListN.{length, set, length-set}
 use Rattle.meaning.specs.Lists.{any}
 use Rattle.meaning.specs.Trie.{without}
-use Rattle.layout.specs.Nodes.{stateAt, leafState}
-use Rattle.layout.specs.States.{kindOf, firstOf}
-use Rattle.layout.specs.declared.nodes.Kind.the-variants as kind
-use Rattle.layout.proofs.States.{kind-state}
-use Rattle.children.specs.Heap.{Cells, Heap, node, page, _⊕_}
+use Rattle.layout.specs.Nodes.{stateAt, emptyState, leafState}
+use Rattle.layout.specs.States.{kindOf, firstOf, countOf, shorter}
+use Rattle.layout.proofs.States.{shorter-is}
+use Rattle.children.specs.Heap.{Cells, node, page, _⊕_}
 use Rattle.children.specs.Phys.{first, pageCells, noKids, freeCells, cells, Below, State, leafP}
+use Rattle.children.proofs.Leaves.{held-kind, held-count}
 use Rattle.children.proofs.Frame.{Less, less, node-write, nodes-kept, pages-kept}
-use Rattle.trie_remove.specs.declared.Taken.{Taken}
-use Rattle.trie_remove.specs.declared.Taken.the-variants.{First, Inside, Missing, Broken}
+use Rattle.trie_remove.specs.declared.Taken.the-variants.{Out}
 use Rattle.trie_remove.specs.declared.Removed.the-variants.{Done}
 use Rattle.trie_remove.specs.Take.{takePage, took}
 use Rattle.trie.specs.Descend.{Passed}
 use Rattle.trie_remove.specs.Prune.{pruneUp}
-use Rattle.trie_remove.specs.Remove.{removeAt, Gone, gone, goneTo}
-use Rattle.trie_remove.proofs.Steps.{first-some, first-none, remove-to, remove-inside}
-use Rattle.trie_remove.proofs.Take.{Tells, TakeDone, take-right}
+use Rattle.trie_remove.specs.Remove.{shortenLeaf, removeAt, Gone, gone, goneTo}
+use Rattle.trie_remove.proofs.Steps.{shorten-some, shorten-none, out-to}
+use Rattle.trie_remove.proofs.Take.{one-less, TakeDone, take-right}
 
 -- what taking page p out of leaf c, at level k, comes to: where the leaf has no pages left, nodes are freed from it on up
 pub record LeafDone (cap pcap base : ℕ) (N P : List ℕ) (free : ℕ) (way : ℕ → Passed) (c p s k : ℕ) (ps fs : List ℕ) (G : Cells) (o : Gone) : Type 0 where
@@ -36,11 +35,6 @@ pub record LeafDone (cap pcap base : ℕ) (N P : List ℕ) (free : ℕ) (way : �
   pub nodesLength : length nodesTo ≡ length N
   pub pagesLength : length pagesTo ≡ length P
 
-member-some : (p : ℕ) (ps : List ℕ) → any (eqb p) ps ≡ true → 0 < first ps
-unfolding any
-member-some p [] m = absurd (false≢true m)
-member-some p (x ∷ ps) m = omega arith
-
 below-without : (m p : ℕ) (ps : List ℕ) → Below m ps → Below m (without p ps)
 unfolding without
 below-without m p [] l = tt
@@ -50,80 +44,71 @@ below-without m p (x ∷ ps) l = go (eqb x p) (below-without m p ps (l .1))
     go true h = h
     go false h = (l .0, h)
 
+-- the state with one page less, where some are left, and where none is
+module _ (N : List ℕ) (cap c : ℕ) where
+  some-left : (qs : List ℕ) → countOf N cap c ≡ suc (length qs) → 0 < first qs → set N (stateAt cap c) (leafState (length qs) (first qs)) ≡ shorter N cap c (first qs)
+  some-left [] e z = absurd (omega arith)
+  some-left (q ∷ qs) e z = sym (shorter-is N cap c (length qs) (q + 1) e)
+
+  none-left : (qs : List ℕ) → first qs ≡ 0 → set N (stateAt cap c) (leafState (length qs) (first qs)) ≡ set N (stateAt cap c) emptyState
+  none-left [] z = refl
+  none-left (q ∷ qs) z = absurd (omega arith)
+
 module _ {cap pcap base : ℕ} {N P : List ℕ} {free c : ℕ} {ps fs : List ℕ} {G : Cells} (st : State cap pcap base N P free (leafP c ps) fs G) (way : ℕ → Passed) (p s k : ℕ) (m : any (eqb p) ps ≡ true) where
   R : Cells
   R = noKids cap c ⊕ freeCells cap fs ⊕ G
 
-  apart : Less (cells cap base (leafP c ps) ⊕ freeCells cap fs ⊕ G) (pageCells base ps ⊕ node (stateAt cap c) (leafState (first ps)) ⊕ R)
+  apart : Less (cells cap base (leafP c ps) ⊕ freeCells cap fs ⊕ G) (pageCells base ps ⊕ node (stateAt cap c) (leafState (length ps) (first ps)) ⊕ R)
   unfolding R
   apart = record { holds = λ N P h. search; nodes = λ a. omega arith; pages = λ a. omega arith }
 
   module _ (qs : List ℕ) (v : ℕ) where
-    loose : Less (pageCells base qs ⊕ page (base + p) v ⊕ node (stateAt cap c) (leafState (first ps)) ⊕ R) (node (stateAt cap c) (leafState (first ps)) ⊕ pageCells base qs ⊕ page (base + p) v ⊕ R)
+    loose : Less (pageCells base qs ⊕ page (base + p) v ⊕ node (stateAt cap c) (leafState (length ps) (first ps)) ⊕ R) (node (stateAt cap c) (leafState (length ps) (first ps)) ⊕ pageCells base qs ⊕ page (base + p) v ⊕ R)
     loose = record { holds = λ N P h. search; nodes = λ a. omega arith; pages = λ a. omega arith }
 
-    together : Less (node (stateAt cap c) (leafState (first qs)) ⊕ pageCells base qs ⊕ page (base + p) v ⊕ R) (cells cap base (leafP c qs) ⊕ freeCells cap fs ⊕ page (base + p) v ⊕ G)
+    together : Less (node (stateAt cap c) (leafState (length qs) (first qs)) ⊕ pageCells base qs ⊕ page (base + p) v ⊕ R) (cells cap base (leafP c qs) ⊕ freeCells cap fs ⊕ page (base + p) v ⊕ G)
     unfolding R
     together = record { holds = λ N P h. search; nodes = λ a. omega arith; pages = λ a. omega arith }
 
   word : firstOf (kindOf N cap c) ≡ first ps
-  word = ap firstOf (kind-state N cap c (kind.Leaf (first ps)) (st .heap .holds .0 .0))
+  word = ap firstOf (held-kind N cap c ps (st .heap .holds .0 .0) (st .sound .1) (st .pageTable .small))
 
-  done : TakeDone N P base p ps (node (stateAt cap c) (leafState (first ps)) ⊕ R) (takePage P pcap base (firstOf (kindOf N cap c)) p)
+  number : countOf N cap c ≡ suc (length (without p ps))
+  number = held-count N cap c ps (st .heap .holds .0 .0) (st .sound .1) (st .pageTable .small) ∙ one-less p base ps (less apart (st .heap)) m
+
+  done : TakeDone N P base p ps (node (stateAt cap c) (leafState (length ps) (first ps)) ⊕ R) (takePage P pcap base (firstOf (kindOf N cap c)) p)
   done = rw word (take-right pcap base p (st .pageTable) ps (less apart (st .heap)) (st .sound .1) m)
 
-  left : (M : List ℕ) (P' : List ℕ) (v : ℕ) → length M ≡ length N → length P' ≡ length P → Heap M P' (node (stateAt cap c) (leafState (first (without p ps))) ⊕ pageCells base (without p ps) ⊕ page (base + p) v ⊕ R) →
-      State cap pcap base M P' free (leafP c (without p ps)) fs (page (base + p) v ⊕ G)
-  left M P' v i j h =
-      record {
-        nodeTable = nodes-kept i (st .nodeTable);
-        pageTable = pages-kept j (st .pageTable);
-        heap = less (together (without p ps) v) h;
-        sound = (st .sound .0, below-without pcap p ps (st .sound .1));
-        chain = st .chain;
-        below = st .below;
-      }
+  -- whichever page it is, the leaf's first page is the first of those left
+  taken : removeAt N P cap pcap base way c s k p free ≡ goneTo (done .pagesTo) (shortenLeaf N cap way c s k (first (without p ps)) free)
+  taken =
+      out-to N P cap pcap base way c s k p free (firstOf (kindOf N cap c)) refl (done .pagesTo) (Out (first (without p ps))) (sym (done .is))
+      (first (without p ps)) refl
 
   pub leaf-right : LeafDone cap pcap base N P free way c p s k ps fs G (removeAt N P cap pcap base way c s k p free)
-  leaf-right = go (done .answer) (done .tells) (sym (done .is))
+  leaf-right =
+      let t = st .nodeTable in
+      let lc : c < cap = st .sound .0 in
+      record {
+        nodesTo = M;
+        pagesTo = done .pagesTo;
+        linkTo = done .linkTo;
+        state = record {
+          nodeTable = nodes-kept (simp length-set) t;
+          pageTable = pages-kept (done .length) (st .pageTable);
+          heap = less (together qs (done .linkTo)) (node-write (leafState (length qs) (first qs)) (less (loose qs (done .linkTo)) (done .heap)) (omega (arith, t .long)));
+          sound = (lc, below-without pcap p ps (st .sound .1));
+          chain = st .chain;
+          below = st .below;
+        };
+        full = λ z. taken ∙ ap (goneTo (done .pagesTo)) (sym (shorten-some N cap way c s k (first qs) free M (some-left N cap c qs number z) z));
+        emptied = λ z. taken ∙ ap (goneTo (done .pagesTo)) (sym (shorten-none N cap way c s k (first qs) free M (none-left N cap c qs z) (omega arith) (pruneUp M cap way k c s free) refl));
+        nodesLength = simp length-set;
+        pagesLength = done .length;
+      }
     where
       qs : List ℕ
       qs = without p ps
 
-      h : Heap N (done .pagesTo) (node (stateAt cap c) (leafState (first ps)) ⊕ pageCells base qs ⊕ page (base + p) (done .linkTo) ⊕ R)
-      h = less (loose qs (done .linkTo)) (done .heap)
-
-      lc : c < cap
-      lc = st .sound .0
-
       M : List ℕ
-      M = set N (stateAt cap c) (leafState (first qs))
-
-      go : (a : Taken) → Tells a ps qs → took (done .pagesTo) a ≡ takePage P pcap base (firstOf (kindOf N cap c)) p → LeafDone cap pcap base N P free way c p s k ps fs G (removeAt N P cap pcap base way c s k p free)
-      go (First l) e i =
-          let r = remove-to N P cap pcap base way c s k p free (firstOf (kindOf N cap c)) refl (done .pagesTo) (First (first qs)) (rw e at i) (first qs) refl in
-          let t = st .nodeTable in
-          record {
-            nodesTo = M;
-            pagesTo = done .pagesTo;
-            linkTo = done .linkTo;
-            state = left M (done .pagesTo) (done .linkTo) (simp length-set) (done .length) (node-write (leafState (first qs)) h (omega arith));
-            full = λ z. r ∙ ap (goneTo (done .pagesTo)) (sym (first-some N cap way c s k (first qs) free M refl z));
-            emptied = λ z. r ∙ ap (goneTo (done .pagesTo)) (sym (first-none N cap way c s k (first qs) free M refl (omega arith) (pruneUp M cap way k c s free) refl));
-            nodesLength = simp length-set;
-            pagesLength = done .length;
-          }
-      go Inside e i =
-          let o : 0 < first qs = rw e at (member-some p ps m) in
-          record {
-            nodesTo = N;
-            pagesTo = done .pagesTo;
-            linkTo = done .linkTo;
-            state = left N (done .pagesTo) (done .linkTo) refl (done .length) (rw e at h);
-            full = λ z. sym (remove-inside N P cap pcap base way c s k p free (firstOf (kindOf N cap c)) refl (done .pagesTo) Inside i refl);
-            emptied = λ z. absurd (omega arith);
-            nodesLength = refl;
-            pagesLength = done .length;
-          }
-      go Missing e i = absurd e
-      go Broken e i = absurd e
+      M = set N (stateAt cap c) (leafState (length qs) (first qs))

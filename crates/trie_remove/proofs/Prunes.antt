@@ -6,7 +6,7 @@ use mathlib.Core.Bool.{Bool, true, false}
 use mathlib.Core.List.{List}
 use lib.ListN.{getD, set}
 use Rattle.meaning.proofs.Stacks.{suc-pred}
-use Rattle.layout.specs.Nodes.{stateAt, leafState}
+use Rattle.layout.specs.Nodes.{stateAt, emptyState}
 use Rattle.children.specs.Order.{bare}
 use Rattle.trie.specs.Model.{freeChild}
 use Rattle.trie.specs.declared.path.Reach.{Reach}
@@ -25,7 +25,7 @@ module _ (N : List ℕ) (cap : ℕ) (way : ℕ → Passed) (k n s free : ℕ) wh
   up-stop e = rw e refl
 
   pub up-on : bare Left cap (way k .node) ≡ true →
-      pruneUp N cap way (suc k) n s free ≡ pruneUp (set Left (stateAt cap (way k .node)) (leafState 0)) cap way k (way k .node) (way k .slot) (n + 1)
+      pruneUp N cap way (suc k) n s free ≡ pruneUp (set Left (stateAt cap (way k .node)) emptyState) cap way k (way k .node) (way k .slot) (n + 1)
   unfolding pruneUp
   up-on e = rw e refl
 
@@ -45,7 +45,7 @@ module _ (N : List ℕ) (cap : ℕ) (way : ℕ → Passed) (k n s free : ℕ) (R
     pub prune-stop : b ≡ false → freed M r ≡ R
     prune-stop f = rw (e, z) (sym (up-stop N cap way (k - 1) n s free (rw e at (sym q ∙ f))) ∙ from)
 
-    pub prune-on : b ≡ true → (M' : List ℕ) → M' ≡ set M (stateAt cap (above .node)) (leafState 0) → pruneUp M' cap way (k - 1) (above .node) (above .slot) r ≡ R
+    pub prune-on : b ≡ true → (M' : List ℕ) → M' ≡ set M (stateAt cap (above .node)) emptyState → pruneUp M' cap way (k - 1) (above .node) (above .slot) r ≡ R
     prune-on f M' v = rw (v, e, z) (sym (up-on N cap way (k - 1) n s free (rw e at (sym q ∙ f))) ∙ from)
 
 -- only the nodes above count
@@ -55,7 +55,7 @@ unfolding pruneUp
 prune-same cap path way zero h N n s free = refl
 prune-same cap path way (suc k) h N n s free =
     let M : List ℕ = freeChild N cap s n free in
-    rw (h k (omega arith), prune-same cap path way k (λ j l. h j (omega arith)) (set M (stateAt cap (way k .node)) (leafState 0)) (way k .node) (way k .slot) (n + 1)) refl
+    rw (h k (omega arith), prune-same cap path way k (λ j l. h j (omega arith)) (set M (stateAt cap (way k .node)) emptyState) (way k .node) (way k .slot) (n + 1)) refl
 
 -- the nodes that a way notes are in the table
 pub noted-within : (N : List ℕ) (cap root : ℕ) (Y : List ℕ) → root < cap → ((k : ℕ) → getD Y k 0 < 256) → (r : Reach) (n s k : ℕ) → r ≡ Leaf n s k →

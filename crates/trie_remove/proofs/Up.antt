@@ -7,7 +7,7 @@ use mathlib.Core.Bool.{Bool, true, false}
 use mathlib.Core.List.{List, [], _∷_}
 use lib.ListN.{length, set, length-set}
 use Rattle.meaning.specs.Trie.{leaf, inner, none, child, shrunk, byteAt, remove, nodes, nodesIn}
-use Rattle.layout.specs.Nodes.{stateAt, innerState, leafState, mostNodes}
+use Rattle.layout.specs.Nodes.{stateAt, innerState, emptyState, mostNodes}
 use Rattle.children.specs.Heap.{Cells, node, _⊕_}
 use Rattle.children.specs.Order.{bare}
 use Rattle.children.specs.Phys.{Phys, Kids, noKid, kid, root, tree, childrenOf, noKids, freeCells, cells, State, leafP, innerP}
@@ -32,9 +32,9 @@ use Rattle.trie_remove.proofs.Prunes.{up-stop, up-on}
 
 -- an inner node without children is made an empty leaf
 module _ {cap pcap base : ℕ} {N P : List ℕ} {free n : ℕ} {fs : List ℕ} {G : Cells} (st : State cap pcap base N P free (innerP n noKid) fs G) where
-  leaf-state : State cap pcap base (set N (stateAt cap n) (leafState 0)) P free (leafP n []) fs G
+  leaf-state : State cap pcap base (set N (stateAt cap n) emptyState) P free (leafP n []) fs G
   leaf-state =
-      restate (leafState 0) st (st .sound .0) (st .sound .0, tt) apart together
+      restate emptyState st (st .sound .0) (st .sound .0, tt) apart together
     where
       R : Cells
       R = noKids cap n ⊕ freeCells cap fs ⊕ G
@@ -42,7 +42,7 @@ module _ {cap pcap base : ℕ} {N P : List ℕ} {free n : ℕ} {fs : List ℕ} {
       apart : Less (cells cap base (innerP n noKid) ⊕ freeCells cap fs ⊕ G) (node (stateAt cap n) innerState ⊕ R)
       apart = record { holds = λ N P h. search; nodes = λ a. omega arith; pages = λ a. omega arith }
 
-      together : Less (node (stateAt cap n) (leafState 0) ⊕ R) (cells cap base (leafP n []) ⊕ freeCells cap fs ⊕ G)
+      together : Less (node (stateAt cap n) emptyState ⊕ R) (cells cap base (leafP n []) ⊕ freeCells cap fs ⊕ G)
       together = record { holds = λ N P h. search; nodes = λ a. omega arith; pages = λ a. omega arith }
 
 -- ---- nodes counted
@@ -163,7 +163,7 @@ module _ {cap pcap base : ℕ} (small : cap ≤ mostNodes) (bytesOf : ℕ → Li
     -- it was the last child: the node is an empty leaf
     module _ (z : a .spot .put gap ≡ noKid) where
       abbrev Emptied : List ℕ
-      Emptied = set M (stateAt cap (a .node)) (leafState 0)
+      Emptied = set M (stateAt cap (a .node)) emptyState
 
       childless : State cap pcap base M P (root u + 1) (innerP (a .node) noKid) (root u ∷ fs) (w .context .rest ⊕ G)
       childless = subst (λ (ks : Kids). State cap pcap base M P (root u + 1) (innerP (a .node) ks) (root u ∷ fs) (w .context .rest ⊕ G)) z freed-state
@@ -187,7 +187,7 @@ module _ {cap pcap base : ℕ} (small : cap ≤ mostNodes) (bytesOf : ℕ → Li
             freesTo = d .freesTo;
             is =
                 up-on N cap way j (root u) s free bared
-                ∙ ap (λ (y : Passed). pruneUp (set M (stateAt cap (y .node)) (leafState 0)) cap way j (y .node) (y .slot) (root u + 1)) here ∙ d .is;
+                ∙ ap (λ (y : Passed). pruneUp (set M (stateAt cap (y .node)) emptyState) cap way j (y .node) (y .slot) (root u + 1)) here ∙ d .is;
             state = d .state;
             root = d .root;
             removed = d .removed;

@@ -3,7 +3,7 @@ use Prim.Native.Nat.{ℕ, zero, suc, _+_, _<_}
 use mathlib.Core.Bool.{cond}
 use mathlib.Core.List.{List}
 use lib.ListN.{set}
-use Rattle.layout.specs.Nodes.{stateAt, leafState, nodeWords}
+use Rattle.layout.specs.Nodes.{stateAt, emptyState, nodeWords}
 use Rattle.children.specs.Order.{bare}
 use Rattle.trie.specs.Model.{freeChild}
 use Rattle.trie.specs.Descend.{Passed}
@@ -19,7 +19,7 @@ pruneUp N cap way zero n s free = freed N free
 pruneUp N cap way (suc k) n s free =
     let M : List ℕ = freeChild N cap s n free in
     let x : Passed = way k in
-    cond (bare M cap (x .node)) (pruneUp (set M (stateAt cap (x .node)) (leafState 0)) cap way k (x .node) (x .slot) (n + 1)) (freed M (n + 1))
+    cond (bare M cap (x .node)) (pruneUp (set M (stateAt cap (x .node)) emptyState) cap way k (x .node) (x .slot) (n + 1)) (freed M (n + 1))
 
 -- the nodes above level k and their slots are in the table
 abbrev pub InTable : ℕ → (ℕ → Passed) → ℕ → Type 0

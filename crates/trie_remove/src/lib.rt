@@ -8,19 +8,19 @@ ghost use Rattle.layout.specs.Tables.{NodeTable, PageTable};
 ghost use Rattle.trie.specs.Descend.{noted};
 ghost use Rattle.trie_remove.specs.Take.{takeFrom, takePage, took, linkIn};
 ghost use Rattle.trie_remove.specs.Prune.{freed, pruneUp, InTable};
-ghost use Rattle.trie_remove.specs.Remove.{setFirst, removeAt, removePage, gone};
+ghost use Rattle.trie_remove.specs.Remove.{shortenLeaf, removeAt, removePage, gone};
 use children::order::is_bare;
 use layout::Block;
 use layout::nodes::first_page;
-use layout::nodes::set_leaf;
+use layout::nodes::set_empty;
+use layout::nodes::shorten;
 use trie::leaf::free_child;
 use trie::path::Reach;
 use trie::path::trace_to;
 
-// How a page left a chain: it was the first, before a link; or inside. Or why not.
+// A page was taken out of a chain, which begins at this link then; or why not.
 pub enum Taken {
-    First(u32),
-    Inside,
+    Out(u32),
     Missing,
     Broken,
 }
@@ -29,8 +29,9 @@ pub enum Taken {
 fn take_behind(pages: &mut [u32], pcap: usize, base: usize, first: u32, p: usize) -> Taken
     requires { ⌜ PageTable pcap base (now pages) ⌝ }
     requires { ⌜ p < pcap ⌝ }
-    ensures { λ r. ⌜ took (now (pages .exit)) r ≡ takeFrom (now (pages .entry)) pcap base p first pcap ⌝ }
-    ensures inside { λ r. ⌜ linkIn r ≤ pcap ⌝ }
+    requires { ⌜ first ≤ mostPages ⌝ }
+    ensures { λ r. ⌜ took (now (pages .exit)) r ≡ takeFrom (now (pages .entry)) pcap base p first first pcap ⌝ }
+    ensures inside { λ r. ⌜ linkIn r ≤ mostPages ⌝ }
 {
     let mut link = first as usize;
     let mut left = pcap;
@@ -48,18 +49,19 @@ fn take_behind(pages: &mut [u32], pcap: usize, base: usize, first: u32, p: usize
         link = pages[at] as usize;
         if link == p + 1 {
             pages[at] = pages[base + p];
-            return Taken::Inside;
+            return Taken::Out(first);
         }
         left -= 1;
     }
 }
 
-// Page p out of the chain that begins at a link. Of the first page only the answer tells: the chain begins at the link after it then.
+// Page p out of the chain that begins at a link. Of the first page only the answer tells.
 pub fn take_page(pages: &mut [u32], pcap: usize, base: usize, first: u32, p: usize) -> Taken
     requires { ⌜ PageTable pcap base (now pages) ⌝ }
     requires { ⌜ p < pcap ⌝ }
+    requires { ⌜ first ≤ mostPages ⌝ }
     ensures { λ r. ⌜ took (now (pages .exit)) r ≡ takePage (now (pages .entry)) pcap base first p ⌝ }
-    ensures inside { λ r. ⌜ linkIn r ≤ pcap ⌝ }
+    ensures inside { λ r. ⌜ linkIn r ≤ mostPages ⌝ }
 {
     if first as usize != p + 1 {
         return take_behind(pages, pcap, base, first, p);
@@ -68,7 +70,7 @@ pub fn take_page(pages: &mut [u32], pcap: usize, base: usize, first: u32, p: usi
     if after as usize > pcap {
         return Taken::Broken;
     }
-    Taken::First(after)
+    Taken::Out(after)
 }
 
 // A leaf that a way down has reached: the slot that links to it, 0 at the root, and its level.
@@ -105,13 +107,13 @@ fn prune_up(
         if !is_bare(nodes, cap, n) {
             return link;
         }
-        set_leaf(nodes, cap, n, 0);
+        set_empty(nodes, cap, n);
     }
     link
 }
 
-// A leaf with another first page; where it has none, nodes are freed from it on up. The free link then.
-pub fn set_first(
+// A leaf with one page less, the first at a link; where it has none, nodes are freed from it on up. The free link then.
+pub fn shorten_leaf(
     nodes: &mut [u32],
     cap: usize,
     above: &[u32; 64],
@@ -124,12 +126,13 @@ pub fn set_first(
     requires { ⌜ (leaf .node < cap) × (leaf .slot < nodeWords cap) × (leaf .level ≤ 64) ⌝ }
     requires { ⌜ InTable cap (noted (now above) (now slots)) (leaf .level) ⌝ }
     requires { ⌜ link ≤ mostPages ⌝ }
-    ensures { λ r. ⌜ freed (now (nodes .exit)) r ≡ setFirst (now (nodes .entry)) cap (noted (now (above .entry)) (now (slots .entry))) (leaf .node) (leaf .slot) (leaf .level) link free ⌝ }
+    ensures { λ r. ⌜ freed (now (nodes .exit)) r ≡ shortenLeaf (now (nodes .entry)) cap (noted (now (above .entry)) (now (slots .entry))) (leaf .node) (leaf .slot) (leaf .level) link free ⌝ }
 {
-    set_leaf(nodes, cap, leaf.node, link);
     if link > 0 {
+        shorten(nodes, cap, leaf.node, link);
         return free;
     }
+    set_empty(nodes, cap, leaf.node);
     prune_up(nodes, cap, above, slots, leaf, free)
 }
 
@@ -159,19 +162,20 @@ pub fn remove_at(
     let first = first_page(nodes, block.nodes, leaf.node);
     let taken = take_page(pages, block.pages, block.base, first, p);
     match taken {
-        Taken::First(link) => {
-            Removed::Done(set_first(nodes, block.nodes, above, slots, leaf, link, free))
+        Taken::Out(link) => {
+            Removed::Done(shorten_leaf(nodes, block.nodes, above, slots, leaf, link, free))
         },
-        Taken::Inside => Removed::Done(free),
         Taken::Missing => Removed::Broken,
         Taken::Broken => Removed::Broken,
     }
 }
 
-// Page p out of the leaf where its bytes lead.
+// Page p out of the leaf where its bytes lead. The arrays are for the path to it.
 pub fn remove_page(
     nodes: &mut [u32],
     pages: &mut [u32],
+    above: &mut [u32; 64],
+    slots: &mut [u32; 64],
     block: Block,
     root: usize,
     bytes: &[u8],
@@ -182,12 +186,11 @@ pub fn remove_page(
     requires { ⌜ PageTable (block .pages) (block .base) (now pages) ⌝ }
     requires { ⌜ root < block .nodes ⌝ }
     requires { ⌜ p < block .pages ⌝ }
-    requires { ⌜ length (now bytes) ≤ 64 ⌝ }
+    requires { ⌜ (length (now bytes) ≤ 64) × (length (now above) ≡ 64) × (length (now slots) ≡ 64) ⌝ }
     ensures { λ r. ⌜ gone (now (nodes .exit)) (now (pages .exit)) r ≡ removePage (now (nodes .entry)) (now (pages .entry)) (block .nodes) (block .pages) (block .base) root (now (bytes .entry)) p free ⌝ }
+    ensures long { λ r. ⌜ (length (now (above .exit)) ≡ 64) × (length (now (slots .exit)) ≡ 64) ⌝ }
 {
-    let mut above = [0u32; 64];
-    let mut slots = [0u32; 64];
-    let reach = trace_to(nodes, block.nodes, root, bytes, &mut above, &mut slots);
+    let reach = trace_to(nodes, block.nodes, root, bytes, above, slots);
     match reach {
         Reach::Leaf(n, slot, level) => {
             let leaf = Reached {
@@ -195,7 +198,7 @@ pub fn remove_page(
                 slot: slot,
                 level: level,
             };
-            remove_at(nodes, pages, block, &above, &slots, leaf, p, free)
+            remove_at(nodes, pages, block, above, slots, leaf, p, free)
         }
         Reach::Gap(_, _, _) => Removed::Broken,
         Reach::Broken => Removed::Broken,

@@ -67,10 +67,10 @@ returns c =
     let f = c .before .before .before .before .before .before .before .free-child in
     prune-stop (at .nodes) _ _ (at .level) (at .n) (at .slot) (at .link) _ (at .inv .0) (omega arith) (f .last .0) (search needs) (f .result) (search needs) _ (c .before .is-bare .ensures) (not-true _ (c .if1 .taken))
 
-set-leaf-requires : tie.Need-set-leaf-requires Inv-loop μ-loop
-set-leaf-requires c κs =
+set-empty-requires : tie.Need-set-empty-requires Inv-loop μ-loop
+set-empty-requires c κs =
     let at = c .before .before .before .before .before .before .before .before .before .before .before .loop in
-    (search needs, (at .inv .4 (at .level - 1) (omega arith) .0, omega arith))
+    (search needs, at .inv .4 (at .level - 1) (omega arith) .0)
 
 loop-less : tie.Need-loop-less Inv-loop μ-loop
 loop-less c = search needs
@@ -82,7 +82,7 @@ loop-again c =
     let f = c .before .before .before .before .before .before .before .before .before .before .before .free-child in
     let step =
     prune-on (at .nodes) _ _ (at .level) (at .n) (at .slot) (at .link) _ (at .inv .0) (omega arith) (f .last .0) (search needs) (f .result) (search needs) _ (c .before .before .before .before .before .is-bare .ensures) (not-false _ (c .before .before .before .before .if1 .left))
-    (c .before .before .set-leaf .last .0) (search needs) in
+    (c .before .before .set-empty .last .0) (search needs) in
     (step, inside .0, inside .1, omega (arith, at .inv .3), (λ j l. at .inv .4 j (omega arith)), search needs)
 
 same-length-2 : tie.Need-same-length-2 Inv-loop μ-loop
@@ -109,7 +109,7 @@ prune-up-spec =
     is-bare-requires
     same-length
     returns
-    set-leaf-requires
+    set-empty-requires
     loop-less
     loop-again
     same-length-2

@@ -1,6 +1,6 @@
 -- `remove_at` meets its contract.
 use native.Mathlib.Omega.{arith}
-use Rattle.trie_remove.proofs.Steps.{first-link, remove-first, remove-inside, remove-missing, remove-unlinked}
+use Rattle.trie_remove.proofs.Steps.{first-small, out-link, remove-out, remove-missing, remove-unlinked}
 use borrow.Author.Needs.{needs}
 use Rattle.trie_remove.proofs.remove_at.Statement.{statement}
 use Rattle.trie_remove.proofs.remove_at.Tie as tie
@@ -9,22 +9,19 @@ first-page-requires : tie.Need-first-page-requires
 first-page-requires c κs = search needs
 
 take-page-requires : tie.Need-take-page-requires
-take-page-requires c κs = search needs
+take-page-requires c κs = (search needs, (search needs, search first-small))
 
 enum-known-taken : tie.Need-enum-known-taken
 enum-known-taken c = search needs
 
-set-first-requires : tie.Need-set-first-requires
-set-first-requires c κs = (search needs, ((omega arith, omega arith, omega arith), (search needs, search (first-link, arith))))
+shorten-leaf-requires : tie.Need-shorten-leaf-requires
+shorten-leaf-requires c κs = (search needs, ((omega arith, omega arith, omega arith), (search needs, search out-link)))
 
 enum-told : tie.Need-enum-told
 enum-told c = search needs
 
 enum-told-2 : tie.Need-enum-told-2
 enum-told-2 c = search needs
-
-enum-told-3 : tie.Need-enum-told-3
-enum-told-3 c = search needs
 
 same-length : tie.Need-same-length
 same-length c = search needs
@@ -33,7 +30,7 @@ same-length-2 : tie.Need-same-length-2
 same-length-2 c = search needs
 
 returns : tie.Need-returns
-returns c = search remove-first
+returns c = search remove-out
 
 same-length-3 : tie.Need-same-length-3
 same-length-3 c = search needs
@@ -42,7 +39,7 @@ same-length-4 : tie.Need-same-length-4
 same-length-4 c = search needs
 
 returns-2 : tie.Need-returns-2
-returns-2 c = search remove-inside
+returns-2 c = search remove-missing
 
 same-length-5 : tie.Need-same-length-5
 same-length-5 c = search needs
@@ -51,16 +48,7 @@ same-length-6 : tie.Need-same-length-6
 same-length-6 c = search needs
 
 returns-3 : tie.Need-returns-3
-returns-3 c = search remove-missing
-
-same-length-7 : tie.Need-same-length-7
-same-length-7 c = search needs
-
-same-length-8 : tie.Need-same-length-8
-same-length-8 c = search needs
-
-returns-4 : tie.Need-returns-4
-returns-4 c = search remove-unlinked
+returns-3 c = search remove-unlinked
 
 pub remove-at-spec : {M : Type 1} → statement M
 remove-at-spec =
@@ -69,10 +57,9 @@ remove-at-spec =
     first-page-requires
     take-page-requires
     enum-known-taken
-    set-first-requires
+    shorten-leaf-requires
     enum-told
     enum-told-2
-    enum-told-3
     same-length
     same-length-2
     returns
@@ -81,7 +68,4 @@ remove-at-spec =
     returns-2
     same-length-5
     same-length-6
-    returns-3
-    same-length-7
-    same-length-8
-    returns-4)
+    returns-3)

@@ -21,8 +21,8 @@ remove-at-requires c κs =
       (
         search needs,
         (
-          (search leaf-node, search leaf-slot, omega (arith, leaf-level _ _ _ _ _ _ (reach .1) (trace .ensures .1 .0)), omega arith),
-          noted-within _ _ _ _ (omega arith) (λ k. omega (arith, c .before .before .before .before .before .before .before .before .before .before .before .shared-slice-known .given k)) _ _ _ _ (reach .1) _ (trace .ensures .1 .1),
+          (leaf-node _ _ _ _ _ _ (reach .1) (trace .ensures .1 .0), leaf-slot _ _ _ _ _ _ (reach .1) (trace .ensures .1 .0), omega (arith, leaf-level _ _ _ _ _ _ (reach .1) (trace .ensures .1 .0)), omega arith),
+          noted-within _ _ _ _ (omega arith) (λ k. omega (arith, c .before .before .before .before .before .before .before .before .before .before .before .shared-slice-known .given k)) _ _ _ _ (reach .1) _ (trace .ensures .1 .1 .0),
         ),
       ),
     )
@@ -40,19 +40,19 @@ same-length-2 : tie.Need-same-length-2
 same-length-2 c = search needs
 
 returns : tie.Need-returns
-returns c = search remove-leaf
+returns c = (search remove-leaf, (search needs, search needs))
 
 same-length-3 : tie.Need-same-length-3
 same-length-3 c = search needs
 
 returns-2 : tie.Need-returns-2
-returns-2 c = search remove-gap
+returns-2 c = (search remove-gap, (search needs, search needs))
 
 same-length-4 : tie.Need-same-length-4
 same-length-4 c = search needs
 
 returns-3 : tie.Need-returns-3
-returns-3 c = search remove-nowhere
+returns-3 c = (search remove-nowhere, (search needs, search needs))
 
 pub remove-page-spec : {M : Type 1} → statement M
 remove-page-spec =

@@ -11,7 +11,7 @@ use Rattle.trie_remove.proofs.take_behind.Tie as tie
 
 abbrev Inv-loop : tie.InvT-loop
 Inv-loop pages₀ pcap base first p link₀ left₀ pages link left =
-    (takeFrom pages pcap base p link left ≡ takeFrom pages₀ pcap base p first pcap) × (length pages ≡ length pages₀)
+    (takeFrom pages pcap base p first link left ≡ takeFrom pages₀ pcap base p first first pcap) × (length pages ≡ length pages₀)
 
 abbrev μ-loop : tie.MeasureT-loop
 μ-loop pages₀ pcap base first p link₀ left₀ pages link left = left

@@ -13,11 +13,11 @@ use Rattle.blocks.proofs.packed.row_bytes.Statement.{statement}
 use Rattle.blocks.proofs.packed.row_bytes.Tie as tie
 
 abbrev Inv-loop : tie.InvT-loop
-Inv-loop sketches p j block rows n bytes₀ k₀ bytes k =
+Inv-loop bytes₀ sketches p j block rows n k₀ bytes k =
     (length bytes ≡ 64) × ((i : ℕ) → i < k → getD bytes i 0 ≡ pageByte sketches (levelAt rows i) p)
 
 abbrev μ-loop : tie.MeasureT-loop
-μ-loop sketches p j block rows n bytes₀ k₀ bytes k = n - k
+μ-loop bytes₀ sketches p j block rows n k₀ bytes k = n - k
 
 block-of-requires : tie.Need-block-of-requires Inv-loop μ-loop
 block-of-requires c κs = search needs
@@ -31,11 +31,11 @@ entry c = c .before .before .before
 
 rows : (c : tie.After-rows-of Inv-loop μ-loop) → RowTable (entry c .args .h .pages) (c .rows-of .result) (entry c .args .sketches .now)
 rows c =
-    rows-in (entry c .args .h) (entry c .pre .0) (entry c .args .sketches .now) (entry c .pre .1 .0) (entry c .args .j) (entry c .pre .1 .1 .1) (c .rows-of .result)
+    rows-in (entry c .args .h) (entry c .pre .0) (entry c .args .sketches .now) (entry c .pre .1 .0) (entry c .args .j) (entry c .pre .1 .1 .1 .0) (c .rows-of .result)
     (c .rows-of .ensures)
 
 loop-holds : tie.Need-loop-holds Inv-loop μ-loop
-loop-holds c = (omega arith, λ i l. absurd (omega arith))
+loop-holds c = (entry c .pre .1 .1 .1 .1, λ i l. absurd (omega arith))
 
 level-at-requires : tie.Need-level-at-requires Inv-loop μ-loop
 level-at-requires c κs = let t = c .before .before in (omega (arith, rows t .short), (rows t .few, rows t .inside))
@@ -48,8 +48,8 @@ page-byte-requires c κs =
 cast-bytes : tie.Need-cast-bytes Inv-loop μ-loop
 cast-bytes c = search needs
 
-array-write-bytes : tie.Need-array-write-bytes Inv-loop μ-loop
-array-write-bytes c = omega (arith, rows (c .before .before .before .before) .short)
+element-write-bytes : tie.Need-element-write-bytes Inv-loop μ-loop
+element-write-bytes c = omega (arith, rows (c .before .before .before .before) .short)
 
 add-k : tie.Need-add-k Inv-loop μ-loop
 add-k c = search needs
@@ -69,9 +69,11 @@ loop-again c =
 returns : tie.Need-returns Inv-loop μ-loop
 returns c =
     let t = c .before .before in
-    let e = entry t in
-    row-written (e .args .h) (e .pre .0) (e .args .sketches .now) (e .pre .1 .0) (e .args .j) (e .pre .1 .1 .1) (t .rows-of .result) (t .rows-of .ensures)
-    (e .args .p) (e .pre .1 .1 .0) (c .before .loop .bytes) (c .before .loop .inv .0) (c .before .loop .k) (c .loop-test .left) (c .before .loop .inv .1)
+    let e = entry t in (
+      row-written (e .args .h) (e .pre .0) (e .args .sketches .now) (e .pre .1 .0) (e .args .j) (e .pre .1 .1 .1 .0) (t .rows-of .result) (t .rows-of .ensures)
+          (e .args .p) (e .pre .1 .1 .0) (c .before .loop .bytes) (c .before .loop .inv .0) (c .before .loop .k) (c .loop-test .left) (c .before .loop .inv .1),
+      c .before .loop .inv .0,
+    )
 
 pub row-bytes-spec : {M : Type 1} → statement M
 row-bytes-spec =
@@ -85,7 +87,7 @@ row-bytes-spec =
     level-at-requires
     page-byte-requires
     cast-bytes
-    array-write-bytes
+    element-write-bytes
     add-k
     loop-less
     loop-again
