@@ -7,10 +7,10 @@ use mathlib.Core.Logic.{_≢_}
 use mathlib.Core.List.{List}
 use borrow.Author.Tests.{eq-eqb, ne-eqb, lt-ltb, le-ltb, not-true, not-false}
 use lib.Dec.{ltb}
-use Rattle.layout.specs.Nodes.{freeState, leafState}
-use Rattle.layout.specs.States.{kindOf, stateOf, nextFree}
+use Rattle.layout.specs.Nodes.{freeState}
+use Rattle.layout.specs.States.{kindOf, nextFree}
 use Rattle.layout.specs.declared.nodes.Kind.the-variants.{Free, Inner, Leaf}
-use Rattle.layout.proofs.States.{state-kind}
+use Rattle.layout.proofs.States.{free-state, inner-state, leaf-used as used}
 use Rattle.node_check.specs.declared.leaf.Left.{Left}
 use Rattle.node_check.specs.declared.leaf.Left.the-variants.{Some, Failed}
 use Rattle.children.specs.Order.{bare}
@@ -20,15 +20,15 @@ use Rattle.check_tables.specs.Free.{isFree, freeFrom}
 module _ (N : List ℕ) (cap x : ℕ) where
   pub free-bare : kindOf N cap x ≡ Free → isFree N cap x ≡ bare N cap x
   unfolding isFree
-  free-bare e = rw (eq-eqb _ freeState (state-kind N cap x ∙ ap stateOf e)) refl
+  free-bare e = rw (eq-eqb _ freeState (free-state N cap x e)) refl
 
   pub inner-used : kindOf N cap x ≡ Inner → isFree N cap x ≡ false
   unfolding isFree
-  inner-used e = rw (state-kind N cap x ∙ ap stateOf e) refl
+  inner-used e = rw (inner-state N cap x e) refl
 
   pub leaf-used : (first : ℕ) → kindOf N cap x ≡ Leaf first → isFree N cap x ≡ false
   unfolding isFree
-  leaf-used first e = rw (state-kind N cap x ∙ ap stateOf e, ne-eqb (leafState first) freeState (omega arith)) refl
+  leaf-used first e = rw (ne-eqb _ freeState (used N cap x first e)) refl
 
 -- ---- the loop
 module _ (N : List ℕ) (cap link f : ℕ) (R : Left) (inv : freeFrom N cap link f ≡ R) where

@@ -103,7 +103,7 @@ module _ (s : Settings) (N P S : List ℕ) (live : ℕ) (lent : Lent (headerOf s
           let few : x / size < 8 = div-lt-iff-lt-mul some .1 (omega arith) in
           let there = seen (x / size) few (omega arith) in
           let same : there .tries ≡ first .tries =
-          same-tries s N P S live (lent .limits .nodes-most) 0 (there .tries) (first .tries) (there .many ∙ sym (first .many)) (there .all) (first .all) in
+          same-tries s N P S live (lent .limits .nodes-most) (lent .limits .pages-most) 0 (there .tries) (first .tries) (there .many ∙ sym (first .many)) (there .all) (first .all) in
           rw (same, parts) at (there .once (x % size) (mod-lt x some))
 
   -- ---- tries in which no node stands twice

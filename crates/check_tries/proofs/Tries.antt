@@ -13,7 +13,7 @@ use Rattle.meaning.specs.Ledger.{Settings}
 use Rattle.meaning.specs.Forest.{blockBytes, totalNodes}
 use Rattle.words.specs.Bits.{flag}
 use Rattle.layout.specs.Nodes.{mostNodes}
-use Rattle.layout.specs.Pages.{nextAt, isLive}
+use Rattle.layout.specs.Pages.{mostPages, nextAt, isLive}
 use Rattle.layout.specs.Header.{headerOf}
 use Rattle.layout.specs.Tables.{Lent}
 use Rattle.children.specs.Heap.{Holds}
@@ -147,14 +147,14 @@ module _ (s : Settings) (N P S : List ℕ) (live : ℕ) where
             }
 
   -- ---- the tables determine the tries
-  module _ (small : s .nodes ≤ mostNodes) where
+  module _ (small : s .nodes ≤ mostNodes) (few : s .pages ≤ mostPages) where
     pub same-tries : (j : ℕ) (ts us : List Phys) → length ts ≡ length us → Each InPlace j ts → Each InPlace j us → ts ≡ us
     same-tries j [] [] l a b = refl
     same-tries j [] (u ∷ us) l a b = absurd (omega arith)
     same-tries j (t ∷ ts) [] l a b = absurd (omega arith)
     same-tries j (t ∷ ts) (u ∷ us) l a b =
         ap₂ (λ x xs. x ∷ xs)
-        (same-trie (s .nodes) (s .pages) (nextAt (s .pages) j) N P small t u (a .0 .holds) (b .0 .holds) (a .0 .sound) (b .0 .sound)
+        (same-trie (s .nodes) (s .pages) (nextAt (s .pages) j) N P small few t u (a .0 .holds) (b .0 .holds) (a .0 .sound) (b .0 .sound)
         (a .0 .place ∙ sym (b .0 .place)))
         (same-tries (suc j) ts us (omega arith) (a .1) (b .1))
 

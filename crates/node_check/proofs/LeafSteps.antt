@@ -17,8 +17,9 @@ use Rattle.blocks.specs.declared.Level.{Level}
 use Rattle.blocks.specs.declared.Rows.{Rows}
 use Rattle.blocks.specs.Packed.{pageByte, levelAt}
 use Rattle.node_check.specs.declared.leaf.Kind.the-variants.{Inner, Leaf, Damaged}
+use Rattle.node_check.specs.declared.leaf.Left.{Left}
 use Rattle.node_check.specs.declared.leaf.Left.the-variants.{Some, Failed}
-use Rattle.node_check.specs.Leaf.{kindOf, onPath, testLeaf}
+use Rattle.node_check.specs.Leaf.{kindOf, onPath, testPages, testLeaf}
 
 -- what a node is, by each way
 module _ (N : List ℕ) (cap x : ℕ) (s : Stated) (e : s ≡ stated N cap x) where
@@ -50,31 +51,46 @@ module _ (S : List ℕ) (r : Rows) (path : List ℕ) (p k : ℕ) (v : Level) (by
   match-passes h = rw (← e, ← f) (eq-eqb byte (getD path k 0) h)
 
 module _ (P S : List ℕ) (pcap base : ℕ) (r : Rows) (path : List ℕ) (d : ℕ) where
-  pub leaf-end : (link f : ℕ) → link ≡ 0 → testLeaf P S pcap base r path d link f ≡ Some f
-  unfolding testLeaf
-  leaf-end link zero e = rw (eq-eqb link 0 e)
-  leaf-end link (suc f) e = rw (eq-eqb link 0 e)
+  pub pages-end : (link f : ℕ) → link ≡ 0 → testPages P S pcap base r path d link f ≡ Some f
+  unfolding testPages
+  pages-end link zero e = rw (eq-eqb link 0 e)
+  pages-end link (suc f) e = rw (eq-eqb link 0 e)
 
-  pub leaf-spent : (link f : ℕ) → 0 < link → f ≡ 0 → testLeaf P S pcap base r path d link f ≡ Failed
-  unfolding testLeaf
-  leaf-spent link zero n e = rw (ne-eqb link 0 (omega arith))
-  leaf-spent link (suc f) n e = absurd (omega arith)
+  pub pages-spent : (link f : ℕ) → 0 < link → f ≡ 0 → testPages P S pcap base r path d link f ≡ Failed
+  unfolding testPages
+  pages-spent link zero n e = rw (ne-eqb link 0 (omega arith))
+  pages-spent link (suc f) n e = absurd (omega arith)
 
-  pub leaf-outside : (link f : ℕ) → pcap < link → testLeaf P S pcap base r path d link f ≡ Failed
-  unfolding testLeaf
-  leaf-outside link zero o = rw (ne-eqb link 0 (omega arith))
-  leaf-outside link (suc f) o = rw (ne-eqb link 0 (omega arith), lt-ltb pcap link o)
+  pub pages-outside : (link f : ℕ) → pcap < link → testPages P S pcap base r path d link f ≡ Failed
+  unfolding testPages
+  pages-outside link zero o = rw (ne-eqb link 0 (omega arith))
+  pages-outside link (suc f) o = rw (ne-eqb link 0 (omega arith), lt-ltb pcap link o)
 
   module _ (link f : ℕ) (n : 0 < link) (m : 0 < f) (l : link ≤ pcap) where
-    pub leaf-dead : isLive P (link - 1) ≡ false → testLeaf P S pcap base r path d link f ≡ Failed
-    unfolding testLeaf
-    leaf-dead e = ap (testLeaf P S pcap base r path d link) (suc-pred f m) ∙ rw (ne-eqb link 0 (omega arith), le-ltb pcap link l, e) refl
+    pub pages-dead : isLive P (link - 1) ≡ false → testPages P S pcap base r path d link f ≡ Failed
+    unfolding testPages
+    pages-dead e = ap (testPages P S pcap base r path d link) (suc-pred f m) ∙ rw (ne-eqb link 0 (omega arith), le-ltb pcap link l, e) refl
 
-    pub leaf-astray : isLive P (link - 1) ≡ true → onPath S r path d (link - 1) ≡ false → testLeaf P S pcap base r path d link f ≡ Failed
-    unfolding testLeaf
-    leaf-astray e g = ap (testLeaf P S pcap base r path d link) (suc-pred f m) ∙ rw (ne-eqb link 0 (omega arith), le-ltb pcap link l, e, g) refl
+    pub pages-astray : isLive P (link - 1) ≡ true → onPath S r path d (link - 1) ≡ false → testPages P S pcap base r path d link f ≡ Failed
+    unfolding testPages
+    pages-astray e g = ap (testPages P S pcap base r path d link) (suc-pred f m) ∙ rw (ne-eqb link 0 (omega arith), le-ltb pcap link l, e, g) refl
 
-    pub leaf-next : isLive P (link - 1) ≡ true → onPath S r path d (link - 1) ≡ true
-        → testLeaf P S pcap base r path d link f ≡ testLeaf P S pcap base r path d (getD P (base + (link - 1)) 0) (f - 1)
-    unfolding testLeaf
-    leaf-next e g = ap (testLeaf P S pcap base r path d link) (suc-pred f m) ∙ rw (ne-eqb link 0 (omega arith), le-ltb pcap link l, e, g) refl
+    pub pages-next : isLive P (link - 1) ≡ true → onPath S r path d (link - 1) ≡ true
+        → testPages P S pcap base r path d link f ≡ testPages P S pcap base r path d (getD P (base + (link - 1)) 0) (f - 1)
+    unfolding testPages
+    pages-next e g = ap (testPages P S pcap base r path d link) (suc-pred f m) ∙ rw (ne-eqb link 0 (omega arith), le-ltb pcap link l, e, g) refl
+
+-- the number of the pages
+module _ (P S : List ℕ) (pcap base : ℕ) (r : Rows) (path : List ℕ) (d first count f : ℕ) (met : Left)
+    (e : met ≡ testPages P S pcap base r path d first f) where
+  pub leaf-even : (n : ℕ) → met ≡ Some n → n + count ≡ f → Some n ≡ testLeaf P S pcap base r path d first count f
+  unfolding testLeaf
+  leaf-even n q m = rw (← e, q, eq-eqb (n + count) f m) refl
+
+  pub leaf-uneven : (n : ℕ) → met ≡ Some n → (n + count ≡ f → ⊥) → Failed ≡ testLeaf P S pcap base r path d first count f
+  unfolding testLeaf
+  leaf-uneven n q m = rw (← e, q, ne-eqb (n + count) f m) refl
+
+  pub leaf-failed : met ≡ Failed → Failed ≡ testLeaf P S pcap base r path d first count f
+  unfolding testLeaf
+  leaf-failed q = rw (← e, q) refl

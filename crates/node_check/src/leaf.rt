@@ -1,9 +1,9 @@
-// What a node is, and the test of a leaf's pages: each is live, and its bytes are those that led to the leaf.
+// What a node is, and the test of a leaf: each of its pages is live, and has the bytes that led to the leaf, and they are as many as it says.
 ghost use mathlib.Core.Path.{_≡_};
 ghost use Prim.Native.Nat.{_≤_, _<_};
 ghost use Rattle.layout.specs.Tables.{NodeTable, PageTable};
 ghost use Rattle.blocks.specs.Tables.{RowTable};
-ghost use Rattle.node_check.specs.Leaf.{kindOf, onPath, testLeaf};
+ghost use Rattle.node_check.specs.Leaf.{kindOf, onPath, testPages, testLeaf};
 use blocks::Rows;
 use children::order::is_bare;
 use layout::Block;
@@ -67,7 +67,7 @@ pub enum Left {
 }
 
 // Tests the pages of a leaf, from a link on, of which there are at most `budget`.
-pub fn test_leaf(
+fn test_pages(
     pages: &[u32],
     sketches: &[u8],
     block: Block,
@@ -81,7 +81,7 @@ pub fn test_leaf(
     requires { ⌜ block .pages ≤ block .base ⌝ }
     requires { ⌜ RowTable (block .pages) rows (now sketches) ⌝ }
     requires { ⌜ depth ≤ 64 ⌝ }
-    ensures { λ r. ⌜ r ≡ testLeaf (now (pages .entry)) (now (sketches .entry)) (block .pages) (block .base) rows (now (path .entry)) depth first budget ⌝ }
+    ensures { λ r. ⌜ r ≡ testPages (now (pages .entry)) (now (sketches .entry)) (block .pages) (block .base) rows (now (path .entry)) depth first budget ⌝ }
 {
     let mut link = first;
     let mut left = budget;
@@ -104,5 +104,34 @@ pub fn test_leaf(
         }
         link = pages[block.base + p];
         left -= 1;
+    }
+}
+
+// Tests a leaf: its pages, from a link on, of which there are at most `budget`, and that they are as many as the number that stands in it.
+pub fn test_leaf(
+    pages: &[u32],
+    sketches: &[u8],
+    block: Block,
+    rows: Rows,
+    path: &[u8; 64],
+    depth: usize,
+    first: u32,
+    count: u32,
+    budget: u32,
+) -> Left
+    requires { ⌜ PageTable (block .pages) (block .base) (now pages) ⌝ }
+    requires { ⌜ block .pages ≤ block .base ⌝ }
+    requires { ⌜ RowTable (block .pages) rows (now sketches) ⌝ }
+    requires { ⌜ depth ≤ 64 ⌝ }
+    ensures { λ r. ⌜ r ≡ testLeaf (now (pages .entry)) (now (sketches .entry)) (block .pages) (block .base) rows (now (path .entry)) depth first count budget ⌝ }
+{
+    match test_pages(pages, sketches, block, rows, path, depth, first, budget) {
+        Left::Some(n) => {
+            if (n as usize) + (count as usize) != budget as usize {
+                return Left::Failed;
+            }
+            Left::Some(n)
+        }
+        Left::Failed => Left::Failed,
     }
 }

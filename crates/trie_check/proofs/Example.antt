@@ -7,9 +7,9 @@ use lib.ListN.{set, replicate}
 use Rattle.meaning.specs.Lists.{all, upto, from}
 use Rattle.meaning.specs.Sketch.{perByte, packedLength, symbolsAt, packable}
 use Rattle.words.specs.Bits.{bit, withBit, flag, withFlag}
-use Rattle.layout.specs.Nodes.{chainWord, freeState, innerState, leafState, stateAt, headAt}
+use Rattle.layout.specs.Nodes.{chainWord, freeState, innerState, emptyState, leafState, stateAt, headAt}
 use Rattle.layout.specs.Pages.{isLive}
-use Rattle.layout.specs.States.{kindOf as stated}
+use Rattle.layout.specs.States.{kindOf as stated, countOf}
 use Rattle.layout.specs.declared.Block.{Block}
 use Rattle.blocks.specs.declared.Rows.{Rows}
 use Rattle.blocks.specs.Packed.{rowByte, pageByte, levelAt}
@@ -17,7 +17,7 @@ use Rattle.node_check.specs.declared.leaf.Left.{Left}
 use Rattle.node_check.specs.declared.leaf.Left.the-variants.{Some, Failed}
 use Rattle.node_check.specs.declared.mark.Window.{Window}
 use Rattle.node_check.specs.Mark.{markOnce}
-use Rattle.node_check.specs.Leaf.{kindOf, onPath, testLeaf}
+use Rattle.node_check.specs.Leaf.{kindOf, onPath, testPages, testLeaf}
 use Rattle.children.specs.Order.{bare, entered, stepAlong, nextChild}
 use Rattle.node_check.specs.Frame.{stepIn}
 use Rattle.trie_visit.specs.Visit.{given, Fitting, visitChild, visit}
@@ -43,7 +43,7 @@ pages = 1 ∷ 1 ∷ 1 ∷ 0 ∷ 0 ∷ 0 ∷ 2 ∷ 0 ∷ 0 ∷ []
 nodes : List ℕ
 nodes =
     (0 ∷ chainWord 1 3 ∷ chainWord 7 0 ∷ chainWord 5 5 ∷ chainWord 6 0 ∷ chainWord 2 0 ∷ [])
-    ++ (innerState ∷ innerState ∷ innerState ∷ leafState 1 ∷ innerState ∷ leafState 3 ∷ [])
+    ++ (innerState ∷ innerState ∷ innerState ∷ leafState 2 1 ∷ innerState ∷ leafState 1 3 ∷ [])
     ++ (2 ∷ replicate 7 0)
     ++ (4 ∷ replicate 7 0)
     ++ (6 ∷ replicate 7 0)
@@ -80,7 +80,7 @@ sound = answer nodes pages 6 3 ∷ answer nodes pages 7 3 ∷ answer nodes pages
 
 -- page 2 in two leaves, page 1 after itself, page 0 not live
 pageDamages : List Left
-pageDamages = answer nodes (set pages 7 3) 6 4 ∷ answer nodes (set pages 7 2) 6 3 ∷ answer nodes (set pages 0 0) 6 3 ∷ []
+pageDamages = answer (set nodes (stateAt 6 3) (leafState 3 1)) (set pages 7 3) 6 4 ∷ answer nodes (set pages 7 2) 6 3 ∷ answer nodes (set pages 0 0) 6 3 ∷ []
 
 -- siblings 1 and 0, siblings 1 and 1, a leaf of byte 3 for a page of byte 2, node 4 below nodes 1 and 2, a link past the last node
 chainDamages : List Left
@@ -95,16 +95,31 @@ chainDamages =
 -- leaf 5 empty, node 4 free, a leaf with a head, a head with something above its link
 nodeDamages : List Left
 nodeDamages =
-    answer (set nodes (stateAt 6 5) (leafState 0)) pages 6 2
+    answer (set nodes (stateAt 6 5) emptyState) pages 6 2
     ∷ answer (set nodes (stateAt 6 4) freeState) pages 6 3
     ∷ answer (set nodes (headAt 6 5 3) 1) pages 6 3
     ∷ answer (set nodes (headAt 6 2 0) (chainWord 1 6)) pages 6 3
+    ∷ []
+
+-- the answer for a root alone, with a state and no page
+rootAlone : ℕ → Left
+rootAlone state = answer (replicate 6 0 ++ (state ∷ replicate 53 0)) pages 1 0
+
+-- the number of leaf 3's pages one too high, one too low; that of leaf 5's one too high, one too low, which is 0; a number in a
+-- root without pages
+countDamages : List Left
+countDamages =
+    answer (set nodes (stateAt 6 3) (leafState 3 1)) pages 6 3
+    ∷ answer (set nodes (stateAt 6 3) (leafState 1 1)) pages 6 3
+    ∷ answer (set nodes (stateAt 6 5) (leafState 2 3)) pages 6 3
+    ∷ answer (set nodes (stateAt 6 5) 3) pages 6 3
+    ∷ rootAlone 196608
     ∷ []
 
 -- node 4 below nodes 1 and 2, but outside the window: left to another walk
 outside : Left
 outside = answerIn (record { from = 0; size = 4 }) (set nodes 5 (chainWord 2 5)) pages 7 3
 
-tried : sound ++ pageDamages ++ chainDamages ++ nodeDamages ++ (outside ∷ []) ≡ (Some 0 ∷ Some 1 ∷ replicate 15 Failed) ++ (Some 0 ∷ [])
-unfolding block rows sketches pages nodes window answerIn answer sound pageDamages chainDamages nodeDamages outside testTrie testBelow run leftIf visit visitChild stepIn nextChild stepAlong entered testLeaf onPath kindOf stated bare markOnce levelAt pageByte rowByte isLive withFlag flag withBit bit packable symbolsAt perByte from upto all
+tried : sound ++ pageDamages ++ chainDamages ++ nodeDamages ++ countDamages ++ (outside ∷ rootAlone emptyState ∷ []) ≡ (Some 0 ∷ Some 1 ∷ replicate 20 Failed) ++ (Some 0 ∷ Some 0 ∷ [])
+unfolding block rows sketches pages nodes window answerIn answer sound pageDamages chainDamages nodeDamages rootAlone countDamages outside testTrie testBelow run leftIf visit visitChild stepIn nextChild stepAlong entered testLeaf testPages onPath kindOf stated countOf bare markOnce levelAt pageByte rowByte isLive withFlag flag withBit bit packable symbolsAt perByte from upto all
 tried = refl

@@ -9,6 +9,7 @@ use lib.ListN.{length, getD, replicate, set}
 use borrow.Author.Tests.{eq-eqb, ne-eqb}
 use Rattle.meaning.proofs.Stacks.{suc-pred, length-none, above, above-length, above-put, above-take}
 use Rattle.layout.specs.Nodes.{stepsFor}
+use Rattle.layout.specs.States.{countOf}
 use Rattle.children.specs.declared.order.Frame.{Frame}
 use Rattle.node_check.specs.declared.leaf.Kind.{Kind}
 use Rattle.node_check.specs.declared.leaf.Kind.the-variants as kind
@@ -18,9 +19,9 @@ use Rattle.trie_visit.specs.declared.Place.{Place}
 use Rattle.trie_visit.specs.declared.Move.{Move}
 use Rattle.trie_visit.specs.declared.Move.the-variants as move
 use Rattle.node_check.specs.Mark.{Noted, noted, markOnce}
-use Rattle.node_check.specs.Leaf.{kindOf}
+use Rattle.node_check.specs.Leaf.{kindOf, testLeaf}
 use Rattle.children.specs.Order.{entered, pastChild, nextChain}
-use Rattle.trie_visit.specs.Visit.{Given, Fitting, leafLeft, Visited, visited, visit, placed}
+use Rattle.trie_visit.specs.Visit.{Given, Fitting, Visited, visited, visit, placed}
 use Rattle.trie_check.specs.Trie.{State, state, Tested, tested, leftIf, leftLeaf, follow, run, testBelow, testKind, testTrie}
 use Rattle.trie_check.proofs.Stack.{noFrame}
 
@@ -137,9 +138,13 @@ module _ (w : Given) (root : ℕ) (map : List ℕ) (left pages : ℕ) where
       pub trie-inner : found ≡ kind.Inner → testBelow w root after (left - 1) pages ≡ testTrie w root map left pages
       trie-inner g = trie-by kind.Inner g
 
-      module _ (first : ℕ) (given : Left) (g : found ≡ kind.Leaf first) (m : given ≡ leafLeft w (replicate 64 0) 0 first pages) where
+      module _ (first count : ℕ) (given : Left) (g : found ≡ kind.Leaf first) (c : count ≡ countOf (w .nodes) (w .block .nodes) root)
+          (m : given ≡ testLeaf (w .pages) (w .sketches) (w .block .pages) (w .block .base) (w .rows) (replicate 64 0) 0 first count pages) where
         trie-leaf : (a : Left) → given ≡ a → tested after (leftLeaf (left - 1) a) ≡ testTrie w root map left pages
-        trie-leaf a b = ap (λ t. tested after (leftLeaf (left - 1) t)) (sym b ∙ m) ∙ trie-by (kind.Leaf first) g
+        trie-leaf a b =
+            ap (λ t. tested after (leftLeaf (left - 1) t))
+            (sym b ∙ m ∙ ap (λ t. testLeaf (w .pages) (w .sketches) (w .block .pages) (w .block .base) (w .rows) (replicate 64 0) 0 first t pages) c)
+            ∙ trie-by (kind.Leaf first) g
 
         pub trie-some : (n : ℕ) (answer : Left) → given ≡ budget.Some n → answer ≡ leftIf (left - 1) (eqb n 0)
             → tested after answer ≡ testTrie w root map left pages

@@ -76,7 +76,7 @@ module _ (w : Given) where
   abbrev pub testKind : ℕ → List ℕ → ℕ → ℕ → Kind → Tested
   testKind root map left pages kind.Damaged = tested map budget.Failed
   testKind root map left pages kind.Inner = testBelow root map left pages
-  testKind root map left pages (kind.Leaf first) = tested map (leftLeaf left (leafLeft w (replicate 64 0) 0 first pages))
+  testKind root map left pages (kind.Leaf first) = tested map (leftLeaf left (leafLeft w (replicate 64 0) 0 root first pages))
 
   -- the trie with a root, of at most `left` nodes and of `pages` pages
   unfoldable pub testTrie : ℕ → List ℕ → ℕ → ℕ → Tested

@@ -134,6 +134,7 @@ pub fn test_trie(
         Kind::Inner => test_below(nodes, pages, sketches, map, scope, root, left, live),
         Kind::Leaf(first) => {
             let path = [0u8; 64];
+            let count = layout::nodes::page_count(nodes, scope.block.nodes, root);
             match node_check::leaf::test_leaf(
                 pages,
                 sketches,
@@ -142,6 +143,7 @@ pub fn test_trie(
                 &path,
                 0,
                 first,
+                count,
                 live,
             ) {
                 Left::Some(n) => left_if(left, n == 0),

@@ -1,5 +1,5 @@
 -- How often a trie and the free nodes claim a word of the node table: as often as the node stands there that the word belongs to.
-use Prim.Native.Nat.{ℕ, suc, _+_, _≤_, _<_}
+use Prim.Native.Nat.{ℕ, zero, suc, _+_, _≤_, _<_}
 use native.Mathlib.Decide.{decLt, ℕ-discrete}
 use native.Mathlib.Omega.{arith}
 use mathlib.Core.Path.{_≡_, refl, sym, ap}
@@ -7,13 +7,13 @@ use mathlib.Core.Bool.{Bool, true, false, cond}
 use mathlib.Core.Logic.{by-cases}
 use mathlib.Core.List.{List, [], _∷_}
 use lib.Dec.{eqb}
-use lib.ListN.{getD}
+use lib.ListN.{length, getD}
 use borrow.Author.Tests.{eqb-true}
 use Rattle.meaning.specs.Lists.{count}
 use Rattle.meaning.proofs.Lists.{eqb-comm}
-use Rattle.layout.specs.Nodes.{chainAt, stateAt, freeState}
+use Rattle.layout.specs.Nodes.{chainAt, stateAt, freeState, leafState}
 use Rattle.children.specs.Heap.{hit, nodeClaims, Holds}
-use Rattle.children.specs.Phys.{Phys, Kids, leafP, innerP, noKid, kid, root, noKids, pageCells, freeCells, cells, kidCells, Below, Sound, SoundK}
+use Rattle.children.specs.Phys.{Phys, Kids, leafP, innerP, noKid, kid, root, first, noKids, pageCells, freeCells, cells, kidCells, Below, Sound, SoundK}
 use Rattle.children.proofs.Frame.{hit-other}
 use Rattle.children.proofs.Claims.{end-nodes, kid-nodes, Trees, kid-trees}
 use Rattle.children.proofs.Owner.{owner, owned, owner-state}
@@ -74,6 +74,10 @@ hit-is n x h = go (ℕ-discrete n x)
     go (yes e) = e
     go (no e) = absurd (omega (arith, hit-other {a = x} {b = n} (λ q. e (sym q))))
 
+leaf-not-free : (n link : ℕ) → freeState < leafState n link
+leaf-not-free zero link = omega arith
+leaf-not-free (suc n) link = omega arith
+
 module _ (cap base : ℕ) (N P : List ℕ) (x : ℕ) where
   abbrev Used : Type 0
   Used = 0 < getD N (stateAt cap x) 0
@@ -84,7 +88,7 @@ module _ (cap base : ℕ) (N P : List ℕ) (x : ℕ) where
 
   mutual
     pub used-state : (t : Phys) → Holds (cells cap base t) N P → 0 < uses t x → Used
-    used-state (leafP n ps) h l = let e : n ≡ x = hit-is n x l in rw (← e) (omega (arith, h .0))
+    used-state (leafP n ps) h l = let e : n ≡ x = hit-is n x l in rw (← e) (omega (arith, h .0, leaf-not-free (length ps) (first ps)))
     used-state (innerP n ks) h l =
         either (hit n x) (usesAmong ks x) (λ k. let e : n ≡ x = hit-is n x k in rw (← e) (omega (arith, h .0))) (λ k. used-children ks (kid-trees cap base N P ks n (h .1)) k) l
 

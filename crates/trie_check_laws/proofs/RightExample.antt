@@ -8,12 +8,12 @@ use Rattle.meaning.specs.Sketch.{perByte, symbolsAt, packable, packedLength}
 use Rattle.meaning.specs.Trie.{nodes, byteAt}
 use Rattle.words.specs.Bits.{bit, withBit, flag, withFlag}
 use Rattle.layout.specs.Pages.{isLive}
-use Rattle.layout.specs.States.{kindOf as stated}
+use Rattle.layout.specs.States.{kindOf as stated, countOf}
 use Rattle.children.specs.Phys.{Phys, tree}
 use Rattle.blocks.specs.Packed.{rowByte, pageByte, levelAt}
 use Rattle.node_check.specs.declared.leaf.Left.the-variants.{Some}
 use Rattle.node_check.specs.Mark.{markOnce}
-use Rattle.node_check.specs.Leaf.{kindOf, onPath, testLeaf}
+use Rattle.node_check.specs.Leaf.{kindOf, onPath, testPages, testLeaf}
 use Rattle.children.specs.Order.{bare, entered, stepAlong, nextChild}
 use Rattle.node_check.specs.Frame.{stepIn}
 use Rattle.trie_visit.specs.Visit.{Given, given, Fitting, visitChild, visit}
@@ -21,10 +21,10 @@ use Rattle.trie_check.specs.Trie.{tested, run, leftIf, testBelow, testTrie}
 use Rattle.trie_check_laws.specs.Found.{Reads, Found, Marked}
 use Rattle.trie_check_laws.proofs.RightTrie.{test-right}
 
--- nodes 0 and 1, the second with byte 228 in the last chain of the first
+-- nodes 0 and 1, the second with byte 228 in the last chain of the first, a leaf with one page
 abbrev nodeTable : List ℕ
 nodeTable =
-    0 ∷ 119537664 ∷ 1 ∷ 3 ∷
+    0 ∷ 119537664 ∷ 65536 ∷ 65537 ∷
     0 ∷ 0 ∷ 0 ∷ 0 ∷ 0 ∷ 0 ∷ 0 ∷ 2 ∷
     0 ∷ 0 ∷ 0 ∷ 0 ∷ 0 ∷ 0 ∷ 0 ∷ 0 ∷ []
 
@@ -37,7 +37,7 @@ w =
     (record { from = 0; size = 2 })
 
 pub example : testTrie w 0 (0 ∷ []) 2 1 ≡ tested (3 ∷ []) (Some 0)
-unfolding testTrie testBelow run visit visitChild leftIf entered stepIn nextChild stepAlong kindOf stated bare onPath testLeaf markOnce isLive pageByte rowByte levelAt
+unfolding testTrie testBelow run visit visitChild leftIf entered stepIn nextChild stepAlong kindOf stated countOf bare onPath testPages testLeaf markOnce isLive pageByte rowByte levelAt
     flag withFlag bit withBit packable symbolsAt perByte all upto from
 example = refl
 

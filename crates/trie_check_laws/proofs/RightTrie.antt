@@ -12,7 +12,7 @@ use borrow.Author.Tests.{eqb-true, eqb-false, ltb-true}
 use Rattle.meaning.specs.Lists.{all}
 use Rattle.meaning.specs.Trie.{leaf, inner, nodes, nodesIn, pagesIn, pagesAmong}
 use Rattle.words.specs.Bits.{flag}
-use Rattle.layout.specs.Nodes.{leafState, innerState, stateAt, stepsFor}
+use Rattle.layout.specs.Nodes.{innerState, stateAt, stepsFor}
 use Rattle.children.specs.Phys.{Phys, Kids, leafP, innerP, tree, childrenOf, first}
 use Rattle.trie_laws.specs.Sound.{filled}
 use Rattle.trie_laws.specs.Path.{follows}
@@ -38,7 +38,7 @@ use Rattle.children.proofs.Tests.{passed}
 use Rattle.children.proofs.AheadOrder.{placed-enter}
 use Rattle.trie_check_laws.proofs.RightStep.{AtChild, step-child, step-chain, step-up}
 use Rattle.trie_check_laws.proofs.RightMark.{Once, mark-fresh}
-use Rattle.trie_check_laws.proofs.RightLeaf.{kind-inner, kind-leaf, AtLeaf, LeafPages, leaf-right}
+use Rattle.trie_check_laws.proofs.RightLeaf.{kind-inner, LeafPages, LeafHeld, leaf-right}
 use Rattle.trie_check_laws.proofs.RightRest.{nodesAll, pagesAll, usesAll, Hangs, inner-held, inner-sound, inner-walked}
 use Rattle.trie_check_laws.proofs.RightRun.{Above, Covered, Completes, complete-done, complete-up, complete-chain, complete-child, Returned, return}
 
@@ -84,29 +84,30 @@ module _ (w : Given) (bytesOf : ℕ → List ℕ) (reads : Reads w bytesOf) (map
     same-path : take (suc k) path₁ ≡ take k path ++ byte ∷ []
     same-path = take-suc-set path k byte (omega arith)
 
-    leaf-hangs : (link n : ℕ) → AtLeaf (w .nodes) (w .pages) (w .block .nodes) x link → (link ≡ 0 → ⊥)
-        → (ps : LeafPages w bytesOf reads (take (k + 1) path₁) link pages n) → Hangs w bytesOf k (take k path) f x byte (leafP x (ps .list))
+    leaf-hangs : (link n : ℕ) → (link ≡ 0 → ⊥) → (a : LeafHeld w bytesOf reads (take (k + 1) path₁) x link pages n)
+        → Hangs w bytesOf k (take k path) f x byte (leafP x (a .pages .list))
     unfolding soundWalk pagesIn
-    leaf-hangs link n a more ps = record {
-      place = refl;
-      held = (a .state ∙ ap leafState (sym (ps .start)), (a .heads, ps .held));
-      sound = (at .here .inside, ps .below);
-      full = pages-filled (ps .list) (λ e. more (sym (ps .start) ∙ e));
-      walked = subst (λ ys. all (follows bytesOf 0 ys) (ps .list) ≡ true) (ap (λ d. take d path₁) (add-one k) ∙ same-path) (ps .path);
-      live = ps .live;
-    }
+    leaf-hangs link n more a =
+        let ps : LeafPages w bytesOf reads (take (k + 1) path₁) link pages n = a .pages in
+        record {
+          place = refl;
+          held = a .held;
+          sound = (at .here .inside, ps .below);
+          full = pages-filled (ps .list) (λ e. more (sym (ps .start) ∙ e));
+          walked = subst (λ ys. all (follows bytesOf 0 ys) (ps .list) ≡ true) (ap (λ d. take d path₁) (add-one k) ∙ same-path) (ps .path);
+          live = ps .live;
+        }
 
-    leaf-turn : (link n : ℕ) → kindOf (w .nodes) (w .block .nodes) x ≡ kind.Leaf link → (link ≡ 0 → ⊥) → leafLeft w path₁ (k + 1) link pages ≡ budget.Some n
+    leaf-turn : (link n : ℕ) → kindOf (w .nodes) (w .block .nodes) x ≡ kind.Leaf link → (link ≡ 0 → ⊥) → leafLeft w path₁ (k + 1) x link pages ≡ budget.Some n
         → run w fuel (state map₁ path₁ (left - 1) n (pastChild f byte next) fs) ≡ good → Ends map path left pages f fs
     unfolding nodes pagesIn
     leaf-turn link n e more t h =
         let l : length path₁ ≡ length path = length-set path k byte in
-        let a : AtLeaf (w .nodes) (w .pages) (w .block .nodes) x link = kind-leaf (w .nodes) (w .pages) (w .block .nodes) x link e in
-        let ps : LeafPages w bytesOf reads (take (k + 1) path₁) link pages n =
-        leaf-right w bytesOf reads path₁ (k + 1) (omega arith) (omega arith) pages link n t in
+        let a : LeafHeld w bytesOf reads (take (k + 1) path₁) x link pages n =
+        leaf-right w bytesOf reads path₁ (k + 1) (omega arith) (omega arith) x link pages n e t in
         let c = ih map₁ path₁ (left - 1) n (pastChild f byte next) fs (omega (arith, mark .long)) deep (omega arith) h in
-        complete-child w bytesOf (marksIn map) (length map) path left pages f x byte next (leafP x (ps .list)) (marksIn map₁) (left - 1) n fs map′ left′
-        at (leaf-hangs link n a more ps) (omega arith) (ps .many) (mark .marks)
+        complete-child w bytesOf (marksIn map) (length map) path left pages f x byte next (leafP x (a .pages .list)) (marksIn map₁) (left - 1) n fs map′ left′
+        at (leaf-hangs link n more a) (omega arith) (a .pages .many) (mark .marks)
         (subst (λ s. Completes w bytesOf (marksIn map₁) s path₁ (left - 1) n (pastChild f byte next) fs map′ left′) (mark .long) c)
 
     inner-hangs : (r : Returned w bytesOf (marksIn map₁) (length map) path₁ (left - 1) pages (entered (w .nodes) (w .block .nodes) x) (pastChild f byte next) fs map′ left′)
@@ -144,7 +145,7 @@ module _ (w : Given) (bytesOf : ℕ → List ℕ) (reads : Reads w bytesOf) (map
     abbrev follows-move : Move → Tested
     follows-move m = follow w (run w fuel) (state map path left pages f fs) (visited map₁ path₁ m) m
 
-    past-turn : (link : ℕ) → kindOf (w .nodes) (w .block .nodes) x ≡ kind.Leaf link → (link ≡ 0 → ⊥) → (n : Left) → leafLeft w path₁ (k + 1) link pages ≡ n
+    past-turn : (link : ℕ) → kindOf (w .nodes) (w .block .nodes) x ≡ kind.Leaf link → (link ≡ 0 → ⊥) → (n : Left) → leafLeft w path₁ (k + 1) x link pages ≡ n
         → follows-move (pastLeaf byte next n) ≡ good → Ends map path left pages f fs
     past-turn link e more (budget.Some n) t h = leaf-turn link n e more t h
     past-turn link e more budget.Failed t h = absurd (failed map₁ h)
@@ -158,10 +159,10 @@ module _ (w : Given) (bytesOf : ℕ → List ℕ) (reads : Reads w bytesOf) (map
         go false l h = absurd (failed map₁ h)
     kind-turn (kind.Leaf link) e h = go (eqb link 0) refl h
       where
-        go : (q : Bool) → eqb link 0 ≡ q → follows-move (cond q move.Failed (pastLeaf byte next (leafLeft w path₁ (k + 1) link pages))) ≡ good
+        go : (q : Bool) → eqb link 0 ≡ q → follows-move (cond q move.Failed (pastLeaf byte next (leafLeft w path₁ (k + 1) x link pages))) ≡ good
             → Ends map path left pages f fs
         go true z h = absurd (failed map₁ h)
-        go false z h = past-turn link e (eqb-false link 0 z) (leafLeft w path₁ (k + 1) link pages) refl h
+        go false z h = past-turn link e (eqb-false link 0 z) (leafLeft w path₁ (k + 1) x link pages) refl h
 
   -- ---- a step
   module _ (fuel : ℕ) (ih : Right fuel) (map path : List ℕ) (left pages : ℕ) where
@@ -240,7 +241,7 @@ module _ (w : Given) (bytesOf : ℕ → List ℕ) (reads : Reads w bytesOf) (map
     abbrev Answer : Type 0
     Answer = (t : Phys) × Found w bytesOf at total t × Marked w t map map′ × (left′ + nodes (tree t) ≡ left)
 
-    root-leaf : (link : ℕ) → kindOf (w .nodes) (w .block .nodes) at ≡ kind.Leaf link → (path : List ℕ) → (n : Left) → leafLeft w path 0 link total ≡ n
+    root-leaf : (link : ℕ) → kindOf (w .nodes) (w .block .nodes) at ≡ kind.Leaf link → (path : List ℕ) → (n : Left) → leafLeft w path 0 at link total ≡ n
         → tested map₁ (leftLeaf (left - 1) n) ≡ good → Answer
     unfolding leftIf soundWalk pagesIn nodes
     root-leaf link e path budget.Failed t h = absurd (failed map₁ h)
@@ -248,14 +249,14 @@ module _ (w : Given) (bytesOf : ℕ → List ℕ) (reads : Reads w bytesOf) (map
         let u = passed budget.Failed (budget.Some left′) failed-left (eqb n 0) (budget.Some (left - 1)) (ap (λ t. t .answer) h) in
         let same : map₁ ≡ map′ = ap (λ t. t .map) h in
         let left-same : left - 1 ≡ left′ = some-same (u .1) in
-        let a : AtLeaf (w .nodes) (w .pages) (w .block .nodes) at link = kind-leaf (w .nodes) (w .pages) (w .block .nodes) at link e in
-        let ps : LeafPages w bytesOf reads (take 0 path) link total n =
-        leaf-right w bytesOf reads path 0 (omega arith) (omega arith) total link n t in (
+        let a : LeafHeld w bytesOf reads (take 0 path) at link total n =
+        leaf-right w bytesOf reads path 0 (omega arith) (omega arith) at link total n e t in
+        let ps : LeafPages w bytesOf reads (take 0 path) link total n = a .pages in (
           leafP at (ps .list),
           record {
             place = refl;
             sound = (inside, ps .below);
-            holds = (a .state ∙ ap leafState (sym (ps .start)), (a .heads, ps .held));
+            holds = a .held;
             walked = ps .path;
             live = ps .live;
             pages = omega (arith, ps .many, eqb-true n 0 (u .0));
@@ -303,7 +304,7 @@ module _ (w : Given) (bytesOf : ℕ → List ℕ) (reads : Reads w bytesOf) (map
     kind-root kind.Damaged e short deep h = absurd (failed map₁ h)
     kind-root kind.Inner e short deep h =
         root-inner (stepsFor (w .block .nodes)) (replicate 64 0) (omega (arith, length-replicate {A = ℕ} 64 0)) deep e h
-    kind-root (kind.Leaf link) e short deep h = root-leaf link e (replicate 64 0) (leafLeft w (replicate 64 0) 0 link total) refl h
+    kind-root (kind.Leaf link) e short deep h = root-leaf link e (replicate 64 0) (leafLeft w (replicate 64 0) 0 at link total) refl h
 
 pub test-right : (w : Given) (bytesOf : ℕ → List ℕ) (at left total : ℕ) (map map′ : List ℕ) (left′ : ℕ) → Fitting w map → Reads w bytesOf
     → at < w .block .nodes → testTrie w at map left total ≡ tested map′ (budget.Some left′)

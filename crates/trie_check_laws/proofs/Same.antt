@@ -4,9 +4,14 @@ use native.Mathlib.Omega.{arith}
 use mathlib.Core.Path.{_≡_, refl, sym, ap, ap₂, _∙_}
 use mathlib.Core.List.{List, [], _∷_}
 use lib.ListN.{getD}
-use Rattle.layout.specs.Nodes.{stateAt, mostNodes}
+use Rattle.layout.specs.Nodes.{mostNodes}
+use Rattle.layout.specs.Pages.{mostPages}
+use Rattle.layout.specs.States.{kindOf}
+use Rattle.layout.specs.declared.nodes.Kind.the-variants.{Inner, Leaf}
+use Rattle.layout.proofs.States.{inner-kind}
 use Rattle.children.specs.Heap.{Holds}
 use Rattle.children.specs.Phys.{Phys, Kids, leafP, innerP, noKid, kid, root, first, pageCells, cells, Sound}
+use Rattle.children.proofs.Leaves.{held-kind}
 use Rattle.children.proofs.Alike.{Alike, alike-node, alike-end, alike-start, same-root, same-byte, left-tree, right-tree, alike-next}
 
 -- the pages of a leaf, by its first one
@@ -18,18 +23,19 @@ same-pages base N P (p ∷ ps) (q ∷ qs) h g e =
     let here : p ≡ q = omega arith in
     ap₂ (λ x xs. x ∷ xs) here (same-pages base N P ps qs (h .1) (g .1) (sym (h .0) ∙ ap (λ x. getD P (base + x) 0) here ∙ g .0))
 
-module _ (cap pcap base : ℕ) (N P : List ℕ) (small : cap ≤ mostNodes) where
+module _ (cap pcap base : ℕ) (N P : List ℕ) (small : cap ≤ mostNodes) (few : pcap ≤ mostPages) where
   mutual
     pub same-trie : (t u : Phys) → Holds (cells cap base t) N P → Holds (cells cap base u) N P → Sound cap pcap t → Sound cap pcap u → root t ≡ root u → t ≡ u
     same-trie (leafP n ps) (leafP m qs) h g a b e =
-        let state : 2 + first ps ≡ 2 + first qs = sym (h .0) ∙ ap (λ x. getD N (stateAt cap x) 0) e ∙ g .0 in
-        ap₂ leafP e (same-pages base N P ps qs (h .1 .1) (g .1 .1) (omega arith))
+        let is : Leaf (first ps) ≡ Leaf (first qs) = sym (held-kind N cap n ps (h .0) (a .1) few) ∙ ap (kindOf N cap) e ∙ held-kind N cap m qs (g .0) (b .1) few in
+        let same : first ps ≡ first qs = cc in
+        ap₂ leafP e (same-pages base N P ps qs (h .1 .1) (g .1 .1) same)
     same-trie (leafP n ps) (innerP m js) h g a b e =
-        let state : 2 + first ps ≡ 1 = sym (h .0) ∙ ap (λ x. getD N (stateAt cap x) 0) e ∙ g .0 in
-        absurd (omega arith)
+        let is : Leaf (first ps) ≡ Inner = sym (held-kind N cap n ps (h .0) (a .1) few) ∙ ap (kindOf N cap) e ∙ inner-kind N cap m (g .0) in
+        let z : _≡_ {A = ℕ} 0 1 = cc in absurd (omega arith)
     same-trie (innerP n ks) (leafP m qs) h g a b e =
-        let state : 1 ≡ 2 + first qs = sym (h .0) ∙ ap (λ x. getD N (stateAt cap x) 0) e ∙ g .0 in
-        absurd (omega arith)
+        let is : Inner ≡ Leaf (first qs) = sym (inner-kind N cap n (h .0)) ∙ ap (kindOf N cap) e ∙ held-kind N cap m qs (g .0) (b .1) few in
+        let z : _≡_ {A = ℕ} 0 1 = cc in absurd (omega arith)
     same-trie (innerP n ks) (innerP m js) h g a b e = ap₂ innerP e (same-kids ks js 0 0 (alike-node cap pcap base small N P ks js n m e (h .1) (g .1) (a .1) (b .1)))
 
     same-kids : (ks js : Kids) (lo lo′ : ℕ) → Alike cap pcap base small N P ks js lo lo′ → ks ≡ js

@@ -9,32 +9,33 @@ use native.Mathlib.Decide.{ℕ-discrete}
 use lib.Dec.{eqb}
 use lib.ListN.{length, getD, set, replicate, length-set, length-append, List·getD-append}
 use lib.Seq.{getD-set-same, getD-set-other, getD-append-seam}
-use borrow.Author.Tests.{ne-eqb, le-ltb}
+use borrow.Author.Tests.{eq-eqb, ne-eqb, le-ltb}
 use Rattle.meaning.specs.Lists.{all, from, upto}
 use Rattle.meaning.specs.Trie.{byteAt}
-use Rattle.layout.specs.declared.nodes.Kind.the-variants as kind
-use Rattle.layout.proofs.States.{kind-state}
-use Rattle.layout.specs.Pages.{isLive}
+use Rattle.layout.specs.States.{countOf}
+use Rattle.layout.proofs.States.{inner-kind as stated-inner}
+use Rattle.layout.specs.Pages.{isLive, mostPages}
 use Rattle.blocks.specs.declared.Rows.{Rows}
 use Rattle.children.specs.Heap.{Holds}
 use Rattle.children.specs.Phys.{Kids, leafP, innerP, first, pageCells, cells, Below}
 use Rattle.blocks.specs.Packed.{pageByte, levelAt}
 use Rattle.trie_laws.specs.Path.{follows}
 use Rattle.children.proofs.Bare.{held-bare}
+use Rattle.children.proofs.Leaves.{held-kind, held-count}
 use Rattle.meaning.proofs.Lists.{and-intro, and-first, and-second}
 use Rattle.node_check.specs.declared.leaf.Kind.the-variants.{Inner, Leaf}
 use Rattle.node_check.specs.declared.leaf.Left.the-variants.{Some}
-use Rattle.node_check.specs.Leaf.{kindOf, onPath, testLeaf}
+use Rattle.node_check.specs.Leaf.{kindOf, onPath, testPages, testLeaf}
 
 -- ---- what a node is
 module _ (N P : List ℕ) (cap base x : ℕ) where
-  pub leaf-kind : (ps : List ℕ) → Holds (cells cap base (leafP x ps)) N P → kindOf N cap x ≡ Leaf (first ps)
+  pub leaf-kind : {pcap : ℕ} (ps : List ℕ) → Holds (cells cap base (leafP x ps)) N P → Below pcap ps → pcap ≤ mostPages → kindOf N cap x ≡ Leaf (first ps)
   unfolding kindOf
-  leaf-kind ps h = rw (kind-state N cap x (kind.Leaf (first ps)) (h .0), held-bare N P cap x (h .1 .0)) refl
+  leaf-kind ps h b small = rw (held-kind N cap x ps (h .0) b small, held-bare N P cap x (h .1 .0)) refl
 
   pub inner-kind : (ks : Kids) → Holds (cells cap base (innerP x ks)) N P → kindOf N cap x ≡ Inner
   unfolding kindOf
-  inner-kind ks h = rw (kind-state N cap x kind.Inner (h .0)) refl
+  inner-kind ks h = rw (stated-inner N cap x (h .0)) refl
 
 -- ---- the path
 -- an array that begins with the bytes ys
@@ -94,13 +95,13 @@ module _ (P S : List ℕ) (pcap base : ℕ) (r : Rows) (path : List ℕ) where
       ∙ and-first (follows bytesOf 0 ys p) (all (follows bytesOf 0 ys) ps) h)
       (on-path bytesOf ys reads leads l ps (b .1) (and-second (follows bytesOf 0 ys p) (all (follows bytesOf 0 ys) ps) h))
 
-  pub leaf-tested : (N : List ℕ) (d : ℕ) (ps : List ℕ) (f : ℕ) → Holds (pageCells base ps) N P → Below pcap ps → all (isLive P) ps ≡ true
-      → all (onPath S r path d) ps ≡ true → length ps ≤ f → testLeaf P S pcap base r path d (first ps) f ≡ Some (f - length ps)
-  unfolding testLeaf all
-  leaf-tested N d [] zero h b live on l = refl
-  leaf-tested N d [] (suc f) h b live on l = ap Some (let e : suc f ≡ suc f - 0 = omega arith in e)
-  leaf-tested N d (p ∷ ps) zero h b live on l = absurd (omega arith)
-  leaf-tested N d (p ∷ ps) (suc f) h b live on l =
+  pages-tested : (N : List ℕ) (d : ℕ) (ps : List ℕ) (f : ℕ) → Holds (pageCells base ps) N P → Below pcap ps → all (isLive P) ps ≡ true
+      → all (onPath S r path d) ps ≡ true → length ps ≤ f → testPages P S pcap base r path d (first ps) f ≡ Some (f - length ps)
+  unfolding testPages all
+  pages-tested N d [] zero h b live on l = refl
+  pages-tested N d [] (suc f) h b live on l = ap Some (let e : suc f ≡ suc f - 0 = omega arith in e)
+  pages-tested N d (p ∷ ps) zero h b live on l = absurd (omega arith)
+  pages-tested N d (p ∷ ps) (suc f) h b live on l =
       let back : p + 1 - 1 ≡ p = omega arith in
       rw (
         ne-eqb (p + 1) 0 (omega arith),
@@ -110,6 +111,18 @@ module _ (P S : List ℕ) (pcap base : ℕ) (r : Rows) (path : List ℕ) where
         and-first (onPath S r path d p) (all (onPath S r path d) ps) on,
         h .0,
       )
-      (leaf-tested N d ps f (h .1) (b .1) (and-second (isLive P p) (all (isLive P) ps) live)
+      (pages-tested N d ps f (h .1) (b .1) (and-second (isLive P p) (all (isLive P) ps) live)
       (and-second (onPath S r path d p) (all (onPath S r path d) ps) on) (omega arith)
       ∙ ap Some (let e : f - length ps ≡ suc f - suc (length ps) = omega arith in e))
+
+  -- as many as the number that stands in the leaf
+  pub leaf-tested : (N : List ℕ) (cap x d : ℕ) (ps : List ℕ) (f : ℕ) → Holds (cells cap base (leafP x ps)) N P → Below pcap ps → pcap ≤ mostPages
+      → all (isLive P) ps ≡ true → all (onPath S r path d) ps ≡ true → length ps ≤ f
+      → testLeaf P S pcap base r path d (first ps) (countOf N cap x) f ≡ Some (f - length ps)
+  unfolding testLeaf
+  leaf-tested N cap x d ps f h b small live on l =
+      rw (
+        held-count N cap x ps (h .0) b small,
+        pages-tested N d ps f (h .1 .1) b live on l,
+        eq-eqb (f - length ps + length ps) f (omega arith),
+      ) refl

@@ -10,7 +10,7 @@ use borrow.Author.Tests.{ne-eqb, lt-ltb}
 use Rattle.meaning.specs.Trie.{nodes}
 use Rattle.words.specs.Bits.{flag}
 use Rattle.layout.specs.Nodes.{stepsFor, mostNodes, nodeSteps}
-use Rattle.layout.specs.Pages.{isLive}
+use Rattle.layout.specs.Pages.{isLive, mostPages}
 use Rattle.children.specs.Heap.{Holds, hit}
 use Rattle.children.specs.Phys.{Phys, Kids, leafP, innerP, noKid, kid, root, first, tree, cells, Below, SoundK}
 use Rattle.children.specs.Phys.{Sound as SoundNodes}
@@ -110,7 +110,7 @@ module _ (w : Given) where
     up : nextChild (w .nodes) (w .block .nodes) done ≡ step.Up
     went : Went w f s ys u n m done cost
 
-module _ (w : Given) (bytesOf : ℕ → List ℕ) (small : w .block .nodes ≤ mostNodes) (short : w .rows .bytes ≤ 64) (reads : Reads w bytesOf) where
+module _ (w : Given) (bytesOf : ℕ → List ℕ) (small : w .block .nodes ≤ mostNodes) (few : w .block .pages ≤ mostPages) (short : w .rows .bytes ≤ 64) (reads : Reads w bytesOf) where
   abbrev N : List ℕ
   N = w .nodes
 
@@ -151,15 +151,15 @@ module _ (w : Given) (bytesOf : ℕ → List ℕ) (small : w .block .nodes ≤ m
       let fresh : Fresh (w .window) (s .map) x = mark-once (w .window) (s .map) x (r .room) (r .clear) in
       let deep : k + 1 ≡ length (ys ++ c ∷ []) = omega (arith, r .level, length-append ys (c ∷ [])) in
       let on = on-path P (w .sketches) pcap base (w .rows) path′ bytesOf (ys ++ c ∷ []) reads more (omega arith) (p ∷ ps) b (u .0) in
-      let left : leafLeft w path′ (k + 1) (p + 1) (s .pages) ≡ budget.Some (s .pages - length (p ∷ ps)) =
-      rw deep (leaf-tested P (w .sketches) pcap base (w .rows) path′ N (length (ys ++ c ∷ [])) (p ∷ ps) (s .pages) (h .1 .1) b (u .1) on (r .pages)) in
+      let left : leafLeft w path′ (k + 1) x (p + 1) (s .pages) ≡ budget.Some (s .pages - length (p ∷ ps)) =
+      rw deep (leaf-tested P (w .sketches) pcap base (w .rows) path′ N cap x (length (ys ++ c ∷ [])) (p ∷ ps) (s .pages) h b few (u .1) on (r .pages)) in
       record {
         map = fresh .after;
         path = path′;
         counted = fresh .counted;
         leads = leads-less path′ ys c more;
         ran = step-past w f n (s .map) (s .path) (s .left) (s .pages) (s .frame) (s .stack) x c l e (omega (arith, r .nodes)) (fresh .after) (fresh .same)
-            (kind.Leaf (p + 1)) (leaf-kind N P cap base x (p ∷ ps) h) (s .pages - length (p ∷ ps))
+            (kind.Leaf (p + 1)) (leaf-kind N P cap base x (p ∷ ps) h b few) (s .pages - length (p ∷ ps))
             (rw (ne-eqb (p + 1) 0 (omega arith)) (ap (pastLeaf c l) left));
       }
 
@@ -402,11 +402,11 @@ module _ (w : Given) (bytesOf : ℕ → List ℕ) (small : w .block .nodes ≤ m
       let fresh : Fresh (w .window) map x = mark-once (w .window) map x room c in
       let on = on-path P (w .sketches) pcap base (w .rows) (replicate 64 0) bytesOf [] reads leads-none (omega arith) ps b (u .0) in
       let none-left : total - length ps ≡ 0 = omega arith in
-      let leaf : leafLeft w (replicate 64 0) 0 (first ps) total ≡ budget.Some 0 =
-      leaf-tested P (w .sketches) pcap base (w .rows) (replicate 64 0) N 0 ps total (h .1 .1) b (u .1) on (omega arith) ∙ ap budget.Some none-left in
+      let leaf : leafLeft w (replicate 64 0) 0 x (first ps) total ≡ budget.Some 0 =
+      leaf-tested P (w .sketches) pcap base (w .rows) (replicate 64 0) N cap x 0 ps total h b few (u .1) on (omega arith) ∙ ap budget.Some none-left in
       record {
         after = fresh .after;
-        same = root-kind x map left total (omega arith) (fresh .after) (fresh .same) (kind.Leaf (first ps)) (leaf-kind N P cap base x ps h)
+        same = root-kind x map left total (omega arith) (fresh .after) (fresh .same) (kind.Leaf (first ps)) (leaf-kind N P cap base x ps h b few)
             ∙ ap (λ a. tested (fresh .after) (leftLeaf (left - 1) a)) leaf;
         counted = fresh .counted;
       }
@@ -462,7 +462,7 @@ pub test-whole : (w : Given) (bytesOf : ℕ → List ℕ) (root left total : ℕ
     → (map′ : List ℕ) × (testTrie w root map left total ≡ tested map′ (budget.Some (left - nodes (tree t)))) × Marked w t map map′
 test-whole w bytesOf root left total map t fits reads found l m c =
     let count : size t ≡ nodes (tree t) = size-nodes t in
-    let answer = root-whole w bytesOf (fits .nodes .small) (fits .rows .short) reads t map left total (found .holds) (found .sound)
+    let answer = root-whole w bytesOf (fits .nodes .small) (fits .pages .small) (fits .rows .short) reads t map left total (found .holds) (found .sound)
     (fit bytesOf (isLive (w .pages)) (w .rows .bits) (w .rows .length) (w .rows .bytes) t [] (found .walked) (found .live))
     (fits .bitmap) c (omega arith) (omega arith) (load-pages t ∙ found .pages) in (
       answer .after,

@@ -39,7 +39,7 @@ module _ (w : Given) (map path : List ℕ) (k : ℕ) (frame : Frame) (left pages
       go : (q : Bool) → ltb (k + 1) (w .rows .bytes) ≡ q → MoveWithin w left k frame (cond q (move.Down x byte link) move.Failed)
       go true f = (m, h .1, h .0, ltb-true (k + 1) (w .rows .bytes) f)
       go false f = tt
-  child-moves x byte link m h (kind.Leaf first) = go (eqb first 0) (leafLeft w (set path k byte) (k + 1) first pages)
+  child-moves x byte link m h (kind.Leaf first) = go (eqb first 0) (leafLeft w (set path k byte) (k + 1) x first pages)
     where
       go : (q : Bool) (a : Left) → MoveWithin w left k frame (cond q move.Failed (pastLeaf byte link a))
       go true a = tt

@@ -5,6 +5,7 @@ use mathlib.Core.Bool.{Bool, true, false}
 use mathlib.Core.List.{List}
 use lib.ListN.{set}
 use borrow.Author.Tests.{lt-ltb, le-ltb, eq-eqb, ne-eqb}
+use Rattle.layout.specs.States.{countOf}
 use Rattle.children.specs.declared.order.Frame.{Frame}
 use Rattle.children.specs.declared.order.Step.{Step}
 use Rattle.children.specs.declared.order.Step.the-variants as step
@@ -14,9 +15,9 @@ use Rattle.node_check.specs.declared.leaf.Left.{Left}
 use Rattle.trie_visit.specs.declared.Move.{Move}
 use Rattle.trie_visit.specs.declared.Move.the-variants as move
 use Rattle.node_check.specs.Mark.{noted, markOnce}
-use Rattle.node_check.specs.Leaf.{kindOf}
+use Rattle.node_check.specs.Leaf.{kindOf, testLeaf}
 use Rattle.node_check.specs.Frame.{stepIn}
-use Rattle.trie_visit.specs.Visit.{Given, seen, pastLeaf, leafLeft, childMove, onMark, visitChild, visited, onChild, visitStep, visit}
+use Rattle.trie_visit.specs.Visit.{Given, seen, pastLeaf, childMove, onMark, visitChild, visited, onChild, visitStep, visit}
 
 module _ (w : Given) (map path : List ℕ) (k x byte link left : ℕ) (after : List ℕ) (fresh : Bool)
     (e : noted after fresh ≡ markOnce (w .window) map x) where
@@ -46,10 +47,13 @@ module _ (w : Given) (map path : List ℕ) (k x byte link left : ℕ) (after : L
     pub child-empty : (first : ℕ) → found ≡ kind.Leaf first → first ≡ 0 → seen after move.Failed ≡ visitChild w map path k x byte link left
     child-empty first g z = sym (child-by (kind.Leaf first) g ∙ rw (eq-eqb first 0 z))
 
-    pub child-leaf : (first : ℕ) (given answer : Left) → found ≡ kind.Leaf first → (first ≡ 0 → ⊥) → given ≡ leafLeft w path (k + 1) first left
+    pub child-leaf : (first count : ℕ) (given answer : Left) → found ≡ kind.Leaf first → (first ≡ 0 → ⊥)
+        → count ≡ countOf (w .nodes) (w .block .nodes) x
+        → given ≡ testLeaf (w .pages) (w .sketches) (w .block .pages) (w .block .base) (w .rows) path (k + 1) first count left
         → given ≡ answer → seen after (pastLeaf byte link answer) ≡ visitChild w map path k x byte link left
-    child-leaf first given answer g n m a =
-        ap (λ t. seen after (pastLeaf byte link t)) (sym a ∙ m)
+    child-leaf first count given answer g n c m a =
+        ap (λ t. seen after (pastLeaf byte link t))
+        (sym a ∙ m ∙ ap (λ t. testLeaf (w .pages) (w .sketches) (w .block .pages) (w .block .base) (w .rows) path (k + 1) first t left) c)
         ∙ sym (child-by (kind.Leaf first) g ∙ rw (ne-eqb first 0 n))
 
 module _ (w : Given) (map path : List ℕ) (k : ℕ) (frame : Frame) (left pages : ℕ) (found : Step)

@@ -10,6 +10,7 @@ use Rattle.sketch.specs.Settings.{Bits}
 use Rattle.layout.specs.declared.Block.{Block}
 use Rattle.blocks.specs.declared.Rows.{Rows}
 use Rattle.layout.specs.Tables.{NodeTable, PageTable}
+use Rattle.layout.specs.States.{countOf}
 use Rattle.blocks.specs.Tables.{RowTable}
 use Rattle.children.specs.declared.order.Frame.{Frame}
 use Rattle.children.specs.declared.order.Step.{Step}
@@ -81,16 +82,17 @@ abbrev pub visited : List ℕ → List ℕ → Move → Visited
 visited map path move = record { map = map; path = path; move = move }
 
 module _ (w : Given) where
-  -- the pages of a leaf at the end of a path of d bytes
-  abbrev pub leafLeft : List ℕ → ℕ → ℕ → ℕ → Left
-  leafLeft path d first left = testLeaf (w .pages) (w .sketches) (w .block .pages) (w .block .base) (w .rows) path d first left
+  -- leaf x at the end of a path of d bytes: its pages, and their number
+  abbrev pub leafLeft : List ℕ → ℕ → ℕ → ℕ → ℕ → Left
+  leafLeft path d x first left =
+      testLeaf (w .pages) (w .sketches) (w .block .pages) (w .block .base) (w .rows) path d first (countOf (w .nodes) (w .block .nodes) x) left
 
   -- a child x with a byte, of a node at level k; `link` is after it
   abbrev pub childMove : List ℕ → ℕ → ℕ → ℕ → ℕ → ℕ → Kind → Move
   childMove path k x byte link left kind.Damaged = move.Failed
   childMove path k x byte link left kind.Inner = cond (ltb (k + 1) (w .rows .bytes)) (move.Down x byte link) move.Failed
   childMove path k x byte link left (kind.Leaf first) =
-      cond (eqb first 0) move.Failed (pastLeaf byte link (leafLeft path (k + 1) first left))
+      cond (eqb first 0) move.Failed (pastLeaf byte link (leafLeft path (k + 1) x first left))
 
   abbrev pub onMark : Noted → Move → Seen
   onMark n m = seen (n .map) (cond (n .fresh) m move.Failed)

@@ -78,6 +78,7 @@ fn visit_child(
             if first == 0 {
                 return Move::Failed;
             }
+            let count = layout::nodes::page_count(nodes, scope.block.nodes, x);
             match node_check::leaf::test_leaf(
                 pages,
                 sketches,
@@ -86,6 +87,7 @@ fn visit_child(
                 path,
                 below,
                 first,
+                count,
                 place.pages,
             ) {
                 Left::Some(n) => Move::Past(child.byte, child.link, n),

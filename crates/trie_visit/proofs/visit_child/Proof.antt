@@ -45,8 +45,11 @@ same-length-3 c = search needs
 returns-3 : tie.Need-returns-3
 returns-3 c = child-empty _ _ _ _ _ _ _ _ _ _ (c .before .before .before .before .before .before .before .before .before .mark-once .ensures) (not-false _ (c .before .before .before .before .before .before .if1 .left)) _ (c .before .before .before .before .kind-of .ensures) _ (c .before .before .first .given .1) (c .if3 .taken)
 
+page-count-requires : tie.Need-page-count-requires
+page-count-requires c κs = (c .before .before .before .before .before .before .before .before .before .before .before .before .before .before .before .before .pre .0 .nodes, c .before .before .before .before .before .before .before .before .before .before .before .before .before .before .before .before .pre .1 .0)
+
 test-leaf-requires : tie.Need-test-leaf-requires
-test-leaf-requires c κs = let fit = c .before .before .before .before .before .before .before .before .before .before .before .before .before .before .before .before .pre .0 in (fit .pages, (fit .behind, (fit .rows, omega (arith, fit .rows .short, c .before .before .before .before .before .before .before .before .before .before .before .before .before .before .before .before .pre .1 .1))))
+test-leaf-requires c κs = let fit = c .before .before .before .before .before .before .before .before .before .before .before .before .before .before .before .before .before .pre .0 in (fit .pages, (fit .behind, (fit .rows, omega (arith, fit .rows .short, c .before .before .before .before .before .before .before .before .before .before .before .before .before .before .before .before .before .pre .1 .1))))
 
 enum-known-n : tie.Need-enum-known-n
 enum-known-n c = search needs
@@ -70,13 +73,13 @@ same-length-6 : tie.Need-same-length-6
 same-length-6 c = search needs
 
 returns-6 : tie.Need-returns-6
-returns-6 c = child-leaf _ _ _ _ _ _ _ _ _ _ (c .before .before .before .before .before .before .before .before .before .before .before .before .before .mark-once .ensures) (not-false _ (c .before .before .before .before .before .before .before .before .before .before .if1 .left)) _ (c .before .before .before .before .before .before .before .before .kind-of .ensures) _ _ _ (c .before .before .before .before .before .before .first .given .1) (c .before .before .before .before .if3 .left) (c .before .before .before .test-leaf .ensures) (c .before .n .given .1)
+returns-6 c = child-leaf _ _ _ _ _ _ _ _ _ _ (c .before .before .before .before .before .before .before .before .before .before .before .before .before .before .mark-once .ensures) (not-false _ (c .before .before .before .before .before .before .before .before .before .before .before .if1 .left)) _ (c .before .before .before .before .before .before .before .before .before .kind-of .ensures) _ _ _ _ (c .before .before .before .before .before .before .before .first .given .1) (c .before .before .before .before .before .if3 .left) (c .before .before .before .before .page-count .ensures .0) (c .before .before .before .test-leaf .ensures) (c .before .n .given .1)
 
 same-length-7 : tie.Need-same-length-7
 same-length-7 c = search needs
 
 returns-7 : tie.Need-returns-7
-returns-7 c = child-leaf _ _ _ _ _ _ _ _ _ _ (c .before .before .before .before .before .before .before .before .before .before .before .before .mark-once .ensures) (not-false _ (c .before .before .before .before .before .before .before .before .before .if1 .left)) _ (c .before .before .before .before .before .before .before .kind-of .ensures) _ _ _ (c .before .before .before .before .before .first .given .1) (c .before .before .before .if3 .left) (c .before .before .test-leaf .ensures) (c .enum-told3 .given .1)
+returns-7 c = child-leaf _ _ _ _ _ _ _ _ _ _ (c .before .before .before .before .before .before .before .before .before .before .before .before .before .mark-once .ensures) (not-false _ (c .before .before .before .before .before .before .before .before .before .before .if1 .left)) _ (c .before .before .before .before .before .before .before .before .kind-of .ensures) _ _ _ _ (c .before .before .before .before .before .before .first .given .1) (c .before .before .before .before .if3 .left) (c .before .before .before .page-count .ensures .0) (c .before .before .test-leaf .ensures) (c .enum-told3 .given .1)
 
 pub visit-child-spec : {M : Type 1} → statement M
 visit-child-spec =
@@ -95,6 +98,7 @@ visit-child-spec =
     enum-known-first
     same-length-3
     returns-3
+    page-count-requires
     test-leaf-requires
     enum-known-n
     enum-told-3

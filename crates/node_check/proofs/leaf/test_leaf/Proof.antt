@@ -1,94 +1,42 @@
--- `test_leaf` is `testLeaf`: each turn takes one step of the definition.
-use Prim.Native.Nat.{_+_, _-_, _<_, _≤_, _^_}
-use mathlib.Core.Path.{_≡_, refl, _∙_, sym}
-use native.Mathlib.Omega.{arith}
+-- `test_leaf` is `testLeaf`, by what its pages leave.
 use borrow.Author.Needs.{needs}
-use borrow.Author.Tests.{not-true, not-false}
-use Rattle.node_check.specs.Leaf.{testLeaf}
-use Rattle.node_check.proofs.LeafSteps.{leaf-end, leaf-spent, leaf-outside, leaf-dead, leaf-astray, leaf-next}
+use Rattle.node_check.proofs.LeafSteps.{leaf-even, leaf-uneven, leaf-failed}
 use Rattle.node_check.proofs.leaf.test_leaf.Statement.{statement}
 use Rattle.node_check.proofs.leaf.test_leaf.Tie as tie
 
-abbrev Inv-loop : tie.InvT-loop
-Inv-loop pages sketches block rows path depth first budget link₀ left₀ link left =
-    (testLeaf pages sketches (block .pages) (block .base) rows path depth link left ≡ testLeaf pages sketches (block .pages) (block .base) rows path depth first budget)
-    × (link < 2 ^ 32)
-    × (left ≤ budget)
+test-pages-requires : tie.Need-test-pages-requires
+test-pages-requires c κs = search needs
 
-abbrev μ-loop : tie.MeasureT-loop
-μ-loop pages sketches block rows path depth first budget link₀ left₀ link left = left
+enum-known-n : tie.Need-enum-known-n
+enum-known-n c = search needs
 
-loop-holds : tie.Need-loop-holds Inv-loop μ-loop
-loop-holds c = (refl, search needs, search needs)
+cast-if1 : tie.Need-cast-if1
+cast-if1 c = search needs
 
-returns : tie.Need-returns Inv-loop μ-loop
-returns c = sym (leaf-end _ _ _ _ _ _ _ _ _ (c .if1 .taken)) ∙ c .before .loop .inv .0
+add-if1 : tie.Need-add-if1
+add-if1 c = search needs
 
-returns-2 : tie.Need-returns-2 Inv-loop μ-loop
-returns-2 c = sym (leaf-spent _ _ _ _ _ _ _ _ _ (omega arith) (c .if2 .taken)) ∙ c .before .before .loop .inv .0
+returns : tie.Need-returns
+returns c = leaf-uneven _ _ _ _ _ _ _ _ _ _ _ (c .before .before .before .before .test-pages .ensures) _ (c .before .before .n .given .1) (c .if1 .taken)
 
-cast-p : tie.Need-cast-p Inv-loop μ-loop
-cast-p c = search needs
+enum-told : tie.Need-enum-told
+enum-told c = search needs
 
-sub-p : tie.Need-sub-p Inv-loop μ-loop
-sub-p c = search needs
+returns-2 : tie.Need-returns-2
+returns-2 c = leaf-even _ _ _ _ _ _ _ _ _ _ _ (c .before .before .before .before .test-pages .ensures) _ (c .before .before .n .given .1) (c .if1 .left)
 
-returns-3 : tie.Need-returns-3 Inv-loop μ-loop
-returns-3 c = sym (leaf-outside _ _ _ _ _ _ _ _ _ (omega arith)) ∙ c .before .before .before .before .loop .inv .0
-
-is-live-requires : tie.Need-is-live-requires Inv-loop μ-loop
-is-live-requires c κs = let table = c .before .before .before .before .before .before .before .pre .0 in omega (arith, table .long, c .before .before .before .before .before .before .before .pre .1 .0)
-
-returns-4 : tie.Need-returns-4 Inv-loop μ-loop
-returns-4 c = sym (leaf-dead _ _ _ _ _ _ _ _ _ (omega arith) (omega arith) (omega arith) (sym (c .before .is-live .ensures) ∙ not-true _ (c .if4 .taken))) ∙ c .before .before .before .before .before .before .loop .inv .0
-
-is-on-path-requires : tie.Need-is-on-path-requires Inv-loop μ-loop
-is-on-path-requires c κs = search needs
-
-returns-5 : tie.Need-returns-5 Inv-loop μ-loop
-returns-5 c = sym (leaf-astray _ _ _ _ _ _ _ _ _ (omega arith) (omega arith) (omega arith) (sym (c .before .before .before .is-live .ensures) ∙ not-false _ (c .before .before .if4 .left)) (sym (c .before .is-on-path .ensures) ∙ not-true _ (c .if5 .taken))) ∙ c .before .before .before .before .before .before .before .before .loop .inv .0
-
-add-link : tie.Need-add-link Inv-loop μ-loop
-add-link c = let table = c .before .before .before .before .before .before .before .before .before .before .before .before .pre .0 in record { fits = omega (arith, table .long) }
-
-mul-link : tie.Need-mul-link Inv-loop μ-loop
-mul-link c = search needs
-
-shared-slice-read-link : tie.Need-shared-slice-read-link Inv-loop μ-loop
-shared-slice-read-link c = let table = c .before .before .before .before .before .before .before .before .before .before .before .before .before .pre .0 in omega (arith, table .long)
-
-sub-left : tie.Need-sub-left Inv-loop μ-loop
-sub-left c = search needs
-
-loop-less : tie.Need-loop-less Inv-loop μ-loop
-loop-less c = search needs
-
-loop-again : tie.Need-loop-again Inv-loop μ-loop
-loop-again c = (
-  sym (leaf-next _ _ _ _ _ _ _ _ _ (omega arith) (omega arith) (omega arith) (sym (c .before .before .before .before .before .is-live .ensures) ∙ not-false _ (c .before .before .before .before .if4 .left)) (sym (c .before .before .before .is-on-path .ensures) ∙ not-false _ (c .before .before .if5 .left))) ∙ c .before .before .before .before .before .before .before .before .before .before .loop .inv .0,
-  omega (arith, c .shared-slice-known3 .given (c .before .before .before .before .before .before .before .before .before .before .before .before .before .args .block .base + (c .before .before .before .before .before .before .before .before .before .before .loop .link - 1))),
-  omega arith,
-)
+returns-3 : tie.Need-returns-3
+returns-3 c = leaf-failed _ _ _ _ _ _ _ _ _ _ _ (c .before .before .test-pages .ensures) (c .enum-told .given .1)
 
 pub test-leaf-spec : {M : Type 1} → statement M
 test-leaf-spec =
     tie.close
     (tie.spec
-    Inv-loop
-    μ-loop
-    loop-holds
+    test-pages-requires
+    enum-known-n
+    cast-if1
+    add-if1
     returns
+    enum-told
     returns-2
-    cast-p
-    sub-p
-    returns-3
-    is-live-requires
-    returns-4
-    is-on-path-requires
-    returns-5
-    add-link
-    mul-link
-    shared-slice-read-link
-    sub-left
-    loop-less
-    loop-again)
+    returns-3)

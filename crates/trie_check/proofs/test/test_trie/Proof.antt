@@ -37,8 +37,11 @@ test-below-requires c κs = (fitting-kept _ _ _ (c .before .before .before .befo
 enum-known-first : tie.Need-enum-known-first
 enum-known-first c = search needs
 
+page-count-requires : tie.Need-page-count-requires
+page-count-requires c κs = (c .before .before .before .before .before .before .before .before .before .before .before .before .before .before .pre .0 .nodes, c .before .before .before .before .before .before .before .before .before .before .before .before .before .before .pre .1)
+
 test-leaf-requires : tie.Need-test-leaf-requires
-test-leaf-requires c κs = let fit = c .before .before .before .before .before .before .before .before .before .before .before .before .before .before .before .pre .0 in (fit .pages, (fit .behind, (fit .rows, omega arith)))
+test-leaf-requires c κs = let fit = c .before .before .before .before .before .before .before .before .before .before .before .before .before .before .before .before .pre .0 in (fit .pages, (fit .behind, (fit .rows, omega arith)))
 
 enum-known-n : tie.Need-enum-known-n
 enum-known-n c = search needs
@@ -65,13 +68,13 @@ same-length-4 : tie.Need-same-length-4
 same-length-4 c = search needs
 
 returns-5 : tie.Need-returns-5
-returns-5 c = trie-some _ _ _ _ _ (omega arith) _ _ (c .before .before .before .before .before .before .before .before .before .before .before .before .before .mark-once .ensures) (not-false _ (c .before .before .before .before .before .before .before .before .before .before .if2 .left)) _ (c .before .before .before .before .before .before .before .before .before .kind-of .ensures) _ _ (c .before .before .before .before .before .before .before .first .given .1) (c .before .before .before .before .test-leaf .ensures) _ _ (c .before .before .n .given .1) (c .left-if .ensures)
+returns-5 c = trie-some _ _ _ _ _ (omega arith) _ _ (c .before .before .before .before .before .before .before .before .before .before .before .before .before .before .mark-once .ensures) (not-false _ (c .before .before .before .before .before .before .before .before .before .before .before .if2 .left)) _ (c .before .before .before .before .before .before .before .before .before .before .kind-of .ensures) _ _ _ (c .before .before .before .before .before .before .before .before .first .given .1) (c .before .before .before .before .before .before .page-count .ensures .0) (c .before .before .before .before .test-leaf .ensures) _ _ (c .before .before .n .given .1) (c .left-if .ensures)
 
 same-length-5 : tie.Need-same-length-5
 same-length-5 c = search needs
 
 returns-6 : tie.Need-returns-6
-returns-6 c = trie-failed _ _ _ _ _ (omega arith) _ _ (c .before .before .before .before .before .before .before .before .before .before .before .mark-once .ensures) (not-false _ (c .before .before .before .before .before .before .before .before .if2 .left)) _ (c .before .before .before .before .before .before .before .kind-of .ensures) _ _ (c .before .before .before .before .before .first .given .1) (c .before .before .test-leaf .ensures) (c .enum-told3 .given .1)
+returns-6 c = trie-failed _ _ _ _ _ (omega arith) _ _ (c .before .before .before .before .before .before .before .before .before .before .before .before .mark-once .ensures) (not-false _ (c .before .before .before .before .before .before .before .before .before .if2 .left)) _ (c .before .before .before .before .before .before .before .before .kind-of .ensures) _ _ _ (c .before .before .before .before .before .before .first .given .1) (c .before .before .before .before .page-count .ensures .0) (c .before .before .test-leaf .ensures) (c .enum-told3 .given .1)
 
 pub test-trie-spec : {M : Type 1} → statement M
 test-trie-spec =
@@ -87,6 +90,7 @@ test-trie-spec =
     enum-told-2
     test-below-requires
     enum-known-first
+    page-count-requires
     test-leaf-requires
     enum-known-n
     left-if-requires
