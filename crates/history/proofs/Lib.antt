@@ -12,5 +12,6 @@ pub mod Keeps
 pub mod Blank
 pub mod Pruned
 pub mod Main
+pub mod Leaves
 pub mod Foreign
 pub mod Example

@@ -3,3 +3,4 @@ pub mod Meets
 pub mod Sound
 pub mod Complete
 pub mod Lists
+pub mod Numbers

@@ -73,7 +73,7 @@ module _ (s : Settings) (limits : HeaderLimits (headerOf s)) (N P x : List ℕ) 
       block-right j t budget l h g r b few lasts =
           let base : ℕ = nextAt (s .pages) j in
           let walk = walk-right (walkOf (headerOf s) N P x j) base (s .pages) P (bytes j) (blockLength (s .symbols) (s .blocks) j) t blockRadius
-          (limits .nodes-most) (bytes-small j l) h g (rw (bytes-length j l) (b .sound)) few budget lasts in
+          (limits .nodes-most, limits .pages-most) (bytes-small j l) h g (rw (bytes-length j l) (b .sound)) few budget lasts in
           let most : length (flatten (walk .lists)) ≤ s .pages =
           omega (
             arith,

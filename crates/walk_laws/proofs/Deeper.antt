@@ -27,7 +27,7 @@ use Rattle.walk_laws.proofs.Example.{pageTable}
 -- node 1 has byte 180, and node 2 below it byte 27 and page 7
 abbrev nodeTable : List ℕ
 nodeTable =
-    0 ∷ 94371840 ∷ 14155776 ∷ 1 ∷ 1 ∷ 10 ∷
+    0 ∷ 94371840 ∷ 14155776 ∷ 65536 ∷ 65536 ∷ 65544 ∷
     0 ∷ 0 ∷ 0 ∷ 0 ∷ 0 ∷ 2 ∷ 0 ∷ 0 ∷
     3 ∷ 0 ∷ 0 ∷ 0 ∷ 0 ∷ 0 ∷ 0 ∷ 0 ∷
     0 ∷ 0 ∷ 0 ∷ 0 ∷ 0 ∷ 0 ∷ 0 ∷ 0 ∷ []

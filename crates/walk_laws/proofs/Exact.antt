@@ -8,7 +8,6 @@ use mathlib.Core.List.{List, _∷_}
 use lib.ListN.{length, getD, drop, length-drop}
 use Rattle.meaning.specs.Sketch.{perByte}
 use Rattle.meaning.specs.Trie.{met, nodes}
-use Rattle.layout.specs.Nodes.{mostNodes}
 use Rattle.children.specs.Heap.{Holds}
 use Rattle.children.specs.Phys.{Phys, root, first, tree, pageCells, cells, Below, Sound}
 use Rattle.trie_laws.specs.Sound.{soundTrie}
@@ -16,12 +15,12 @@ use Rattle.walk_steps.specs.Given.{Given, exactFrom, leafFrom, drawnFrom}
 use Rattle.walk_laws.specs.Near.{near}
 use Rattle.walk_laws.specs.Trail.{exactAfter}
 use Rattle.walk_laws.proofs.Descent.{led-leaf}
-use Rattle.walk_laws.proofs.Fit.{Fit, fit}
+use Rattle.walk_laws.proofs.Fit.{Small, Fit, fit}
 use Rattle.walk_laws.proofs.Spelt.{spelt-drop}
 use Rattle.walk_laws.proofs.Leads.{Leads, tree-leads, stepsBelow, steps-below, nearBelow, near-below}
 
 -- ---- over the query's bytes from level k on
-module _ (w : Given) (P : List ℕ) (pcap base : ℕ) (small : w .cap ≤ mostNodes) (query : (i : ℕ) → getD (w .bytes) i 0 < 2 ^ (w .b * perByte (w .b)))
+module _ (w : Given) (P : List ℕ) (pcap base : ℕ) (small : Small (w .cap) pcap) (query : (i : ℕ) → getD (w .bytes) i 0 < 2 ^ (w .b * perByte (w .b)))
     (t : Phys) (k : ℕ) (h : Holds (cells (w .cap) base t) (w .nodes) P) (s : Sound (w .cap) pcap t) (u : Fit (w .b) (length (w .bytes)) t k) where
   abbrev ys : List ℕ
   ys = drop k (w .bytes)
@@ -66,7 +65,7 @@ pub record ExactRight (w : Given) (base pcap : ℕ) (P : List ℕ) (t : Phys) : 
   -- the root is not read
   pub few : drawnFrom w (exactFrom w (root t) 0) < nodes (tree t)
 
-pub exact-right : (w : Given) (base pcap : ℕ) (P : List ℕ) (bytesOf : ℕ → List ℕ) (n : ℕ) (t : Phys) → w .cap ≤ mostNodes
+pub exact-right : (w : Given) (base pcap : ℕ) (P : List ℕ) (bytesOf : ℕ → List ℕ) (n : ℕ) (t : Phys) → Small (w .cap) pcap
     → ((i : ℕ) → getD (w .bytes) i 0 < 2 ^ (w .b * perByte (w .b)))
     → Holds (cells (w .cap) base t) (w .nodes) P → Sound (w .cap) pcap t
     → soundTrie bytesOf (w .b) n (length (w .bytes)) 0 (tree t) ≡ true → nodes (tree t) ≤ w .cap → ExactRight w base pcap P t

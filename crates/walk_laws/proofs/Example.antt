@@ -3,7 +3,7 @@ use Prim.Native.Nat.{ℕ, zero, suc, _+_, _*_, _^_, _<_}
 use native.Mathlib.Omega.{arith}
 use mathlib.Core.Path.{_≡_, refl, ap, _∙_}
 use mathlib.Core.List.{List, [], _∷_}
-use lib.ListN.{getD}
+use lib.ListN.{getD, set}
 use Rattle.meaning.specs.Lists.{count, from, upto}
 use Rattle.meaning.specs.Sketch.{perByte, group, byteDistance}
 use Rattle.meaning.specs.Trie.{met, metIn}
@@ -22,10 +22,11 @@ use Rattle.walk_laws.proofs.Fit.{Fit}
 use Rattle.walk_laws.proofs.Leads.{steps-below}
 use Rattle.walk_laws.proofs.Right.{WalkRight, right, right-trail}
 use Rattle.walk_laws.proofs.Exact.{exact-leaf, exact-near}
+use Rattle.walk_laws.proofs.Numbers.{leaf-renumbered, walk-same}
 
 abbrev nodeTable : List ℕ
 nodeTable =
-    0 ∷ 94371840 ∷ 119537664 ∷ 1 ∷ 5 ∷ 10 ∷
+    0 ∷ 94371840 ∷ 119537664 ∷ 65536 ∷ 65539 ∷ 65544 ∷
     0 ∷ 0 ∷ 0 ∷ 0 ∷ 0 ∷ 2 ∷ 0 ∷ 3 ∷
     0 ∷ 0 ∷ 0 ∷ 0 ∷ 0 ∷ 0 ∷ 0 ∷ 0 ∷
     0 ∷ 0 ∷ 0 ∷ 0 ∷ 0 ∷ 0 ∷ 0 ∷ 0 ∷ []
@@ -75,7 +76,7 @@ met-one = refl
 
 -- two nodes are behind the root, and both are read
 pub example : WalkRight w 16 8 pageTable t 2 2
-example = right w pageTable 8 16 (omega arith) query t 2 holds sound fits (omega arith) (omega arith) 2 (omega (arith, steps-below t))
+example = right w pageTable 8 16 (omega arith, omega arith) query t 2 holds sound fits (omega arith) (omega arith) 2 (omega (arith, steps-below t))
 
 pub example-walk : walkFrom w 0 2 2 ≡ leaves (3 ∷ 8 ∷ []) 0
 unfolding walkFrom walkBelow run found reached kindOf allOf nextOf lookAt arrive firstFor advance descended drawn leafOf byteDistance count upto from perByte group
@@ -84,6 +85,11 @@ example-walk = refl
 pub example-near : walkFrom w 0 1 2 ≡ leaves (8 ∷ []) 0
 unfolding walkFrom walkBelow run found reached kindOf allOf nextOf lookAt arrive firstFor advance descended drawn leafOf byteDistance count upto from perByte group
 example-near = refl
+
+-- with another number in the second leaf, 5 in the place of 1
+pub example-renumbered : walkFrom (given (set nodeTable 5 327688) 3 2 (228 ∷ [])) 0 2 2 ≡ leaves (3 ∷ 8 ∷ []) 0
+unfolding kindOf
+example-renumbered = walk-same (leaf-renumbered nodeTable 3 2 5 8 (omega arith) refl (omega arith)) 2 (228 ∷ []) 0 2 2 ∙ example-walk
 
 -- one is too few
 pub example-short : walkFrom w 0 2 1 ≡ broken
@@ -100,10 +106,10 @@ unfolding near nearK byteDistance count upto from perByte group
 near-one = refl
 
 pub example-trail : trailFrom w 0 2 ≡ 0 ∷ 1 ∷ 2 ∷ []
-example-trail = right-trail w pageTable 8 16 (omega arith) query t 2 holds sound fits (omega arith) (omega arith) ∙ near-two
+example-trail = right-trail w pageTable 8 16 (omega arith, omega arith) query t 2 holds sound fits (omega arith) (omega arith) ∙ near-two
 
 pub example-trail-near : trailFrom w 0 1 ≡ 0 ∷ 2 ∷ []
-example-trail-near = right-trail w pageTable 8 16 (omega arith) query t 1 holds sound fits (omega arith) (omega arith) ∙ near-one
+example-trail-near = right-trail w pageTable 8 16 (omega arith, omega arith) query t 1 holds sound fits (omega arith) (omega arith) ∙ near-one
 
 -- their paths; at radius 0 the packed length and the root
 paths : pathsIn (tree t) ≡ [] ∷ (180 ∷ []) ∷ (228 ∷ []) ∷ []
@@ -139,10 +145,10 @@ unfolding near nearK byteDistance count upto from perByte group
 near-none = refl
 
 pub example-exact : leafLink 228 ≡ 8
-example-exact = exact-leaf w pageTable 8 16 (omega arith) query t 0 holds sound fits (omega arith) ∙ ap first met-none
+example-exact = exact-leaf w pageTable 8 16 (omega arith, omega arith) query t 0 holds sound fits (omega arith) ∙ ap first met-none
 
 pub example-exact-near : 0 ∷ exactTrail nodeTable 3 (228 ∷ []) 3 (arrive nodeTable 3 (228 ∷ []) 0 0 0) ≡ 0 ∷ 2 ∷ []
-example-exact-near = exact-near w pageTable 8 16 (omega arith) query t 0 holds sound fits (omega arith) ∙ near-none
+example-exact-near = exact-near w pageTable 8 16 (omega arith, omega arith) query t 0 holds sound fits (omega arith) ∙ near-none
 
 -- a walk at radius 0 reads the second node alone
 pub example-none : walkFrom w 0 0 2 ≡ leaves (8 ∷ []) 1
@@ -150,4 +156,4 @@ unfolding walkFrom walkBelow run found reached kindOf allOf nextOf lookAt arrive
 example-none = refl
 
 pub example-trail-none : trailFrom w 0 0 ≡ 0 ∷ 2 ∷ []
-example-trail-none = right-trail w pageTable 8 16 (omega arith) query t 0 holds sound fits (omega arith) (omega arith) ∙ near-none
+example-trail-none = right-trail w pageTable 8 16 (omega arith, omega arith) query t 0 holds sound fits (omega arith) (omega arith) ∙ near-none

@@ -1,4 +1,4 @@
--- What a walk asks of a trie: inner nodes above the last level, and bytes of z symbols. A sound trie is such.
+-- What a walk asks of the capacities, and of a trie: inner nodes above the last level, and bytes of z symbols. A sound trie is such.
 use Prim.Native.Nat.{ℕ, suc, _-_, _*_, _^_, _≤_, _<_}
 use native.Mathlib.Omega.{arith}
 use native.Mathlib.Nat.{min-le-left, mul-le-mul-left, lt-of-lt-of-le}
@@ -11,12 +11,18 @@ use lib.Bits.{bitXor}
 use borrow.Author.Tests.{ltb-true, lt-leb}
 use Rattle.meaning.specs.Sketch.{perByte, symbolsAt, packable, byteDistance}
 use Rattle.meaning.specs.Trie.{metIn}
+use Rattle.layout.specs.Nodes.{mostNodes}
+use Rattle.layout.specs.Pages.{mostPages}
 use Rattle.children.specs.Phys.{Phys, Kids, leafP, innerP, noKid, kid, tree, childrenOf, SoundK}
 use Rattle.trie_laws.specs.Sound.{soundTrie, soundFrom}
 use Rattle.trie_laws.proofs.Sound.{inner-parts, child-parts}
 use Rattle.sketch_laws.proofs.Packing.{per-byte-le}
 use Rattle.walk_laws.specs.Near.{nearK}
 use Rattle.walk_laws.proofs.Apart.{apart}
+
+-- capacities within the limits
+abbrev pub Small : ℕ → ℕ → Type 0
+Small cap pcap = (cap ≤ mostNodes) × (pcap ≤ mostPages)
 
 module _ (b len : ℕ) where
   abbrev mutual

@@ -6,9 +6,10 @@ use lib.Bits.{bitXor}
 use lib.ListN.{length, getD}
 use borrow.Author.Tests.{lt-ltb, le-ltb}
 use Rattle.meaning.specs.Sketch.{byteDistance}
-use Rattle.layout.specs.Nodes.{stateAt, innerState, leafState}
+use Rattle.layout.specs.Nodes.{stateAt, innerState}
+use Rattle.layout.specs.States.{kindOf}
 use Rattle.layout.specs.declared.nodes.Kind.the-variants as kind
-use Rattle.layout.proofs.States.{kind-state}
+use Rattle.layout.proofs.States.{inner-kind}
 use Rattle.children.specs.Cursors.{nextOf}
 use Rattle.children.specs.declared.cursor.Next.{Next}
 use Rattle.children.specs.declared.cursor.Next.the-variants as next
@@ -48,12 +49,12 @@ module _ (w : Given) (level : ℕ) (frame : Frame) where
 
 -- ---- a child within the radius, by its state
 module _ (w : Given) (x level radius l : ℕ) where
-  pub to-leaf : (first : ℕ) → getD (w .nodes) (stateAt (w .cap) x) 0 ≡ leafState first → reached w x level radius l ≡ Leaf (ended first) l
-  to-leaf first e = sym (reached-by w x level radius l _ refl (kind.Leaf first) (kind-state (w .nodes) (w .cap) x (kind.Leaf first) e))
+  pub to-leaf : (first : ℕ) → kindOf (w .nodes) (w .cap) x ≡ kind.Leaf first → reached w x level radius l ≡ Leaf (ended first) l
+  to-leaf first e = sym (reached-by w x level radius l _ refl (kind.Leaf first) e)
 
   module _ (e : getD (w .nodes) (stateAt (w .cap) x) 0 ≡ innerState) where
     pub to-exact : radius ≡ 0 → reached w x level radius l ≡ Leaf (exactFrom w x level) l
-    to-exact z = sym (reached-exact w x level radius l _ refl (kind-state (w .nodes) (w .cap) x kind.Inner e) z (exactFrom w x level) refl)
+    to-exact z = sym (reached-exact w x level radius l _ refl (inner-kind (w .nodes) (w .cap) x e) z (exactFrom w x level) refl)
 
     pub to-inner : 0 < radius → level < length (w .bytes) → reached w x level radius l ≡ Down x radius l
-    to-inner z h = sym (reached-down w x level radius l _ refl (kind-state (w .nodes) (w .cap) x kind.Inner e) (λ y. absurd (omega arith)) h)
+    to-inner z h = sym (reached-down w x level radius l _ refl (inner-kind (w .nodes) (w .cap) x e) (λ y. absurd (omega arith)) h)

@@ -8,9 +8,8 @@ use lib.ListN.{length}
 use Rattle.meaning.specs.Sketch.{byteDistance}
 use Rattle.meaning.specs.Trie.{met, metIn, nodes, nodesIn}
 use Rattle.sketch_laws.proofs.ByteDistance.{byte-distance-zero}
-use Rattle.layout.specs.Nodes.{mostNodes}
-use Rattle.layout.specs.declared.nodes.Kind.the-variants as kind
-use Rattle.layout.proofs.States.{kind-state}
+use Rattle.layout.proofs.States.{inner-kind}
+use Rattle.children.proofs.Leaves.{held-kind}
 use Rattle.children.specs.Cursors.{lookAt, firstFor}
 use Rattle.children.specs.declared.cursor.Seen.the-variants as seen
 use Rattle.children.specs.Heap.{Holds}
@@ -24,7 +23,7 @@ use Rattle.descent.proofs.Steps.{arrive-leaf, arrive-inner}
 use Rattle.walk_laws.specs.Near.{near, nearK}
 use Rattle.walk_laws.proofs.Descent.{Led, led-end, led-within, led-less, led-more, led-same}
 use Rattle.walk_laws.proofs.Spelt.{Spelt}
-use Rattle.walk_laws.proofs.Fit.{Fit, FitK, byte-small, apart-met, apart-near, unmet, none-near}
+use Rattle.walk_laws.proofs.Fit.{Small, Fit, FitK, byte-small, apart-met, apart-near, unmet, none-near}
 
 -- the steps that a descent below a node can cost: one for each of the nodes
 abbrev mutual
@@ -70,7 +69,7 @@ module _ (b c y : ℕ) (ys : List ℕ) (t : Phys) (ks : Kids) (e : c ≡ y) wher
   unfolding nearK
   same-near n = rw (at-none, n) (append-nil (near b 0 t ys)) ∙ sym (near-below b t ys)
 
-module _ (N P : List ℕ) (cap pcap base b len : ℕ) (bytes : List ℕ) (last : ℕ) (small : cap ≤ mostNodes) where
+module _ (N P : List ℕ) (cap pcap base b len : ℕ) (bytes : List ℕ) (last : ℕ) (small : Small cap pcap) where
   -- a descent ends at the leaf of some pages, which are held, and goes to some nodes
   pub record Leads (c : Cursor) (ps xs : List ℕ) (cost : ℕ) : Type 0 where
     pub led : Led N cap bytes c (first ps) cost xs
@@ -127,22 +126,22 @@ module _ (N P : List ℕ) (cap pcap base b len : ℕ) (bytes : List ℕ) (last :
     pub tree-leads : (t : Phys) (ys : List ℕ) (k at : ℕ) → Holds (cells cap base t) N P → Sound cap pcap t → Fit b len t k → len ≤ k + length ys
         → Spelt b bytes last ys at → Leads (arrive N cap bytes (root t) at last) (met b 0 (tree t) ys) (nearBelow b t ys) (stepsBelow t)
     tree-leads (leafP x ps) ys k at h s u l q =
-        leads-same (arrive-leaf N cap bytes x at last (first ps) (kind-state N cap x (kind.Leaf (first ps)) (h .0))) refl refl (omega arith)
+        leads-same (arrive-leaf N cap bytes x at last (first ps) (held-kind N cap x ps (h .0) (s .1) (small .1))) refl refl (omega arith)
         (record { led = led-end N cap bytes (ended (first ps)) refl; held = h .1 .1; below = s .1 })
     tree-leads (innerP x ks) [] k at h s u l q = absurd (omega (arith, u .0))
     tree-leads (innerP x ks) (y ∷ ys) k at h s u l q =
         leads-same
-        (arrive-inner N cap bytes x at last (kind-state N cap x kind.Inner (h .0)) (q .1) ∙ ap (λ c. ahead (firstFor N cap x c) at last) (q .0))
+        (arrive-inner N cap bytes x at last (inner-kind N cap x (h .0)) (q .1) ∙ ap (λ c. ahead (firstFor N cap x c) at last) (q .0))
         refl refl (omega arith)
         (kids-lead ks (firstFor N cap x y) y ys k at 0
-        (along-all cap pcap base N P small x y ks (omega (arith, q .2, byte-small b)) (h .1) (s .1)) (u .1) l q)
+        (along-all cap pcap base N P (small .0) x y ks (omega (arith, q .2, byte-small b)) (h .1) (s .1)) (u .1) l q)
 
     kids-lead : (ks : Kids) (link y : ℕ) (ys : List ℕ) (k at lo : ℕ) → Along cap pcap base N P y link lo ks → FitK b len ks k → len ≤ k + length (y ∷ ys)
         → Spelt b bytes last (y ∷ ys) at → Among ks link y ys at
     kids-lead noKid link y ys k at lo a u l q =
-        leads-same (ap (λ n. ahead n at last) (look-end cap small N pcap base P y link a)) refl refl (omega arith)
+        leads-same (ap (λ n. ahead n at last) (look-end cap (small .0) N pcap base P y link a)) refl refl (omega arith)
         (leads-none (led-end N cap bytes (ahead 0 at last) refl))
-    kids-lead (kid c t ks) link y ys k at lo a u l q = elim (look-kid cap small N pcap base P y link lo c t ks a) [
+    kids-lead (kid c t ks) link y ys k at lo a u l q = elim (look-kid cap (small .0) N pcap base P y link lo c t ks a) [
       | aside n o ↦
           leads-same refl (apart-met b y ys (q .2) c t ks (u .0) n) (apart-near b y ys (q .2) c t ks (u .0) n) (omega arith)
           (kids-lead ks link y ys k at (suc c) o (u .2) l q)

@@ -12,5 +12,6 @@ pub mod Pages
 pub mod Through
 pub mod Right
 pub mod Walk
+pub mod Numbers
 pub mod Example
 pub mod Deeper

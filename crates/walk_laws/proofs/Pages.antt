@@ -9,17 +9,16 @@ use lib.ListN.{length, getD, drop}
 use lib.Seq.{drop-cons}
 use Rattle.meaning.specs.Sketch.{perByte, byteDistance}
 use Rattle.meaning.specs.Trie.{met}
-use Rattle.layout.specs.Nodes.{mostNodes}
 use Rattle.children.specs.Heap.{Holds}
 use Rattle.children.specs.Phys.{Phys, Kids, leafP, innerP, noKid, kid, tree, childrenOf, cells, Sound, SoundK}
 use Rattle.children.proofs.Claims.{Trees, kid-trees}
 use Rattle.walk_steps.specs.Given.{Given}
 use Rattle.children.specs.Held.{Held}
-use Rattle.walk_laws.proofs.Fit.{Fit, FitK}
+use Rattle.walk_laws.proofs.Fit.{Small, Fit, FitK}
 use Rattle.walk_laws.proofs.Exact.{exact-held, exact-below}
 use Rattle.walk_laws.proofs.Lists.{lists, listsIn, lists-none, lists-some, held-append, held-some}
 
-module _ (w : Given) (P : List ℕ) (pcap base : ℕ) (small : w .cap ≤ mostNodes) (query : (k : ℕ) → getD (w .bytes) k 0 < 2 ^ (w .b * perByte (w .b))) where
+module _ (w : Given) (P : List ℕ) (pcap base : ℕ) (small : Small (w .cap) pcap) (query : (k : ℕ) → getD (w .bytes) k 0 < 2 ^ (w .b * perByte (w .b))) where
   mutual
     unfolding lists listsIn met
 

@@ -9,9 +9,10 @@ use lib.ListN.{length, getD}
 use lib.Seq.{drop-cons}
 use Rattle.meaning.specs.Sketch.{perByte}
 use Rattle.meaning.specs.Trie.{met, nodes}
-use Rattle.layout.specs.Nodes.{stepsFor, mostNodes}
+use Rattle.layout.specs.Nodes.{stepsFor}
 use Rattle.layout.specs.declared.nodes.Kind.the-variants as kind
-use Rattle.layout.proofs.States.{kind-state}
+use Rattle.layout.proofs.States.{inner-kind}
+use Rattle.children.proofs.Leaves.{held-kind}
 use Rattle.children.specs.Heap.{Holds}
 use Rattle.children.specs.Phys.{Phys, Kids, leafP, innerP, root, first, tree, childrenOf, cells, Sound}
 use Rattle.walk_steps.specs.Given.{Given, exactFrom, leafFrom, drawnFrom}
@@ -23,7 +24,7 @@ use Rattle.walk_laws.specs.Near.{near, nearK}
 use Rattle.walk_laws.specs.Trail.{trail, trailFrom}
 use Rattle.children.specs.Held.{Held}
 use Rattle.walk_laws.proofs.Ran.{step-end, trail-end, trail-leaf, trail-exact, trail-some}
-use Rattle.walk_laws.proofs.Fit.{Fit}
+use Rattle.walk_laws.proofs.Fit.{Small, Fit}
 use Rattle.walk_laws.proofs.Leads.{stepsBelow, stepsAmong, steps-below}
 use Rattle.walk_laws.proofs.Exact.{exact-leaf, exact-near, exact-drew}
 use Rattle.walk_laws.proofs.Lists.{lists, listsIn, lists-met, lists-none, lists-some}
@@ -40,7 +41,7 @@ pub record WalkRight (w : Given) (base pcap : ℕ) (P : List ℕ) (t : Phys) (ra
   pub met : flatten lists ≡ met (w .b) radius (tree t) (w .bytes)
   pub held : Held base pcap lists (w .nodes) P
 
-module _ (w : Given) (P : List ℕ) (pcap base : ℕ) (small : w .cap ≤ mostNodes) (query : (k : ℕ) → getD (w .bytes) k 0 < 2 ^ (w .b * perByte (w .b))) where
+module _ (w : Given) (P : List ℕ) (pcap base : ℕ) (small : Small (w .cap) pcap) (query : (k : ℕ) → getD (w .bytes) k 0 < 2 ^ (w .b * perByte (w .b))) where
   abbrev N : List ℕ
   N = w .nodes
 
@@ -66,7 +67,7 @@ module _ (w : Given) (P : List ℕ) (pcap base : ℕ) (small : w .cap ≤ mostNo
   unfolding lists walkBelow
   right-some (leafP x ps) radius budget h s u few c k some =
       right-by (leafP x ps) radius budget budget h s u (omega (arith, steps-below (leafP x ps)))
-      (sym (from-by w x radius budget some _ refl (kind.Leaf (first ps)) (kind-state N (w .cap) x (kind.Leaf (first ps)) (h .0))))
+      (sym (from-by w x radius budget some _ refl (kind.Leaf (first ps)) (held-kind N (w .cap) x ps (h .0) (s .1) (small .1))))
   right-some (innerP x ks) radius budget h s u few c k some =
       let under = root-through w P pcap base small query x ks radius budget h s u few c k in
       let ls : List ℕ = linksK w ks radius [] in
@@ -75,7 +76,7 @@ module _ (w : Given) (P : List ℕ) (pcap base : ℕ) (small : w .cap ≤ mostNo
       (ap (map first) (lists-some (w .b) (childrenOf ks) radius (w .bytes) (λ y. absurd (omega arith)))
       ∙ ap (λ ys. map first (listsIn (w .b) radius (childrenOf ks) ys)) (drop-cons (w .bytes) 0 0 (u .0))) in
       right-by (innerP x ks) radius budget (under .ran .over - 0) h s u (omega (arith, under .ran .lasts, steps-below (innerP x ks)))
-      (sym (from-by w x radius budget some _ refl kind.Inner (kind-state N (w .cap) x kind.Inner (h .0)))
+      (sym (from-by w x radius budget some _ refl kind.Inner (inner-kind N (w .cap) x (h .0)))
       ∙ under .ran .same
       ∙ ap (before ls) (step-end w (under .ran .rest) (under .ran .over) (omega (arith, under .ran .enough)) (under .done) (under .up))
       ∙ ap (λ ks. leaves ks (under .ran .over - 0)) (append-nil ls ∙ same))
@@ -90,7 +91,7 @@ module _ (w : Given) (P : List ℕ) (pcap base : ℕ) (small : w .cap ≤ mostNo
       let xs : List ℕ = nearIn w ks radius [] in
       let ended : trail w (under .ran .rest) (state (under .done) []) ≡ [] =
       trail-end w (under .ran .rest) (under .ran .over) (omega (arith, under .ran .enough)) (under .done) (under .up) in
-      trail-some w x radius (kind-state N (w .cap) x kind.Inner (h .0)) some
+      trail-some w x radius (inner-kind N (w .cap) x (h .0)) some
       ∙ ap (λ ys. x ∷ ys) (under .ran .nodes ∙ ap (λ ys. xs ++ ys) ended ∙ append-nil xs)
       ∙ ap (λ ys. x ∷ nearK (w .b) radius ks ys) (sym (drop-cons (w .bytes) 0 0 (u .0)))
 
@@ -114,10 +115,10 @@ module _ (w : Given) (P : List ℕ) (pcap base : ℕ) (small : w .cap ≤ mostNo
   pub right-trail : (t : Phys) (radius : ℕ) → Holds (cells (w .cap) base t) N P → Sound (w .cap) pcap t → Fit (w .b) len t 0
       → stepsBelow t ≤ w .cap → steps t ≤ stepsFor (w .cap) → trailFrom w (root t) radius ≡ near (w .b) radius t (w .bytes)
   unfolding near
-  right-trail (leafP x ps) radius h s u few c = trail-leaf w x radius (first ps) (kind-state N (w .cap) x (kind.Leaf (first ps)) (h .0))
+  right-trail (leafP x ps) radius h s u few c = trail-leaf w x radius (first ps) (held-kind N (w .cap) x ps (h .0) (s .1) (small .1))
   right-trail (innerP x ks) radius h s u few c = elim (ℕ-discrete radius 0) [
     | yes z ↦
-        trail-exact w x radius (kind-state N (w .cap) x kind.Inner (h .0)) z
+        trail-exact w x radius (inner-kind N (w .cap) x (h .0)) z
         ∙ exact-near w P pcap base small query (innerP x ks) 0 h s u few
         ∙ ap (λ r. near (w .b) r (innerP x ks) (w .bytes)) (sym z)
     | no z ↦ trail-inner x ks radius h s u few c (omega arith)

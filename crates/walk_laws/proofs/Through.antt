@@ -14,7 +14,8 @@ use lib.Seq.{drop-cons}
 use borrow.Author.Tests.{leb-true, leb-false}
 use Rattle.meaning.specs.Sketch.{perByte, byteDistance}
 use Rattle.meaning.specs.Trie.{met, nodes, nodesIn}
-use Rattle.layout.specs.Nodes.{stepsFor, mostNodes, nodeSteps}
+use Rattle.layout.specs.Nodes.{stepsFor, nodeSteps}
+use Rattle.children.proofs.Leaves.{held-kind}
 use Rattle.children.specs.Heap.{Holds}
 use Rattle.children.specs.Cursors.{nextOf}
 use Rattle.children.specs.declared.cursor.Cursor.{Cursor}
@@ -34,7 +35,7 @@ use Rattle.walk_laws.specs.Trail.{exactAfter}
 use Rattle.walk_laws.proofs.Found.{found-end, found-far, found-near, to-leaf, to-exact, to-inner}
 use Rattle.walk_laws.proofs.Ran.{Ran, ran-then, ran-within, ran-same, placed, ran-over, step-past, step-leaf, step-down, step-up}
 use Rattle.walk_laws.proofs.Descent.{ended-none}
-use Rattle.walk_laws.proofs.Fit.{Fit, FitK, byte-small}
+use Rattle.walk_laws.proofs.Fit.{Small, Fit, FitK, byte-small}
 use Rattle.walk_laws.proofs.Leads.{stepsBelow, stepsAmong}
 use Rattle.walk_laws.proofs.Exact.{exact-leaf, exact-near, exact-drew}
 use Rattle.walk_laws.proofs.Lists.{lists, listsIn, lists-none, lists-some}
@@ -108,7 +109,7 @@ module _ (w : Given) where
   abbrev Passed : (f n : ℕ) → Frame → List Frame → Phys → ℕ → List ℕ → List ℕ → Type 0
   Passed f n frame stack t l ks xs = Ran w f n (state frame stack) (state (atLink frame l) stack) (steps t) (suc (stepsBelow t)) ks xs
 
-module _ (w : Given) (P : List ℕ) (pcap base : ℕ) (small : w .cap ≤ mostNodes) (query : (k : ℕ) → getD (w .bytes) k 0 < 2 ^ (w .b * perByte (w .b))) where
+module _ (w : Given) (P : List ℕ) (pcap base : ℕ) (small : Small (w .cap) pcap) (query : (k : ℕ) → getD (w .bytes) k 0 < 2 ^ (w .b * perByte (w .b))) where
   abbrev N : List ℕ
   N = w .nodes
 
@@ -210,7 +211,7 @@ module _ (w : Given) (P : List ℕ) (pcap base : ℕ) (small : w .cap ≤ mostNo
       → Under w f n (entered N (w .cap) x r) ks stack (chainsLeft (entered N (w .cap) x r .cursor) + stepsK ks)
       → Under w f n (entered N (w .cap) x r) ks stack (7 + stepsK ks)
   all-through ks x r stack f n u =
-      record { done = u .done; up = u .up; ran = ran-within (omega (arith, all-chains (w .cap) pcap base small N P x)) (omega arith) (u .ran) }
+      record { done = u .done; up = u .up; ran = ran-within (omega (arith, all-chains (w .cap) pcap base (small .0) N P x)) (omega arith) (u .ran) }
 
   mutual
     unfolding lists listsIn near nearK
@@ -222,7 +223,7 @@ module _ (w : Given) (P : List ℕ) (pcap base : ℕ) (small : w .cap ≤ mostNo
         → found w (length stack) frame ≡ reached w (root t) (length stack + 1) r l → steps t ≤ f → stepsBelow t < n
         → Passed w f n frame stack t l (linksT w t r stack) (nearT w t r stack)
     tree-through (leafP x ps) stack h s u few f n frame r l i e c k =
-        step-leaf w f n c frame stack x (ended (first ps)) l (first ps) 0 [] i (e ∙ to-leaf w x (length stack + 1) r l (first ps) (h .0))
+        step-leaf w f n c frame stack x (ended (first ps)) l (first ps) 0 [] i (e ∙ to-leaf w x (length stack + 1) r l (first ps) (held-kind N (w .cap) x ps (h .0) (s .1) (small .1)))
         (known-leaf w (first ps)) (known-after w (first ps)) (omega (arith, known-drew w (first ps))) (omega arith)
     tree-through (innerP x ks) stack h s u few f n frame r l i e c k = elim (ℕ-discrete r 0) [
       | yes z ↦ exact-through x ks stack h s u f n frame r l i e c k few z
@@ -231,22 +232,22 @@ module _ (w : Given) (P : List ℕ) (pcap base : ℕ) (small : w .cap ≤ mostNo
           (λ f′ n′ c′ k′.
           all-through ks x r (atLink frame l ∷ stack) f′ n′
           (kids-through ks (atLink frame l ∷ stack) (u .1) few f′ n′ (entered N (w .cap) x r)
-          (all-ahead (w .cap) pcap base small N P x ks (h .1) (s .1)) (omega (arith, all-chains (w .cap) pcap base small N P x)) k′))
+          (all-ahead (w .cap) pcap base (small .0) N P x ks (h .1) (s .1)) (omega (arith, all-chains (w .cap) pcap base (small .0) N P x)) k′))
     ]
 
     -- the children that are to come
     kids-through : (ks : Kids) (stack : List Frame) → FitK (w .b) len ks (length stack) → stepsAmong ks ≤ w .cap
-        → (f n : ℕ) (frame : Frame) → AheadC (w .cap) pcap base small N P (frame .cursor) ks → chainsLeft (frame .cursor) + stepsK ks ≤ f → stepsAmong ks ≤ n
+        → (f n : ℕ) (frame : Frame) → AheadC (w .cap) pcap base (small .0) N P (frame .cursor) ks → chainsLeft (frame .cursor) + stepsK ks ≤ f → stepsAmong ks ≤ n
         → Under w f n frame ks stack (chainsLeft (frame .cursor) + stepsK ks)
     kids-through noKid stack u few f n frame a c k =
-        let o = reach-end (w .cap) pcap base small N P (frame .cursor) a in
+        let o = reach-end (w .cap) pcap base (small .0) N P (frame .cursor) a in
         record {
           done = placed frame (o .here);
           up = found-end w (length stack) (placed frame (o .here)) (o .next);
           ran = ran-within (omega (arith, o .few)) (omega arith) (ran-over w (o .steps) f n frame stack (o .here) (omega (arith, o .few)) (o .over));
         }
     kids-through (kid b t ks) stack u few f n frame a c k =
-        let o = reach-kid (w .cap) pcap base small N P (frame .cursor) b t ks a in
+        let o = reach-kid (w .cap) pcap base (small .0) N P (frame .cursor) b t ks a in
         let there : Frame = placed frame (o .here) in
         let to = ran-over w (o .steps) f n frame stack (o .here) (omega (arith, o .few)) (o .over) in
         let one = child-through b t stack (to .rest) (to .over) there (o .link) (o .next) (omega (arith, u .0, byte-small (w .b)))
@@ -266,4 +267,4 @@ module _ (w : Given) (P : List ℕ) (pcap base : ℕ) (small : w .cap ≤ mostNo
   root-through x ks radius n h s u few c k =
       all-through ks x radius [] (stepsFor (w .cap)) n
       (kids-through ks [] (u .1) few (stepsFor (w .cap)) n (entered N (w .cap) x radius)
-      (all-ahead (w .cap) pcap base small N P x ks (h .1) (s .1)) (omega (arith, all-chains (w .cap) pcap base small N P x)) k)
+      (all-ahead (w .cap) pcap base (small .0) N P x ks (h .1) (s .1)) (omega (arith, all-chains (w .cap) pcap base (small .0) N P x)) k)

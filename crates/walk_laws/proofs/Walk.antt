@@ -8,21 +8,20 @@ use lib.ListN.{length, getD}
 use Rattle.meaning.specs.Lists.{count}
 use Rattle.meaning.specs.Sketch.{perByte}
 use Rattle.meaning.specs.Trie.{nodes}
-use Rattle.layout.specs.Nodes.{mostNodes}
 use Rattle.children.specs.Heap.{Holds}
 use Rattle.children.specs.Phys.{Phys, root, tree, cells, Sound}
 use Rattle.trie_laws.specs.Sound.{soundTrie}
 use Rattle.walk_steps.specs.Given.{Given}
 use Rattle.walk_laws.specs.Near.{near, nearNodes, pathsIn, pathNear}
 use Rattle.walk_laws.specs.Trail.{trailFrom}
-use Rattle.walk_laws.proofs.Fit.{fit}
+use Rattle.walk_laws.proofs.Fit.{Small, fit}
 use Rattle.walk_laws.proofs.Leads.{steps-below}
 use Rattle.walk_laws.proofs.Near.{near-count, near-le, near-path, near-zero}
 use Rattle.walk_laws.proofs.Through.{steps-nodes}
 use Rattle.walk_laws.proofs.Right.{WalkRight, right, right-trail}
 
 -- ---- on tables that hold a sound trie
-module _ (w : Given) (base pcap : ℕ) (P : List ℕ) (bytesOf : ℕ → List ℕ) (n : ℕ) (t : Phys) (radius : ℕ) (small : w .cap ≤ mostNodes)
+module _ (w : Given) (base pcap : ℕ) (P : List ℕ) (bytesOf : ℕ → List ℕ) (n : ℕ) (t : Phys) (radius : ℕ) (small : Small (w .cap) pcap)
     (query : (k : ℕ) → getD (w .bytes) k 0 < 2 ^ (w .b * perByte (w .b)))
     (h : Holds (cells (w .cap) base t) (w .nodes) P) (s : Sound (w .cap) pcap t)
     (sound : soundTrie bytesOf (w .b) n (length (w .bytes)) 0 (tree t) ≡ true) (few : nodes (tree t) ≤ w .cap) where
