@@ -87,7 +87,7 @@ class Index:
 
 
 def main():
-    index = Index(sys.argv[1] if len(sys.argv) > 1 else "libvetchdawn.so.2")
+    index = Index(sys.argv[1] if len(sys.argv) > 1 else "libvetchdawn.so.3")
     charter = [1, 2, 3, 4, 5, 6, 7, 8]
     # page p differs from the charter in the first p / 3 places; every fourth one is sealed
     for page in range(12):

@@ -40,7 +40,7 @@
  * tables are laid out otherwise, and is that of the shared library. CHANGELOG.md
  * has what changed. */
 
-#define VETCHDAWN_VERSION_MAJOR 2
+#define VETCHDAWN_VERSION_MAJOR 3
 #define VETCHDAWN_VERSION_MINOR 0
 #define VETCHDAWN_VERSION_PATCH 0
 #define VETCHDAWN_VERSION                                                    \
@@ -55,8 +55,8 @@
 
 /* The first word of a settings table that was opened. Tables with another mark
  * are laid out otherwise, and every call on them but an opening gives 6, or 5 where
- * the settings table is too short for this layout. All versions 2 have this one. */
-#define VETCHDAWN_LAYOUT_MARK 0x56440003u
+ * the settings table is too short for this layout. All versions 3 have this one. */
+#define VETCHDAWN_LAYOUT_MARK 0x56440004u
 
 /* ---- Limits */
 
@@ -160,8 +160,8 @@ extern "C" {
 
 /* VETCHDAWN_VERSION of the library that is linked. Its name ends in the major
  * version: a program that calls it does not link with a library of another. */
-uint32_t vetch_version_2(void);
-#define vetch_version vetch_version_2
+uint32_t vetch_version_3(void);
+#define vetch_version vetch_version_3
 
 /* ---- Sketches: m symbols, a byte each, each below 2^b */
 
@@ -275,8 +275,9 @@ uint32_t vetch_show(const uint32_t *settings, size_t settings_len,
 
 /* *sound is 1 if the store is sound and 0 if not, or with a refusal: each live page
  * has a class and symbols in range and stands once in each tree, where its row
- * belongs, no other page stands there, no node is lost, and each reader's entry is
- * what the memberships and grants say. Then searches list all that they must.
+ * belongs, no other page stands there, each leaf has the number of its pages, no
+ * node is lost, and each reader's entry is what the memberships and grants say.
+ * Then searches list all that they must.
  * Whether the tables are those that were last written is not told: with the
  * memberships, grants and entries of another moment, with a membership or a grant
  * more or less that alters no reader's open classes, with other thresholds or

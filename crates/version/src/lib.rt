@@ -3,15 +3,15 @@
 ghost use mathlib.Core.Path.{_≡_};
 ghost use Prim.Native.Nat.{_+_, _*_};
 
-const MAJOR: u32 = 2;
+const MAJOR: u32 = 3;
 
 const MINOR: u32 = 0;
 
 const PATCH: u32 = 0;
 
 #[no_mangle]
-pub extern "C" fn vetch_version_2() -> u32
-    ensures { λ r. ⌜ r ≡ 2 * 10000 + 0 * 100 + 0 ⌝ }
+pub extern "C" fn vetch_version_3() -> u32
+    ensures { λ r. ⌜ r ≡ 3 * 10000 + 0 * 100 + 0 ⌝ }
 {
     MAJOR * 10000 + MINOR * 100 + PATCH
 }
