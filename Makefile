@@ -109,7 +109,7 @@ fuzz: need-cargo library
 
 bench: need-cargo library
 	@$(CARGO) build --quiet $(TESTS) --bins
-	@for name in sketches tries adds nodes saving worst rights bits search; do target/rust/release/bench_$$name | tee docs/bench/$$name.txt; done
+	@for name in sketches tries adds lengths nodes saving worst rights bits search; do target/rust/release/bench_$$name | tee docs/bench/$$name.txt; done
 	@target/rust/release/bench_search rows | tee docs/bench/rows.txt
 	@target/rust/release/bench_search wide | tee docs/bench/wide.txt
 	@$(MAKE) --no-print-directory plot

@@ -3,6 +3,7 @@ use crate::baselines::block;
 use crate::calls;
 use crate::plain::pack;
 use crate::random::Random;
+use crate::state::{self, EMPTY_LEAF, FREE_NODE, INNER, MOST};
 use crate::tables::{Settings, Tables, ENTRIES, FREE, GRANTS, MEMBERS};
 use crate::trees::Index;
 
@@ -127,6 +128,27 @@ pub fn damage_right(random: &mut Random, settings: &mut [u32]) {
     };
 }
 
+/// A number that a leaf may be said to have.
+pub fn any_number(random: &mut Random) -> u32 {
+    match random.below(4) {
+        0 => MOST,
+        1 => random.below(65_536) as u32,
+        _ => random.below(6) as u32,
+    }
+}
+
+/// Another state for a node: any word, that of another node, or a leaf's with another number, another link or both.
+fn other_state(random: &mut Random, s: &Settings, word: u32) -> u32 {
+    let link = random.below(u64::from(s.pages) + 2) as u32;
+    match random.below(6) {
+        0 => random.next() as u32,
+        1 => [FREE_NODE, INNER, EMPTY_LEAF][random.below(3) as usize],
+        2 => state::with_number(link, word / 65_536),
+        3 => state::with_number(link, any_number(random)),
+        _ => state::with_number(word, any_number(random)),
+    }
+}
+
 /// Damages some words of the tables behind an opening: links that lead anywhere, cycles, other states, classes,
 /// signatures, symbols and rights.
 pub fn damage(random: &mut Random, t: &mut Tables, s: &Settings) {
@@ -140,7 +162,10 @@ pub fn damage(random: &mut Random, t: &mut Tables, s: &Settings) {
         match random.below(10) {
             0 => t.settings[FREE] = link,
             1 => t.nodes[random.below(n as u64) as usize] = link | (random.below(256) as u32) << 19,
-            2 => t.nodes[n + random.below(n as u64) as usize] = link,
+            2 => {
+                let word = &mut t.nodes[n + random.below(n as u64) as usize];
+                *word = other_state(random, s, *word);
+            }
             3 | 4 => t.nodes[2 * n + random.below(8 * n as u64) as usize] = link,
             5 => t.pages[random.below(2 * p as u64) as usize] = link,
             6 => t.pages[2 * p + random.below(u64::from(s.q) * p as u64) as usize] = link,
@@ -161,7 +186,7 @@ pub fn way(t: &Tables, s: &Settings, j: usize, page: u32) -> Vec<usize> {
     let mut way = vec![j];
     for byte in pack(s.b, symbols as u32, &t.sketches[row..row + symbols]).unwrap() {
         let x = way[way.len() - 1];
-        if t.nodes[n + x] != 1 {
+        if t.nodes[n + x] != INNER {
             break;
         }
         let mut child = t.nodes[2 * n + 8 * x + usize::from(byte / 32)] as usize - 1;
@@ -193,7 +218,10 @@ pub fn damage_way(random: &mut Random, t: &mut Tables, s: &Settings, page: u32) 
         let byte = t.nodes[if random.below(2) == 0 { on_it(random) } else { x }] >> 19 << 19;
         match random.below(8) {
             0 | 1 => t.nodes[x] = byte | link,
-            2 => t.nodes[n + x] = [0, 1, 2, 3 + page, link][random.below(5) as usize],
+            2 => {
+                let other = other_state(random, s, t.nodes[n + x]);
+                t.nodes[n + x] = [FREE_NODE, INNER, EMPTY_LEAF, state::leaf(1, 1 + page), other][random.below(5) as usize];
+            }
             3 | 4 => {
                 let heads = &mut t.nodes[2 * n + 8 * x..2 * n + 8 * x + 8];
                 let used = heads.iter().position(|&head| head != 0).unwrap_or(0);
@@ -212,7 +240,7 @@ pub fn damage_way(random: &mut Random, t: &mut Tables, s: &Settings, page: u32) 
     }
 }
 
-/// Every word behind the header at random, mostly small; those of the rights of any size.
+/// Every word behind the header at random, mostly small; those of the rights of any size, some leaves with a number, and some inner nodes.
 pub fn scramble(random: &mut Random, t: &mut Tables, s: &Settings) {
     t.settings[MEMBERS..FREE].iter_mut().for_each(|w| *w = random.next() as u32);
     let top = u64::from(s.nodes.max(s.pages)) + 3;
@@ -221,6 +249,14 @@ pub fn scramble(random: &mut Random, t: &mut Tables, s: &Settings) {
     t.nodes.iter_mut().for_each(|w| *w = word());
     t.pages.iter_mut().for_each(|w| *w = word());
     t.working.iter_mut().for_each(|w| *w = word());
+    let n = s.nodes as usize;
+    for word in &mut t.nodes[n..2 * n] {
+        *word = match random.below(6) {
+            0 | 1 => state::with_number(*word, any_number(random)),
+            2 => INNER,
+            _ => *word,
+        };
+    }
 }
 
 /// A store with some pages, then damaged: every fourth one in every word.

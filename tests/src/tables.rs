@@ -1,10 +1,11 @@
 //! The tables and the calls on them as document 01 and docs/LAYOUT.md have them, in plain Rust.
 //! Written from the documents and not from the proved code.
 use crate::plain::distance;
+use crate::state::{EMPTY_LEAF, FREE_NODE};
 
-pub const MARK: u32 = 0x5644_0003;
-/// The marks of layouts 1 and 2.
-pub const EARLIER_MARKS: [u32; 2] = [0x5644_0001, 0x5644_0002];
+pub const MARK: u32 = 0x5644_0004;
+/// The marks of layouts 1 to 3.
+pub const EARLIER_MARKS: [u32; 3] = [0x5644_0001, 0x5644_0002, 0x5644_0003];
 pub const SETTINGS: usize = 903;
 /// The records: memberships, and grants behind them.
 pub const MEMBERS: usize = 70;
@@ -180,7 +181,7 @@ impl Tables {
         self.nodes[..l.nodes].fill(0);
         for x in 0..n {
             self.nodes[x] = if x < q { 0 } else { link(x + 1) };
-            self.nodes[n + x] = if x < q { 2 } else { 0 };
+            self.nodes[n + x] = if x < q { EMPTY_LEAF } else { FREE_NODE };
         }
         self.pages[..l.pages].fill(0);
         0

@@ -1,6 +1,7 @@
 //! The index of document 01 as plain Rust would keep it: rows, pairs, and an explicit tree for each block.
 //! Written from the document and not from the proved code.
 use crate::plain::{self, nearest_first, Hit};
+use crate::state::{self, State, FREE_NODE};
 use crate::tables::{Settings, Tables, FREE};
 use std::collections::{BTreeMap, BTreeSet};
 
@@ -237,7 +238,7 @@ impl Index {
     }
 }
 
-/// The tree of block j as the words of the tables show it (docs/LAYOUT.md), and the numbers of its nodes.
+/// The tree of block j as the words of the tables show it (docs/LAYOUT.md), and which nodes it has. Every leaf has the number of its pages.
 pub fn read(tables: &Tables, s: &Settings, j: usize, seen: &mut Vec<usize>) -> Node {
     read_node(tables, s, j, j, seen)
 }
@@ -246,19 +247,20 @@ fn read_node(tables: &Tables, s: &Settings, j: usize, x: usize, seen: &mut Vec<u
     let (n, p) = (s.nodes as usize, s.pages as usize);
     assert!(x < n, "a node past the capacity");
     seen.push(x);
-    let state = tables.nodes[n + x];
+    let state = state::read(tables.nodes[n + x]);
     let heads = &tables.nodes[2 * n + 8 * x..2 * n + 8 * x + 8];
-    if state >= 2 {
+    if let State::Leaf { number, first } = state {
         assert!(heads.iter().all(|&h| h == 0), "a leaf with children");
         let mut pages = BTreeSet::new();
-        let mut link = state - 2;
+        let mut link = first;
         while link != 0 {
             assert!(pages.insert(link - 1), "a page twice in a leaf");
             link = tables.pages[(2 + j) * p + link as usize - 1];
         }
+        assert_eq!(number as usize, pages.len(), "a leaf whose number is not that of its pages");
         return Node::Leaf(pages);
     }
-    assert_eq!(state, 1, "a free node in a tree");
+    assert_eq!(state, State::Inner, "a free node in a tree");
     let mut children = BTreeMap::new();
     for (g, &head) in heads.iter().enumerate() {
         let mut link = head;
@@ -281,7 +283,7 @@ pub fn read_free(tables: &Tables, s: &Settings, seen: &mut Vec<usize>) {
     let mut link = tables.settings[FREE];
     while link != 0 {
         let x = link as usize - 1;
-        assert!(x < n && tables.nodes[n + x] == 0, "a free node in use");
+        assert!(x < n && tables.nodes[n + x] == FREE_NODE, "a free node in use");
         assert!(tables.nodes[2 * n + 8 * x..2 * n + 8 * x + 8].iter().all(|&h| h == 0), "a free node with children");
         seen.push(x);
         assert!(seen.len() <= n, "a node twice");

@@ -2,6 +2,7 @@
 //! recursion.
 //! One budget of nodes for the whole search, one of pages for each block.
 use crate::plain::{pack, signature};
+use crate::state::{self, State};
 use crate::tables::{Settings, Tables};
 
 struct Walk<'a> {
@@ -23,8 +24,8 @@ fn groups(b: u32, v: u8) -> u32 {
 }
 
 impl Walk<'_> {
-    fn state(&self, x: usize) -> u32 {
-        self.t.nodes[self.nodes + x]
+    fn state(&self, x: usize) -> State {
+        state::read(self.t.nodes[self.nodes + x])
     }
 
     fn head(&self, x: usize, g: usize) -> usize {
@@ -42,8 +43,9 @@ impl Walk<'_> {
         Some((x, w >> 19, (w % (1 << 19)) as usize))
     }
 
-    fn leaf(&mut self, state: u32) -> Option<()> {
-        let mut link = (state - 2) as usize;
+    /// By the links alone: the number in the leaf is not looked at.
+    fn leaf(&mut self, first: u32) -> Option<()> {
+        let mut link = first as usize;
         while link != 0 {
             self.pages_left = self.pages_left.checked_sub(1)?;
             if link > self.pages {
@@ -58,11 +60,11 @@ impl Walk<'_> {
     /// At node x on a level, with so much of the radius left. A free node and an inner one at the packed length are out of order.
     fn node(&mut self, x: usize, level: usize, radius: u32) -> Option<()> {
         match self.state(x) {
-            0 => None,
-            1 if level == self.bytes.len() => None,
-            1 if radius == 0 => self.own_byte(x, level),
-            1 => self.children(x, level, radius),
-            leaf => self.leaf(leaf),
+            State::Free => None,
+            State::Inner if level == self.bytes.len() => None,
+            State::Inner if radius == 0 => self.own_byte(x, level),
+            State::Inner => self.children(x, level, radius),
+            State::Leaf { first, .. } => self.leaf(first),
         }
     }
 

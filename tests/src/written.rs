@@ -1,6 +1,7 @@
 //! A plain index written into tables word by word (docs/LAYOUT.md), for stores that no call makes any more.
 use crate::plain::signature;
-use crate::tables::{Settings, Tables, FREE};
+use crate::state::{self, INNER};
+use crate::tables::{Settings, Tables, EARLIER_MARKS, FREE};
 use crate::trees::{Index, Node};
 
 /// Tables of just the needed lengths. The nodes of the trees have the lowest numbers.
@@ -35,10 +36,10 @@ fn write(t: &mut Tables, s: &Settings, j: usize, x: usize, node: &Node, used: &m
                 t.pages[(2 + j) * p + page as usize] = link;
                 link = page + 1;
             }
-            t.nodes[n + x] = 2 + link;
+            t.nodes[n + x] = state::leaf(pages.len() as u32, link);
         }
         Node::Inner(children) => {
-            t.nodes[n + x] = 1;
+            t.nodes[n + x] = INNER;
             for (&byte, child) in children.iter().rev() {
                 let place = *used;
                 *used += 1;
@@ -48,5 +49,26 @@ fn write(t: &mut Tables, s: &Settings, j: usize, x: usize, node: &Node, used: &m
                 write(t, s, j, place, child, used);
             }
         }
+    }
+}
+
+/// What adds of these pages in this order give where no leaf is split: one leaf a tree. Written to tables that were opened, of this layout or of
+/// layout 3, since that many adds may take long.
+pub fn write_one_leaf(t: &mut Tables, s: &Settings, order: &[u32], class: impl Fn(u32) -> u32, sketch: impl Fn(u32) -> Vec<u8>) {
+    let (n, p, m) = (s.nodes as usize, s.pages as usize, s.m as usize);
+    for &page in order {
+        let (x, class, page) = (sketch(page), class(page), page as usize);
+        t.pages[page] = 1 + class;
+        t.pages[p + page] = signature(s.b, &x);
+        t.sketches[page * m..page * m + m].copy_from_slice(&x);
+    }
+    for j in 0..s.q as usize {
+        let mut link = 0;
+        for &page in order {
+            t.pages[(2 + j) * p + page as usize] = link;
+            link = page + 1;
+        }
+        let number = order.len() as u32;
+        t.nodes[n + j] = if t.settings[0] == EARLIER_MARKS[2] { 2 + link } else { state::leaf(number, link) };
     }
 }

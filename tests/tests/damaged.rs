@@ -6,6 +6,7 @@ use vetchdawn_tests::clock::processor_time;
 use vetchdawn_tests::lists::{right_by_the_rows, Lists};
 use vetchdawn_tests::plain::{distance, nearest_first, Hit};
 use vetchdawn_tests::random::Random;
+use vetchdawn_tests::state::{EMPTY_LEAF, INNER};
 use vetchdawn_tests::stores::{damaged, filled, small_settings};
 use vetchdawn_tests::tables::{hit, Settings, Tables};
 use vetchdawn_tests::walks::met;
@@ -164,12 +165,12 @@ fn shared_chains(s: &Settings, levels: usize) -> Tables {
     let mut t = opened(s);
     let cap = s.nodes as usize;
     let k = (cap - 1) / levels;
-    put(&mut t, cap, 0, 0, 0, 1, 2);
+    put(&mut t, cap, 0, 0, 0, INNER, 2);
     for level in 0..levels {
         let first = 1 + level * k;
         for i in 0..k {
             let (x, last) = (first + i, level + 1 == levels);
-            let (state, head) = if last { (2, 0) } else { (1, first + k + 1) };
+            let (state, head) = if last { (EMPTY_LEAF, 0) } else { (INNER, first + k + 1) };
             put(&mut t, cap, x, if i + 1 < k { x + 2 } else { 0 }, 0, state, head);
         }
     }
@@ -180,7 +181,7 @@ fn shared_chains(s: &Settings, levels: usize) -> Tables {
 fn cycle(s: &Settings) -> Tables {
     let mut t = shared_chains(s, 1);
     let cap = s.nodes as usize;
-    put(&mut t, cap, cap - 1, 2, 0, 2, 0);
+    put(&mut t, cap, cap - 1, 2, 0, EMPTY_LEAF, 0);
     t
 }
 
@@ -188,12 +189,12 @@ fn cycle(s: &Settings) -> Tables {
 fn cycles_below(s: &Settings) -> Tables {
     let mut t = opened(s);
     let cap = s.nodes as usize;
-    put(&mut t, cap, 0, 0, 0, 1, 2);
+    put(&mut t, cap, 0, 0, 0, INNER, 2);
     for x in 1..cap - 1 {
-        put(&mut t, cap, x, if x + 2 < cap { x + 2 } else { 0 }, 1, 1, cap);
+        put(&mut t, cap, x, if x + 2 < cap { x + 2 } else { 0 }, 1, INNER, cap);
     }
     // the query's next byte is 1, this one's is 0: the descent goes on along the chain
-    put(&mut t, cap, cap - 1, cap, 0, 2, 0);
+    put(&mut t, cap, cap - 1, cap, 0, EMPTY_LEAF, 0);
     t
 }
 
@@ -203,7 +204,7 @@ fn two_words(t: &mut Tables, s: &Settings) -> Vec<u8> {
     let cap = s.nodes as usize;
     let head = t.nodes[2 * cap] as usize;
     let x = head - 1;
-    assert_eq!(t.nodes[cap + x], 1, "a child that is inner");
+    assert_eq!(t.nodes[cap + x], INNER, "a child that is inner");
     let byte = t.nodes[x] >> 19;
     let y = byte as u8 ^ 1; // one symbol differs
     t.nodes[x] = (head as u32) | byte << 19;

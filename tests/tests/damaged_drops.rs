@@ -7,6 +7,7 @@ use vetchdawn_tests::lists::{right_by_the_rows, Lists};
 use vetchdawn_tests::outcomes::judge;
 use vetchdawn_tests::random::Random;
 use vetchdawn_tests::sound::sound;
+use vetchdawn_tests::state::{self, EMPTY_LEAF, FREE_NODE, INNER};
 use vetchdawn_tests::stores::{damage_way, deep_settings, filled, small_settings, way};
 use vetchdawn_tests::tables::{class_of, Settings, Tables, FREE};
 use vetchdawn_tests::trees::{Index, Node, Row};
@@ -87,10 +88,10 @@ const DAMAGES: [Damage; 42] = [
     ("the last head leads outside", 1, |t| t.nodes[head(2, 0)] = 9, &[14]),
     ("a head leads far outside", 1, |t| t.nodes[head(1, 0)] = 0x7_ffff, &[14]),
     ("no child there", 1, |t| t.nodes[head(2, 0)] = 0, &[14]),
-    ("a free node on the way", 1, |t| t.nodes[NODES + 1] = 0, &[14]),
-    ("an empty leaf on the way", 1, |t| t.nodes[NODES + 2] = 2, &[14]),
-    ("the leaf is inner", 1, |t| t.nodes[NODES + 3] = 1, &[14]),
-    ("the leaf is free", 1, |t| t.nodes[NODES + 3] = 0, &[14]),
+    ("a free node on the way", 1, |t| t.nodes[NODES + 1] = FREE_NODE, &[14]),
+    ("an empty leaf on the way", 1, |t| t.nodes[NODES + 2] = EMPTY_LEAF, &[14]),
+    ("the leaf is inner", 1, |t| t.nodes[NODES + 3] = INNER, &[14]),
+    ("the leaf is free", 1, |t| t.nodes[NODES + 3] = FREE_NODE, &[14]),
     ("the link behind the page leads outside", 1, |t| t.pages[BEHIND_PAGE_0] = 5, &[14]),
     // the way down is as it was, and the links beside it are not
     ("the page follows itself", 1, |t| t.pages[BEHIND_PAGE_0] = 1, &[0, 14]),
@@ -111,7 +112,7 @@ const DAMAGES: [Damage; 42] = [
     ("a head with a byte above its link", 1, |t| t.nodes[head(2, 0)] |= BYTE_5, &[0, 14]),
     ("a head with a byte and no link", 1, |t| t.nodes[head(1, 4)] = BYTE_5, &[0, 14]),
     ("the leaf has a child", 1, |t| t.nodes[head(3, 0)] = 2, &[0, 14]),
-    ("the page in a leaf on the way", 1, |t| t.nodes[NODES + 1] = 2 + 1, &[0, 14]),
+    ("the page in a leaf on the way", 1, |t| t.nodes[NODES + 1] = state::leaf(1, 1), &[0, 14]),
     ("the free link leads to the leaf", 1, |t| t.settings[FREE] = 4, &[0, 14]),
     ("the free link leads to the parent", 1, |t| t.settings[FREE] = 3, &[0, 14]),
     ("the free link leads outside", 1, |t| t.settings[FREE] = u32::MAX, &[0, 14]),
@@ -131,7 +132,7 @@ fn numbers_of_damage() {
             let mut lent = guarded(&t, before);
             let (number, after) = call(&mut lent, &s, 0, None);
             assert!(numbers.contains(&number), "{what}: {number}");
-            let fresh = (0..q as usize).all(|j| after.nodes[NODES + j] == 2);
+            let fresh = (0..q as usize).all(|j| after.nodes[NODES + j] == EMPTY_LEAF);
             assert!(what != "nothing" || sound(&after, &s) && fresh, "{what}: not a fresh store");
             read(&mut lent, &s, &vec![5; s.m as usize]);
             // what is left is damaged, but no less lent
@@ -170,7 +171,7 @@ fn a_way_that_goes_round() {
 /// How many nodes were inner and are no more.
 fn pruned(before: &Tables, after: &Tables, s: &Settings) -> usize {
     let states = s.nodes as usize..2 * s.nodes as usize;
-    before.nodes[states.clone()].iter().zip(&after.nodes[states]).filter(|(&was, &is)| was == 1 && is != 1).count()
+    before.nodes[states.clone()].iter().zip(&after.nodes[states]).filter(|(&was, &is)| was == INNER && is != INNER).count()
 }
 
 #[test]

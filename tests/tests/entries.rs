@@ -1,5 +1,5 @@
 //! The entries of readers: lists and showing go by them, on stores that are sound and on others; the check says no where one differs from
-//! the records; tables of earlier layouts, which have none, show no opening.
+//! the records; tables of earlier layouts show no opening.
 use vetchdawn_tests::calls::{self, Given};
 use vetchdawn_tests::guard::GuardedTables;
 use vetchdawn_tests::lists::Lists;
@@ -303,8 +303,8 @@ fn refused_by_all(t: &Tables, number: u32) {
     assert!(lent.tables() == *t, "a refusal changed a table");
 }
 
-/// Tables as layout 2 had them: 391 words of settings, the free link behind the records.
-fn earlier(t: &Tables, mark: u32) -> Tables {
+/// Tables as layouts 1 and 2 had them: 391 words of settings, the free link behind the records.
+fn without_entries(t: &Tables, mark: u32) -> Tables {
     let mut settings = [&t.settings[..ENTRIES], &t.settings[FREE..=FREE]].concat();
     settings[0] = mark;
     Tables { settings, ..t.clone() }
@@ -322,16 +322,19 @@ fn earlier_layouts_show_no_opening() {
         let mut other = t.clone();
         other.settings[0] = mark;
         refused_by_all(&other, 6);
+        // an opening makes them tables of this layout
+        assert_eq!((calls::open(&mut other, &s), other.settings[0]), (0, MARK));
+        assert_eq!(calls::check(&mut other.lend()), (0, true));
+    }
+    for mark in [EARLIER_MARKS[0], EARLIER_MARKS[1]] {
         // as they were, too short now; and in a longer table, with anything behind
-        let mut other = earlier(&t, mark);
+        let mut other = without_entries(&t, mark);
         refused_by_all(&other, 5);
         for (length, word) in [(SETTINGS, 0), (SETTINGS, u32::MAX), (1_024, 0), (1_024, 7)] {
             other.settings.resize(ENTRIES + 1, 0);
             other.settings.resize(length, word);
             refused_by_all(&other, 6);
         }
-        // an opening makes them tables of this layout
-        assert_eq!((calls::open(&mut other, &s), other.settings[0]), (0, MARK));
-        assert_eq!(calls::check(&mut other.lend()), (0, true));
+        assert_eq!((calls::open(&mut other, &s), calls::check(&mut other.lend())), (0, (0, true)));
     }
 }

@@ -1,13 +1,14 @@
 //! Calls of every kind on tables of any lengths and contents, with a guard before and behind each. FUZZ_SECONDS says how long.
 //! No call faults or hangs, no closed, far or dead page is listed, each listed one has the distance of its row and its place by that,
-//! refusals change nothing; joins, leaves, grants and revokes write what plain Rust writes; a store that calls have made stays sound, and
-//! every inner node in it has children.
+//! refusals change nothing; joins, leaves, grants and revokes write what plain Rust writes; a store that calls have made stays sound, every
+//! inner node in it has children, and after every call each leaf has the number of its pages.
 use std::time::{Duration, Instant};
 use vetchdawn_tests::calls::{self, Lent};
 use vetchdawn_tests::guard::{Guarded, GuardedTables};
 use vetchdawn_tests::lists::{right_by_the_rows, Lists};
 use vetchdawn_tests::random::Random;
-use vetchdawn_tests::sound::sound;
+use vetchdawn_tests::sound::{numbers_hold, sound};
+use vetchdawn_tests::state::{FREE_NODE, INNER};
 use vetchdawn_tests::stores::{any_tables, cut_short, damage, damage_right, damage_way, deep_settings, scramble, small_settings, Sketches};
 use vetchdawn_tests::tables::{class_of, opens, stale, Settings, Tables, SETTINGS};
 
@@ -121,9 +122,10 @@ fn check(t: &mut Lent) -> u32 {
     number
 }
 
-/// What was called: a drop, a search or a check, which may write the working table, or something else.
+/// What was called: an add, a drop, a search or a check, which may write the working table, or something else.
 #[derive(Clone, Copy, PartialEq)]
 enum Kind {
+    Add,
     Drop,
     Reading,
     Other,
@@ -142,7 +144,7 @@ fn call(random: &mut Random, t: &mut Lent, s: &Settings, sketches: &Sketches, be
     }
     beside.sketch.set(&x);
     match random.below(20) {
-        0..=3 if !withdrawal => (add(random, t, page, beside.sketch.get()), Kind::Other),
+        0..=3 if !withdrawal => (add(random, t, page, beside.sketch.get()), Kind::Add),
         0..=6 => (calls::drop(t, page), Kind::Drop),
         7..=10 => (search(random, t, s, beside), Kind::Reading),
         11 => (check(t), Kind::Reading),
@@ -167,7 +169,7 @@ fn call(random: &mut Random, t: &mut Lent, s: &Settings, sketches: &Sketches, be
 
 fn childless(t: &Tables, s: &Settings) -> bool {
     let n = s.nodes as usize;
-    (0..n).any(|x| t.nodes[n + x] == 1 && t.nodes[2 * n + 8 * x..][..8].iter().all(|&head| head == 0))
+    (0..n).any(|x| t.nodes[n + x] == INNER && t.nodes[2 * n + 8 * x..][..8].iter().all(|&head| head == 0))
 }
 
 /// Of the drops that were carried out: how many gave back two nodes or more, took out an inner node, and took out two.
@@ -183,8 +185,8 @@ impl Drops {
     /// Of the states of the nodes, before and after one.
     fn count(&mut self, before: &[u32], after: &[u32]) {
         let states = || before.iter().zip(after);
-        let freed = states().filter(|(&was, &is)| was != 0 && is == 0).count();
-        let inner = states().filter(|(&was, &is)| was == 1 && is != 1).count();
+        let freed = states().filter(|(&was, &is)| was != FREE_NODE && is == FREE_NODE).count();
+        let inner = states().filter(|(&was, &is)| was == INNER && is != INNER).count();
         self.all += 1;
         self.two_nodes += u64::from(freed >= 2);
         self.inner += u64::from(inner >= 1);
@@ -200,8 +202,8 @@ fn any_call_on_any_tables() {
     let mut numbers = [0u64; 16];
     // of stores that are intact, and of others
     let mut drops = [Drops::default(), Drops::default()];
-    // tables with stale entries
-    let mut with_stale = 0;
+    // tables with stale entries; adds and drops behind which the numbers of all leaves were looked at
+    let (mut with_stale, mut numbered) = (0, 0);
     let mut beside = Beside { sketch: Guarded::new(&[0; 65]), lists: Lists::new(50), rooms: [0; 4], listed: 0, rights: [0; 4] };
     while Instant::now() < end {
         let s = if random.below(2) == 0 { small_settings(&mut random) } else { deep_settings(&mut random) };
@@ -233,6 +235,10 @@ fn any_call_on_any_tables() {
             before.pages.copy_from_slice(now.pages);
             before.sketches.copy_from_slice(now.sketches);
             before.working.copy_from_slice(now.working);
+            if intact && number == 0 && (kind == Kind::Add || kind == Kind::Drop) {
+                assert!(numbers_hold(&before, &s), "a leaf whose number is not that of its pages, {s:?}");
+                numbered += 1;
+            }
         }
         assert!(!intact || sound(&before, &s) && calls::check(&mut lent.lend()) == (0, true), "no longer sound, {s:?}");
         assert!(!intact || !childless(&before, &s), "an inner node without children, {s:?}");
@@ -240,10 +246,11 @@ fn any_call_on_any_tables() {
     println!("{} calls in {seconds} s, by number: {numbers:?}", numbers.iter().sum::<u64>());
     println!("pages listed: {}; both lists long enough, pages too short, distances, both: {:?}", beside.listed, beside.rooms);
     println!("joins, leaves, grants and revokes that changed a table: {:?}; tables with stale entries: {with_stale}", beside.rights);
+    println!("adds and drops on sound stores, the numbers of all leaves right after each: {numbered}");
     println!("drops on other tables: {:?}", drops[0]);
     println!("drops on sound stores: {:?}", drops[1]);
     assert!(drops.iter().all(|d| 10 * d.inner > d.all && 20 * d.two_inner > d.all), "{drops:?}");
     assert!([0, 5, 6, 7, 8, 9, 10, 11, 12, 13, 14, 15].iter().all(|&n| numbers[n] > 0), "{numbers:?}");
-    assert!(with_stale > 100 && beside.rights.iter().all(|&n| n > 1_000), "{with_stale} {:?}", beside.rights);
+    assert!(numbered > 1_000 && with_stale > 100 && beside.rights.iter().all(|&n| n > 1_000), "{numbered} {with_stale} {:?}", beside.rights);
     assert!(beside.listed > 1_000 && beside.rooms.iter().all(|&n| n > 100), "{} {:?}", beside.listed, beside.rooms);
 }

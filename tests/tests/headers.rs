@@ -61,7 +61,7 @@ fn first_program_of_the_readme() {
     fs::write(&source, first_program()).unwrap();
     let program = built(&folder, "c99", source.to_str().unwrap());
     assert_eq!(done(&mut watched(&program)), PRINTED);
-    assert!(done(Command::new("nm").arg(&program)).contains(" vetch_version_2\n"), "the major version is asked for");
+    assert!(done(Command::new("nm").arg(&program)).contains(" vetch_version_3\n"), "the major version is asked for");
 }
 
 /// The same program in C++, which links by the names of C.

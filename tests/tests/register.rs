@@ -317,7 +317,7 @@ fn on_any_rights() {
 fn where_the_flags_stand() {
     let mut both = Both::fresh();
     let fresh = both.words().to_vec();
-    assert_eq!((fresh.len(), fresh[0], fresh[902]), (903, 0x5644_0003, 3));
+    assert_eq!((fresh.len(), fresh[0], fresh[902]), (903, 0x5644_0004, 3));
     assert!(fresh[70..902].iter().all(|&word| word == 0));
     let calls = [(JOIN, 3, 5), (JOIN, 255, 31), (GRANT, 5, 0), (GRANT, 5, 40), (GRANT, 31, 63)];
     calls.into_iter().for_each(|(call, x, y)| both.each(call, &[(x, y)]));

@@ -4,6 +4,7 @@ use vetchdawn_tests::guard::GuardedTables;
 use vetchdawn_tests::outcomes::judge;
 use vetchdawn_tests::plain::signature;
 use vetchdawn_tests::random::Random;
+use vetchdawn_tests::state::{self, EMPTY_LEAF, FREE_NODE, INNER};
 use vetchdawn_tests::stores::{cut_short, damaged, deep_settings, filled, opened, small_settings, Sketches};
 use vetchdawn_tests::tables::{Settings, Tables, FREE};
 use vetchdawn_tests::trees::{whole, Index, Node};
@@ -177,8 +178,8 @@ const DAMAGES: [Damage; 23] = [
     ("a head leads outside", 2, |t| t.nodes[16] = 9, Some(5), 14),
     ("a chain word leads outside", 2, |t| t.nodes[2] = BYTE_5 + 9, Some(6), 14),
     ("siblings without end", 2, |t| t.nodes[2] = BYTE_5 + 3, Some(6), 14),
-    ("a free node on the path", 2, |t| t.nodes[10] = 0, Some(5), 14),
-    ("an inner node at the packed length", 2, |t| t.nodes[10] = 1, Some(5), 14),
+    ("a free node on the path", 2, |t| t.nodes[10] = FREE_NODE, Some(5), 14),
+    ("an inner node at the packed length", 2, |t| t.nodes[10] = INNER, Some(5), 14),
     ("a link at the packed length, not followed", 2, |t| t.pages[8] = 99, Some(5), 0),
     ("a page link leads outside", 1, |t| t.pages[8] = 99, Some(5), 14),
     ("pages without end", 1, |t| t.pages[8] = 1, Some(5), 14),
@@ -188,11 +189,11 @@ const DAMAGES: [Damage; 23] = [
     ("a leaf with a child that is free", 1, |t| (t.nodes[16], t.nodes[3]) = (4, BYTE_5), Some(5), 14),
     ("nothing", 2, |_| (), None, 0),
     ("a head leads outside", 2, |t| t.nodes[16] = 9, None, 14),
-    ("a free node on the path", 2, |t| t.nodes[10] = 0, None, 14),
-    ("an inner node at the packed length", 2, |t| t.nodes[10] = 1, None, 14),
+    ("a free node on the path", 2, |t| t.nodes[10] = FREE_NODE, None, 14),
+    ("an inner node at the packed length", 2, |t| t.nodes[10] = INNER, None, 14),
     ("the link behind the first page leads outside", 2, |t| t.pages[8] = 99, None, 14),
-    ("pages without end", 2, |t| (t.nodes[10], t.pages[10]) = (2 + 3, 3), None, 14),
-    ("the page is not in its leaf", 2, |t| t.nodes[10] = 2, None, 14),
+    ("pages without end", 2, |t| (t.nodes[10], t.pages[10]) = (state::leaf(1, 3), 3), None, 14),
+    ("the page is not in its leaf", 2, |t| t.nodes[10] = EMPTY_LEAF, None, 14),
     ("the page's row leads to another leaf", 2, |t| t.sketches[0] = 6, None, 14),
     ("the page's row leads to no leaf", 2, |t| t.sketches[0] = 7, None, 14),
     ("the free link leads outside, not followed", 2, |t| t.settings[FREE] = 99, None, 0),

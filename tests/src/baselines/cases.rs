@@ -123,7 +123,7 @@ impl Case {
 
 /// The library's tables, and the classes that they open to the reader.
 pub struct Library {
-    tables: Tables,
+    pub tables: Tables,
     open: u64,
 }
 
@@ -141,12 +141,21 @@ impl Library {
         for (p, &class) in pages.classes.iter().enumerate() {
             assert_eq!(calls::add(&mut tables.lend(), p as u32, class.into(), pages.sketch(p)), 0);
         }
+        Self::with_tables(tables, c.open, groups)
+    }
+
+    /// Tables without rights are given these.
+    pub fn with_tables(mut tables: Tables, open: u64, groups: u32) -> Self {
         let group = |i: u32| (GROUP + i % groups) % 32;
         assert!((0..groups).all(|i| calls::join(&mut tables, READER, group(i)) == 0));
-        for class in (0..64).filter(|k| c.open >> k & 1 == 1) {
+        for class in (0..64).filter(|k| open >> k & 1 == 1) {
             assert_eq!(calls::grant(&mut tables, group(class), class), 0);
         }
-        Library { tables, open: c.open }
+        Library { tables, open }
+    }
+
+    pub fn is_sound(&mut self) -> bool {
+        calls::check(&mut self.tables.lend()) == (0, true)
     }
 }
 

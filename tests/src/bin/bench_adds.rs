@@ -1,5 +1,5 @@
 //! Adds and drops by threshold: 65,535 pages of random sketches, added and then dropped, in any two orders. The median of some rounds; of one
-//! round where an add takes long.
+//! round where a drop takes long.
 use std::time::Instant;
 use vetchdawn_tests::calls;
 use vetchdawn_tests::random::Random;

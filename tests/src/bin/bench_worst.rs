@@ -6,10 +6,10 @@
 use std::hint::black_box;
 use std::time::Instant;
 use vetchdawn_tests::calls;
-use vetchdawn_tests::plain::signature;
 use vetchdawn_tests::random::Random;
 use vetchdawn_tests::tables::{Settings, Tables};
 use vetchdawn_tests::timing::{median, Watch};
+use vetchdawn_tests::written::write_one_leaf;
 
 const PAGES: usize = 65_535;
 const NODES: u32 = 262_144;
@@ -67,23 +67,11 @@ fn filled(s: &Settings) -> Tables {
     t
 }
 
-/// What adds of these pages in this order give where no leaf is split: one leaf a tree. Written to the tables, since that many adds take long.
+/// One leaf a tree, as adds of these pages in this order give it where no leaf is split.
 fn one_leaf(s: &Settings, order: &[usize]) -> Tables {
     let (mut t, sketches) = (opened(s), sketches(s));
-    let m = s.m as usize;
-    for &p in order {
-        t.pages[p] = 1;
-        t.pages[PAGES + p] = signature(s.b, &sketches[p]);
-        t.sketches[p * m..(p + 1) * m].copy_from_slice(&sketches[p]);
-    }
-    for j in 0..s.q as usize {
-        let mut link = 0;
-        for &p in order {
-            t.pages[(2 + j) * PAGES + p] = link;
-            link = p as u32 + 1;
-        }
-        t.nodes[NODES as usize + j] = 2 + link;
-    }
+    let order: Vec<u32> = order.iter().map(|&p| p as u32).collect();
+    write_one_leaf(&mut t, s, &order, |_| 0, |p| sketches[p as usize].clone());
     assert!(is_sound(&mut t));
     t
 }
