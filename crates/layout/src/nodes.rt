@@ -27,7 +27,7 @@ const INNER: u32 = 65536;
 
 const EMPTY: u32 = 131072;
 
-// That of another leaf is the link to its first page and, times this, the number of its pages. Both are at most one less.
+// That of another leaf is the link to its first page and, times this, the number of its pages. Both are below it.
 const COUNTS: u32 = 65536;
 
 const MOST: u32 = 65535;
@@ -164,6 +164,7 @@ pub fn set_empty(nodes: &mut [u32], cap: usize, x: usize)
     nodes[state_at(cap, x)] = EMPTY;
 }
 
+// A number with one page more; on damaged tables the greatest stays.
 fn one_more(count: u32) -> u32
     ensures { λ r. ⌜ r ≡ oneMore count ⌝ }
     ensures inside { λ r. ⌜ r ≤ mostPages ⌝ }
@@ -174,6 +175,7 @@ fn one_more(count: u32) -> u32
     MOST
 }
 
+// With one page less; on damaged tables 0 stays.
 fn one_less(count: u32) -> u32
     requires { ⌜ count ≤ mostPages ⌝ }
     ensures { λ r. ⌜ r ≡ oneLess count ⌝ }

@@ -68,7 +68,7 @@ sum-hit (suc m) base p l = go (sum-hit m base p) (ℕ-discrete p m)
         omega (arith, hit-same {a = base + m} {b = base + p} (omega arith), sum-none m (λ a. hit (base + p) (base + a)) (λ a k. hit-other {a = base + a} {b = base + p} (λ q. omega arith)))
     go more (no e) = omega (arith, hit-other {a = base + m} {b = base + p} (λ q. e (omega arith)), more (omega arith))
 
--- no more than pcap pages below pcap are claimed at most once each
+-- pages below pcap that are claimed at most once each are no more than pcap
 sum-pages : (base m : ℕ) (ps : List ℕ) → Below m ps → sumTo m (λ a. pageClaims (pageCells base ps) (base + a)) ≡ length ps
 sum-pages base m [] b = sum-none m (λ a. 0) (λ a l. refl)
 sum-pages base m (p ∷ ps) b =

@@ -1,9 +1,9 @@
 -- What the code computes, as definitions on the tables: N is the node table, of cap nodes.
-use Prim.Native.Nat.{ℕ, zero, suc, _+_, _-_}
+use Prim.Native.Nat.{ℕ, zero, suc, _-_}
 use mathlib.Core.List.{List}
 use mathlib.Core.Bool.{cond}
 use lib.Dec.{ltb, eqb}
-use lib.ListN.{getD, set}
+use lib.ListN.{set}
 use Rattle.layout.specs.Nodes.{stateAt, emptyState}
 use Rattle.layout.specs.States.{nextFree, withFree}
 use Rattle.children.specs.Places.{findPlace}

@@ -1,4 +1,4 @@
-// How many nodes are free.
+// Whether enough nodes are free.
 ghost use mathlib.Core.Path.{_≡_};
 ghost use Rattle.layout.specs.Tables.{NodeTable};
 ghost use Rattle.trie.specs.Model.{spanFrom};

@@ -17,7 +17,7 @@ use Rattle.children.proofs.Leaves.{held-kind, held-count}
 use Rattle.children.proofs.Frame.{Less, less, node-write, nodes-kept, pages-kept}
 use Rattle.trie_remove.specs.declared.Taken.the-variants.{Out}
 use Rattle.trie_remove.specs.declared.Removed.the-variants.{Done}
-use Rattle.trie_remove.specs.Take.{takePage, took}
+use Rattle.trie_remove.specs.Take.{takePage}
 use Rattle.trie.specs.Descend.{Passed}
 use Rattle.trie_remove.specs.Prune.{pruneUp}
 use Rattle.trie_remove.specs.Remove.{shortenLeaf, removeAt, Gone, gone, goneTo}

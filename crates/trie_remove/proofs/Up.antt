@@ -3,10 +3,10 @@ use Prim.Native.Nat.{ℕ, zero, suc, _+_, _<_, _≤_}
 use native.Mathlib.Nat.{zero-add}
 use native.Mathlib.Omega.{arith}
 use mathlib.Core.Path.{_≡_, refl, ap, _∙_, sym, subst}
-use mathlib.Core.Bool.{Bool, true, false}
+use mathlib.Core.Bool.{true, false}
 use mathlib.Core.List.{List, [], _∷_}
 use lib.ListN.{length, set, length-set}
-use Rattle.meaning.specs.Trie.{leaf, inner, none, child, shrunk, byteAt, remove, nodes, nodesIn}
+use Rattle.meaning.specs.Trie.{leaf, inner, none, shrunk, byteAt, remove, nodes, nodesIn}
 use Rattle.layout.specs.Nodes.{stateAt, innerState, emptyState, mostNodes}
 use Rattle.children.specs.Heap.{Cells, node, _⊕_}
 use Rattle.children.specs.Order.{bare}

@@ -1,5 +1,5 @@
 -- The pages of each leaf that a walk over a trie gives lie in the tables.
-use Prim.Native.Nat.{ℕ, suc, _-_, _*_, _^_, _≤_, _<_}
+use Prim.Native.Nat.{ℕ, suc, _-_, _*_, _^_, _<_}
 use native.Mathlib.Decide.{ℕ-discrete}
 use mathlib.Core.Bool.{cond}
 use mathlib.Core.List.{List, [], _∷_}

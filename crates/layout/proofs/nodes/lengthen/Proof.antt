@@ -3,11 +3,6 @@ use Rattle.layout.proofs.States.{longer-by}
 use borrow.Author.Needs.{needs}
 use Rattle.layout.proofs.nodes.lengthen.Statement.{statement}
 use Rattle.layout.proofs.nodes.lengthen.Tie as tie
-use Rattle.layout.proofs.nodes.lengthen.Reads as reads
-use Rattle.layout.proofs.nodes.lengthen.Lts as lts
-use Rattle.layout.proofs.nodes.one_more.Reads as one-more-reads
-use Rattle.layout.proofs.nodes.page_count.Reads as page-count-reads
-use Rattle.layout.proofs.nodes.state_at.Reads as state-at-reads
 
 page-count-requires : tie.Need-page-count-requires
 page-count-requires c κs = search needs

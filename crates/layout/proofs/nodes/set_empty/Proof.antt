@@ -2,9 +2,6 @@
 use borrow.Author.Needs.{needs}
 use Rattle.layout.proofs.nodes.set_empty.Statement.{statement}
 use Rattle.layout.proofs.nodes.set_empty.Tie as tie
-use Rattle.layout.proofs.nodes.set_empty.Reads as reads
-use Rattle.layout.proofs.nodes.set_empty.Lts as lts
-use Rattle.layout.proofs.nodes.state_at.Reads as state-at-reads
 
 state-at-requires : tie.Need-state-at-requires
 state-at-requires c κs = search needs

@@ -3,11 +3,6 @@ use Rattle.layout.proofs.States.{shorter-by}
 use borrow.Author.Needs.{needs}
 use Rattle.layout.proofs.nodes.shorten.Statement.{statement}
 use Rattle.layout.proofs.nodes.shorten.Tie as tie
-use Rattle.layout.proofs.nodes.shorten.Reads as reads
-use Rattle.layout.proofs.nodes.shorten.Lts as lts
-use Rattle.layout.proofs.nodes.one_less.Reads as one-less-reads
-use Rattle.layout.proofs.nodes.page_count.Reads as page-count-reads
-use Rattle.layout.proofs.nodes.state_at.Reads as state-at-reads
 
 page-count-requires : tie.Need-page-count-requires
 page-count-requires c κs = search needs
