@@ -1,4 +1,6 @@
 // The leaves that a query's own bytes lead to, one in the trie of each block. The descents of all blocks go on together.
+#![tactic(auto)]
+
 ghost use Rattle.std.specs.Prelude.{◌≡◌, true, ◌*◌, ◌<◌, ◌≤◌, length};
 ghost use Rattle.meaning.specs.Sketch.{in_range};
 ghost use Rattle.layout.specs.Nodes.{node_words};
@@ -9,7 +11,7 @@ use descent::{Cursor, Left};
 use layout::Header;
 
 // For each block the link of the first page of its leaf, and what is left of the nodes that may be read.
-#[derive(Drop)]
+#[derive(Clone, Copy)]
 pub struct Ends {
     pub firsts: [u32; 8],
     pub left: Left,

@@ -1,4 +1,6 @@
 // What belongs to one block of a page: where its trie lies, where its symbols stand in a row, and its packed bytes.
+#![tactic(auto)]
+
 ghost use Rattle.std.specs.Prelude.{◌≡◌, ◌<◌};
 ghost use Rattle.layout.specs.Header.{bare};
 ghost use Rattle.layout.specs.Limits.{HeaderLimits};
@@ -12,7 +14,7 @@ use sketch::limits::{packed_length, per_byte};
 
 // Where the symbols of one block stand in a page's row of `symbols` symbols: `length` of them from place `start`, of `bits` bits each.
 // They are packed into `bytes` bytes, `per` to a byte.
-#[derive(Drop)]
+#[derive(Clone, Copy)]
 pub struct Rows {
     pub bits: u32,
     pub symbols: usize,
@@ -23,7 +25,7 @@ pub struct Rows {
 }
 
 // The packed byte of a page at one level: `count` symbols from place `from` of its row of `symbols` symbols, of `bits` bits each.
-#[derive(Drop)]
+#[derive(Clone, Copy)]
 pub struct Level {
     pub bits: u32,
     pub symbols: usize,

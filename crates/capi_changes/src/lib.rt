@@ -1,5 +1,7 @@
 // The calls for C that may change an index: tables as a pointer and a length, the refusal's number as the result. No logic of their own:
 // each contract is the call's. include/vetchdawn.h declares them.
+#![tactic(auto)]
+
 ghost use Rattle.std.specs.Prelude.{◌≡◌, []};
 ghost use Rattle.meaning.specs.Rights.{join, leave, grant, revoke};
 ghost use Rattle.meaning.specs.Ledger.{opening, add, drop, settings_given};

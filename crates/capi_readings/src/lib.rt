@@ -1,5 +1,7 @@
 // The calls for C that change nothing of an index but its working table: tables as a pointer and a length, the refusal's number as the
 // result. No logic of their own: each contract is the call's. include/vetchdawn.h declares them.
+#![tactic(auto)]
+
 ghost use Rattle.std.specs.Prelude.{◌≡◌, ◌≤◌, [], eqb, take, drop as skip};
 ghost use Rattle.meaning.specs.Output.{output as lists};
 ghost use Rattle.meaning.specs.Ledger.{search, check, reading, settings_given};

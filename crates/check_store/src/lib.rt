@@ -1,4 +1,6 @@
 // Check: is the store sound?
+#![tactic(auto)]
+
 ghost use Rattle.std.specs.Prelude.{◌≡◌, ◌≤◌, length};
 ghost use Rattle.meaning.specs.Ledger.{check, reading};
 ghost use Rattle.layout.specs.Header.{bare};
@@ -14,7 +16,7 @@ use layout::{Header, Opening};
 use node_check::leaf::Left;
 
 // The number of the question that says no, or 0; and whether the store is sound.
-#[derive(Drop)]
+#[derive(Clone, Copy)]
 pub struct Verdict {
     pub number: u32,
     pub sound: bool,

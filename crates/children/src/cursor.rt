@@ -7,7 +7,7 @@ ghost use Rattle.children.specs.Cursors.{all_of, look_at, next_of, first_for};
 use layout::nodes::{byte_of, head_at, link_of};
 
 // The children from `link` on in the chain whose head is at `at`, and those in the chains of the next heads, up to `last`.
-#[derive(Drop)]
+#[derive(Clone, Copy)]
 pub struct Cursor {
     pub at: u32,
     pub last: u32,
@@ -15,14 +15,14 @@ pub struct Cursor {
 }
 
 // What a link leads to.
-#[derive(Drop)]
+#[derive(Clone, Copy)]
 pub enum Seen {
     // a child: its number, its byte, and the link after it
     Child(u32, u32, u32),
     Outside,
 }
 
-#[derive(Drop)]
+#[derive(Clone, Copy)]
 pub enum Next {
     // a child: its number, its byte, and the link after it
     Child(u32, u32, u32),

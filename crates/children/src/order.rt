@@ -22,7 +22,7 @@ pub fn is_bare(nodes: &[u32], cap: usize, x: usize) -> bool
 }
 
 // The children of a node from `link` on in chain `group`, whose bytes are to be `least` or more, and those in the later chains.
-#[derive(Drop)]
+#[derive(Clone, Copy)]
 pub struct Frame {
     pub node: u32,
     pub group: u32,
@@ -30,7 +30,7 @@ pub struct Frame {
     pub least: u32,
 }
 
-#[derive(Drop)]
+#[derive(Clone, Copy)]
 pub enum Step {
     // to the next chain, by its first link
     Chain(u32),

@@ -6,7 +6,7 @@ ghost use Rattle.children.specs.Places.{Inside, find_place};
 use layout::nodes::LINKS;
 
 // Where a byte belongs among a node's children: the slot that links to its child, with the child, or that is to.
-#[derive(Drop)]
+#[derive(Clone, Copy)]
 pub enum Place {
     Found(usize, usize),
     Missing(usize),

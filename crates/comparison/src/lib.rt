@@ -1,4 +1,6 @@
 // A row of symbols compared with a query against a radius.
+#![tactic(auto)]
+
 ghost use Rattle.std.specs.Prelude.{◌≡◌, ◌<◌, ◌≤◌, length};
 ghost use Rattle.meaning.specs.Sketch.{distance};
 ghost use Rattle.sketch.specs.Settings.{Bits};
@@ -9,14 +11,14 @@ use sketch::limits::{packed_length, per_byte};
 use sketch::packing::symbols_at;
 
 // Whether a distance is within a radius; if so, the distance.
-#[derive(Drop)]
+#[derive(Clone, Copy)]
 pub enum Verdict {
     Within(u32),
     Beyond,
 }
 
 // How the symbols of a sketch lie in the bytes of its packing: z in each, the rest in the last.
-#[derive(Drop)]
+#[derive(Clone, Copy)]
 pub struct Shape {
     pub z: usize,
     pub bytes: usize,

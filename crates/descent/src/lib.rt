@@ -1,5 +1,7 @@
 // Exact descents: the leaf of a trie that the bytes of a block lead to. The descents of several blocks go on in turn, a step each:
 // none waits for another, so the memory can answer for all of them at once.
+#![tactic(auto)]
+
 ghost use Rattle.std.specs.Prelude.{◌≡◌, ◌*◌, ◌<◌, ◌≤◌, length};
 ghost use Rattle.descent.specs.Cursor.{Fits, Inside, AllInside, ended, arrive, advance, going, Descended, leaf_of};
 
@@ -8,7 +10,7 @@ use layout::nodes::{Kind, kind_of};
 
 // Where a descent stands: ahead of the child at `link`, which must have the byte at `at`; the block's last byte is at `last`.
 // At link 0 it has ended: `first` is the link of the leaf's first page, or 0 where no leaf is reached.
-#[derive(Drop)]
+#[derive(Clone, Copy)]
 pub struct Cursor {
     pub link: u32,
     pub at: u32,
@@ -17,14 +19,14 @@ pub struct Cursor {
 }
 
 // What is left of a budget; or it was spent, or a link led outside.
-#[derive(Drop)]
+#[derive(Clone, Copy)]
 pub enum Left {
     Some(u32),
     Broken,
 }
 
 // Descents that have ended, and what they leave of the nodes that may be read.
-#[derive(Drop)]
+#[derive(Clone, Copy)]
 pub struct Descents {
     pub cursors: [Cursor; 16],
     pub left: Left,

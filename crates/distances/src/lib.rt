@@ -1,4 +1,6 @@
 // The distance of two packed bytes, read from a fixed table by their exclusive or.
+#![tactic(auto)]
+
 ghost use Rattle.std.specs.Prelude.{◌≡◌};
 ghost use Rattle.meaning.specs.Sketch.{byte_distance};
 ghost use Rattle.sketch.specs.Settings.{Bits};

@@ -1,4 +1,6 @@
 // Questions 5 and 6: does the settings table show an opening, and is each table behind it long enough? 8 and 9: the page.
+#![tactic(auto)]
+
 ghost use Rattle.std.specs.Prelude.{◌≡◌, ◌&&◌, [], ◌≤◌, leb, length};
 ghost use Rattle.layout.specs.Header.{bare};
 ghost use Rattle.layout.specs.Limits.{HeaderLimits};

@@ -6,7 +6,7 @@ ghost use Rattle.fresh_tables.specs.Lengths.{no_lengths, lengths_of};
 use layout::Header;
 
 // 0 with the lengths in words, of the sketch table in bytes; or 4 with zeros.
-#[derive(Drop)]
+#[derive(Clone, Copy)]
 pub struct Lengths {
     pub number: u32,
     pub settings: u32,

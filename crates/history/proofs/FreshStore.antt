@@ -1,7 +1,7 @@
 -- The tables after an accepted opening are a sound store: a fresh trie for each block, no live page, and all other nodes free.
 use Prim.Native.Nat.{ℕ, zero, suc, ◌+◌, ◌*◌, ◌-◌, ◌≤◌, ◌<◌}
 use native.Mathlib.Omega.{arith}
-use mathlib.Core.Path.{◌≡◌, refl, ap, ◌∙◌, sym, fun_ext}
+use mathlib.Core.Path.{◌≡◌, refl, ap, ◌∙◌, sym, fun_ext, subst}
 use mathlib.Core.List.{List, [], ◌∷◌, ◌++◌, map, append_assoc}
 use mathlib.Core.Bool.{Bool, true, false, ◌&&◌, true≢false}
 use lib.Dec.{ltb}
@@ -18,7 +18,7 @@ use Rattle.layout.specs.Nodes.{node_words, heads_at, state_at, free_state}
 use Rattle.layout.specs.Pages.{is_live}
 use Rattle.layout.specs.Lengths.{nodes_length}
 use Rattle.layout.proofs.Limits.{bounds}
-use Rattle.children.specs.Heap.{Holds}
+use Rattle.children.specs.Heap.{Holds, Cells, ◌⊕◌, node_claims, page_claims}
 use Rattle.children.specs.Phys.{tree, first, no_kids, free_cells, Below}
 use Rattle.children.proofs.Bare.{zeros-bare}
 use Rattle.trie_laws.proofs.Block.{fresh-forest}
@@ -145,12 +145,16 @@ module _ (s : Settings) (limits : in_limits s ≡ true) (T : Tables) (long : lon
       ∙ past-zeros (header s) register_length (free_link s.nodes q) free_at (omega (arith, header-length s limits))
       ∙ sym (first-from s limits T q (s.nodes - q) (omega (arith, fits)))
 
+  -- the cells of the tries and of the free nodes, by these settings
+  abbrev cells : Settings → Cells
+  cells g = tries_cells g.nodes g.pages 0 (roots 0 q) ⊕ free_cells g.nodes free
+
   held : Holding (opened s T) (roots 0 q) free
   held = record {
     words = record {
-      holds = rw given-opened (tries-held s limits T s.pages 0 q (omega arith) fits, free-held s limits T q (s.nodes - q) (omega arith) (omega (arith, fits)));
-      nodes = λ a. rw given-opened (all-claims s.nodes s.pages q (s.nodes - q) a (omega (arith, fits)));
-      pages = λ a. rw given-opened (omega (arith, tries-pages s.nodes s.pages 0 q a, free-pages s.nodes s.pages free a));
+      holds = subst (λ (g : Settings). Holds (cells g) (opened s T).nodes (opened s T).pages) (sym given-opened) (tries-held s limits T s.pages 0 q (omega arith) fits, free-held s limits T q (s.nodes - q) (omega arith) (omega (arith, fits)));
+      nodes = λ a. subst (λ (g : Settings). node_claims (cells g) a ≤ 1) (sym given-opened) (all-claims s.nodes s.pages q (s.nodes - q) a (omega (arith, fits)));
+      pages = λ a. subst (λ (g : Settings). page_claims (cells g) a ≤ 1) (sym given-opened) (omega (arith, tries-pages s.nodes s.pages 0 q a, free-pages s.nodes s.pages free a));
     };
     blocks = roots-length 0 q ∙ rw given-opened;
     roots = rw given-opened (rooted s.nodes s.pages 0 q (omega (arith, fits)));

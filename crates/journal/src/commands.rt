@@ -6,7 +6,7 @@ ghost use Rattle.journal.specs.Steps.{change_of, command_at, Stepped, reached_by
 use journal_form::{form, operand_bytes};
 
 // A change of the register, with its two numbers.
-#[derive(Drop)]
+#[derive(Clone, Copy)]
 pub enum Change {
     Join { reader: u32, group: u32 },
     Leave { reader: u32, group: u32 },
@@ -15,7 +15,7 @@ pub enum Change {
 }
 
 // A command with its operands. Symbols are told by the offset where they begin in the journal's bytes.
-#[derive(Drop)]
+#[derive(Clone, Copy)]
 pub enum Command {
     Open {
         b: u32,
@@ -40,7 +40,7 @@ pub enum Command {
 }
 
 // What stands at an offset: a command and the offset behind it, a command that 1 to 3 refuse, or nothing more.
-#[derive(Drop)]
+#[derive(Clone, Copy)]
 pub enum Step {
     Taken(Command, usize),
     Refused(u32),

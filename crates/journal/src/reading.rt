@@ -5,7 +5,7 @@ ghost use Rattle.journal.specs.Steps.{Stepped, reached_by};
 
 use crate::commands::{Step, next_at, reached};
 
-#[derive(Drop)]
+#[derive(Clone, Copy)]
 pub struct Reader<'a> {
     pub bytes: &'a [u8],
     pub at: usize,

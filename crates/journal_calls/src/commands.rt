@@ -19,7 +19,7 @@ pub const PAGES: u32 = 512;
 pub const NODES: u32 = 1024;
 
 // What a command came to: the number of its refusal or 0, and the count of a search.
-#[derive(Drop)]
+#[derive(Clone, Copy)]
 pub struct Outcome {
     pub number: u32,
     pub count: u32,

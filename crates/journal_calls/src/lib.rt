@@ -1,2 +1,4 @@
 // The commands of a journal, carried out on lent tables.
+#![tactic(auto)]
+
 pub mod commands;

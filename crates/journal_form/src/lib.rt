@@ -1,5 +1,5 @@
 // The form of one command: questions 1 to 3.
-pub mod exports;
+#![tactic(auto)]
 
 ghost use Rattle.std.specs.Prelude.{◌≡◌};
 ghost use Rattle.meaning.specs.Journal.{known, operand_bytes, in_place};

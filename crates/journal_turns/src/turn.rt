@@ -17,7 +17,7 @@ use journal_lines::refusal_line;
 const LIMITS: u32 = 4;
 
 // Where a turn leaves the program: the offset reached, m, whether it goes on, and the length of the line to be written.
-#[derive(Drop)]
+#[derive(Clone, Copy)]
 pub struct Turn {
     pub at: usize,
     pub m: u8,

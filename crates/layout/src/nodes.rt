@@ -75,7 +75,7 @@ pub fn head_at(cap: usize, x: usize, g: usize) -> usize
     2 * cap + 8 * x + g
 }
 
-#[derive(Drop)]
+#[derive(Clone, Copy)]
 pub enum Kind {
     Free,
     Inner,

@@ -1,4 +1,6 @@
 // How many different bytes the pages of a leaf have at one level, with a new page's: so many nodes its split needs.
+#![tactic(auto)]
+
 ghost use Rattle.std.specs.Prelude.{◌≡◌, ◌<◌};
 ghost use Rattle.layout.specs.Tables.{PageTable};
 ghost use Rattle.blocks.specs.Tables.{SketchTable};
@@ -8,7 +10,7 @@ use blocks::Level;
 use blocks::packed::page_byte;
 use layout::Block;
 
-#[derive(Drop)]
+#[derive(Clone, Copy)]
 pub enum Needed {
     Nodes(usize),
     Broken,

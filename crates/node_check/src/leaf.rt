@@ -8,7 +8,7 @@ use blocks::Rows;
 use children::order::is_bare;
 use layout::Block;
 
-#[derive(Drop)]
+#[derive(Clone, Copy)]
 pub enum Kind {
     Inner,
     // by the link to its first page
@@ -62,7 +62,7 @@ fn is_on_path(
 }
 
 // What is left of a budget, or that the test failed.
-#[derive(Drop)]
+#[derive(Clone, Copy)]
 pub enum Left {
     Some(u32),
     Failed,

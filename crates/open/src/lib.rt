@@ -1,4 +1,6 @@
 // Opening: takes settings and capacities, and leaves an empty register, fresh trees and no pages, whatever the tables held.
+#![tactic(auto)]
+
 ghost use Rattle.std.specs.Prelude.{◌≡◌, ◌&&◌, ◌≤◌, length};
 ghost use Rattle.meaning.specs.Lists.{onto};
 ghost use Rattle.meaning.specs.Ledger.{opening, settings_given};

@@ -1,4 +1,6 @@
 // Join, leave, grant and revoke: the rights register in the settings table.
+#![tactic(auto)]
+
 ghost use Rattle.std.specs.Prelude.{◌≡◌, ◌&&◌, ltb};
 ghost use Rattle.meaning.specs.Rights.{join, leave, grant, revoke};
 ghost use Rattle.promises.specs.Calls.{RightsPromise};

@@ -1,6 +1,8 @@
 // The rights register in the settings table. Memberships and grants are its records; beside them stands for each reader an entry, the
 // set of the classes that they open to him. Every change of a record writes the entries that hang on it.
 // The laws of the definitions that the contracts cite are in proofs/.
+#![tactic(auto)]
+
 ghost use Rattle.std.specs.Prelude.{◌≡◌, ◌≤◌, ◌<◌, length};
 ghost use Rattle.meaning.specs.Rights.{join, leave, grant, revoke};
 ghost use Rattle.layout.specs.Settings.{settings_length};
@@ -20,7 +22,7 @@ const GRANTS: usize = 326;
 const ENTRIES: usize = 390;
 
 // A set of classes: 0 to 31 in the low word, 32 to 63 in the high.
-#[derive(Drop)]
+#[derive(Clone, Copy)]
 pub struct Classes {
     pub low: u32,
     pub high: u32,

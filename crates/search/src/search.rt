@@ -36,7 +36,7 @@ fn find(
 {
     let words = scope.words;
     let mut counts = [0u32; 65];
-    let met = traversal::blocks::meet_blocks(
+    let met = traversal::all_blocks::meet_blocks(
         nodes,
         pages,
         sketches,

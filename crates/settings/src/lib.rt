@@ -1,4 +1,6 @@
 // The settings table: question 4, the opening that the table shows, its thresholds, the free link, and writing an opening.
+#![tactic(auto)]
+
 ghost use Rattle.std.specs.Prelude.{◌≡◌, ◌≤◌, ltb, length, get_or, set};
 ghost use Rattle.std.proofs.Math.Seq.{paste};
 ghost use Rattle.meaning.specs.Lists.{all};

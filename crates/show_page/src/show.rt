@@ -12,7 +12,7 @@ use layout::Opening;
 const READERS: u32 = 256;
 
 // The number of a refusal, or 0 with the place of the row in the sketch table. A refusal has the place of no bytes at the table's start.
-#[derive(Drop)]
+#[derive(Clone, Copy)]
 pub struct Place {
     pub number: u32,
     pub start: u32,

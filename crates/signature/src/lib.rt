@@ -1,5 +1,7 @@
 // The signature of a sketch: its packed bytes folded to four by exclusive or (layout/specs/Signature.antt). The distance of two
 // signatures is at most the distance of the sketches, so that a page can be left out of a search without its row being read.
+#![tactic(auto)]
+
 ghost use Rattle.std.specs.Prelude.{◌≡◌, ◌≤◌, length};
 ghost use Rattle.sketch.specs.Settings.{Bits};
 ghost use Rattle.distances.specs.Table.{distance_table};

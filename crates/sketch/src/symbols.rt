@@ -33,7 +33,7 @@ pub fn blank(xs: &[u8]) -> bool
 }
 
 // What a pass over two sketches gives: the bits of all symbols, joined, and the number of places where the two differ.
-#[derive(Drop)]
+#[derive(Clone, Copy)]
 pub struct Pass {
     pub bits: u8,
     pub differing: u8,

@@ -23,7 +23,7 @@ const CARRIED_OUT: u32 = 0;
 const STRIP: usize = 32;
 
 // The number of the first "no", 0 where there is none; and what was measured, written or is needed.
-#[derive(Drop)]
+#[derive(Clone, Copy)]
 pub struct Answer {
     pub number: u32,
     pub value: u32,

@@ -1,3 +1,4 @@
 // The calls on sketches alone, and their forms for C.
+#![tactic(auto)]
+
 pub mod calls;
-pub mod exports;

@@ -7,7 +7,7 @@ ghost use Rattle.traversal.specs.Bytes.{BlockBytes};
 use layout::Header;
 
 // The bytes are the first n of the array.
-#[derive(Drop)]
+#[derive(Clone, Copy)]
 pub struct Packed {
     pub bytes: [u8; 64],
     pub n: usize,

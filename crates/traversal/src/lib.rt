@@ -1,3 +1,5 @@
 // The tries of all blocks walked for a query, and the pages of the leaves met that the walks give.
-pub mod blocks;
+#![tactic(auto)]
+
+pub mod all_blocks;
 mod bytes;

@@ -21,7 +21,7 @@ fn link_leaf(nodes: &mut [u32], cap: usize, slot: usize, f: usize, byte: u32)
 }
 
 // A node that was found or made, or that a page was put into, with the first free link then; or why not.
-#[derive(Drop)]
+#[derive(Clone, Copy)]
 pub enum Got {
     Node(usize, u32),
     Full,

@@ -7,7 +7,7 @@ use children::place::{Place, find_place};
 use layout::nodes::{Kind, kind_of};
 
 // What a node has for its next byte: the slot of a child, and the child; nothing, since it is a leaf; no child, and the slot where it belongs.
-#[derive(Drop)]
+#[derive(Clone, Copy)]
 pub enum Step {
     Child(usize, usize),
     Leaf,
@@ -39,7 +39,7 @@ fn step_to(nodes: &[u32], cap: usize, bytes: &[u8], n: usize, level: usize) -> S
 
 // A node, a slot and the node's level: a leaf and the slot that links to it, 0 at the root; or an inner node without a child for the
 // next byte, and the slot where that child belongs.
-#[derive(Drop)]
+#[derive(Clone, Copy)]
 pub enum Reach {
     Leaf(usize, usize, usize),
     Gap(usize, usize, usize),

@@ -6,7 +6,7 @@ ghost use Rattle.trie.specs.Model.{span_from};
 use layout::nodes::next_free;
 
 // Whether their chain has a number of members.
-#[derive(Drop)]
+#[derive(Clone, Copy)]
 pub enum Span {
     Enough,
     Short,

@@ -81,4 +81,4 @@ module _ (bytes_of : ℕ → List ℕ) (S : List ℕ) (v : Level) (cap pcap base
       (beside (same-assoc (page (base + p) (first ps)) (page_cells base ps) G).to st) lv (omega (arith, m', split-grows bytes_of k ps (put_leaf (page_byte S v p) p (children_of ks)))) in
       let z : nodes_in (split bytes_of k ps (children_of D.kids_to)) ≤ nodes_in (children_of ks) + length fs = rw D.grown m' in
       split-cons N P free p ps l f e be.0 (omega arith) D
-      (split-right ps (get_or P (base + p) 0) (f - 1) D.state (rw D.grown (leaves-put (page_byte S v p) p (children_of ks) lv)) be.1 st.heap.holds.1.1.0.0 (omega arith) (omega (arith, D.count, z)))
+      (split-right {N = D.nodes_to} {P = D.pages_to} {free = D.free_to} {ks = D.kids_to} {fs = D.frees_to} ps (get_or P (base + p) 0) (f - 1) D.state (rw D.grown (leaves-put (page_byte S v p) p (children_of ks) lv)) be.1 st.heap.holds.1.1.0.0 (omega arith) (omega (arith, D.count, z)))

@@ -12,7 +12,7 @@ use trie::leaf::{Got, fresh_leaf};
 use trie::path::{Reach, descend_to};
 
 // A leaf that a page belongs into, with its level and the first free link; or why there is none.
-#[derive(Drop)]
+#[derive(Clone, Copy)]
 pub enum Target {
     Ready(usize, usize, u32),
     NoRoom,

@@ -1,4 +1,6 @@
 // Insertion into one block's trie.
+#![tactic(auto)]
+
 pub mod insert;
 pub mod pages;
 pub mod split;

@@ -96,11 +96,18 @@ shrunk-set b u (child c t cs) = elim (truth (ltb c b)) [
   | fails e ↦ simp e refl
 ]
 
+-- a child behind the first is sought among the others
+child_by-past : (b c : ℕ) (t : Tree) (cs : Children) → ltb c b ≡ true → child_by b (child c t cs) ≡ child_by b cs
+unfolding child_by
+child_by-past b c t cs e = simp e refl
+
 pub set_same : (b : ℕ) (cs : Children) → set_child b (child_by b cs) cs ≡ cs
 unfolding child_by set_child
 set_same b none = refl
 set_same b (child c t cs) = elim (truth (ltb c b)) [
-  | holds e ↦ simp e (ap (child c t) (set_same b cs))
+  | holds e ↦
+      let there : set_child b (child_by b cs) (child c t cs) ≡ child c t cs = simp e (ap (child c t) (set_same b cs)) in
+      ap (λ (x : Tree). set_child b x (child c t cs)) (child_by-past b c t cs e) ∙ there
   | fails e ↦ simp e refl
 ]
 
@@ -156,7 +163,9 @@ module _ (b : ℕ) (new : Tree) (f : Tree → Tree) where
   alter-there (child c t cs) h = elim (compared b c) [
     | less l s ↦ absurd (true≢false (sym h ∙ rw (s.gt, s.qe) refl))
     | same l s ↦ simp (s.lt, s.gt, s.eq) refl
-    | more l s ↦ simp (s.lt, s.gt, s.eq) (ap (child c t) (alter-there cs (rw s.gt at h)))
+    | more l s ↦
+        let there : alter (child c t cs) ≡ set_child b (f (child_by b cs)) (child c t cs) = simp (s.lt, s.gt, s.eq) (ap (child c t) (alter-there cs (rw s.gt at h))) in
+        there ∙ ap (λ (x : Tree). set_child b (f x) (child c t cs)) (sym (child_by-past b c t cs s.gt))
   ]
 
   alter-gap : (cs : Children) → has b cs ≡ false → alter cs ≡ put_child b new cs

@@ -1,4 +1,6 @@
 // A page taken out of one block's trie.
+#![tactic(auto)]
+
 ghost use Rattle.std.specs.Prelude.{◌≡◌, ◌≤◌, ◌<◌, length};
 ghost use Rattle.layout.specs.Pages.{most_pages};
 ghost use Rattle.layout.specs.Nodes.{node_words};
@@ -15,7 +17,7 @@ use trie::leaf::free_child;
 use trie::path::{Reach, trace_to};
 
 // A page was taken out of a chain, which begins at this link then; or why not.
-#[derive(Drop)]
+#[derive(Clone, Copy)]
 pub enum Taken {
     Out(u32),
     Missing,
@@ -71,7 +73,7 @@ pub fn take_page(pages: &mut [u32], pcap: usize, base: usize, first: u32, p: usi
 }
 
 // A leaf that a way down has reached: the slot that links to it, 0 at the root, and its level.
-#[derive(Drop)]
+#[derive(Clone, Copy)]
 pub struct Reached {
     pub node: usize,
     pub slot: usize,
@@ -135,7 +137,7 @@ pub fn shorten_leaf(
 }
 
 // The free link after a removal.
-#[derive(Drop)]
+#[derive(Clone, Copy)]
 pub enum Removed {
     Done(u32),
     Broken,

@@ -1,4 +1,6 @@
 // A visit: one step of the walk over a block's trie, and the test of the child that it leads to.
+#![tactic(auto)]
+
 ghost use Rattle.std.specs.Prelude.{◌≡◌, ◌<◌};
 ghost use Rattle.trie_visit.specs.Visit.{within, Fitting, seen, visit_child, visited, visit};
 
@@ -9,7 +11,7 @@ use node_check::leaf::{Kind, Left};
 use node_check::mark::Window;
 
 // What a walk goes by: the block, its rows, and the nodes that the map has bits for.
-#[derive(Drop)]
+#[derive(Clone, Copy)]
 pub struct Scope {
     pub block: Block,
     pub rows: Rows,
@@ -17,7 +19,7 @@ pub struct Scope {
 }
 
 // Where a walk stands: the level, the children still to be tested there, and what is left of the node and the page budget.
-#[derive(Drop)]
+#[derive(Clone, Copy)]
 pub struct Place {
     pub depth: usize,
     pub frame: Frame,
@@ -26,7 +28,7 @@ pub struct Place {
 }
 
 // A child: its number, its byte, and the link after it.
-#[derive(Drop)]
+#[derive(Clone, Copy)]
 struct Child {
     node: u32,
     byte: u32,
@@ -34,7 +36,7 @@ struct Child {
 }
 
 // Where a visit leads.
-#[derive(Drop)]
+#[derive(Clone, Copy)]
 pub enum Move {
     // to the next chain, by its first link
     Chain(u32),

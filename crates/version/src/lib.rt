@@ -1,5 +1,7 @@
 // The version of the library, for C: major × 10,000 + minor × 100 + patch, as include/vetchdawn.h has it. The name ends in the major
 // version, so that a program that calls it does not link with a library whose calls or layout are others.
+#![tactic(auto)]
+
 ghost use Rattle.std.specs.Prelude.{◌≡◌, ◌+◌, ◌*◌};
 
 const MAJOR: u32 = 3;

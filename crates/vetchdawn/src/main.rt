@@ -1,11 +1,13 @@
 // The program: a journal from standard input, its lines to standard output. What a turn does is in crates/journal_turns.
+#![tactic(auto)]
+
 ghost use Rattle.std.specs.Prelude.{◌+◌, ◌*◌, ◌≤◌, length};
 ghost use Rattle.promises.specs.Tables.{tables};
 ghost use Rattle.meaning.specs.Output.{output};
 ghost use Rattle.journal_turns.specs.Runs.{Ended, Completed};
 
 use journal_turns::turn::take_turn;
-use libc::{STDIN_FILENO, STDOUT_FILENO};
+use std::io::{Print, Read, Stdin, Stdout};
 
 // Two lists for all pages, and a line that has them.
 const FOUND: usize = journal_calls::commands::PAGES as usize;
@@ -23,23 +25,42 @@ const SKETCHES: usize = 64 * FOUND;
 
 const WORKING: usize = 17;
 
-// The line at the beginning of a buffer; of length 0, none.
-fn write_line(line: &[u8], count: usize)
-    requires { count ≤ length line.now }
+// Reads until the buffer is full, the input ends or a read fails; how many bytes now stand at its beginning.
+fn read_full(input: &mut Stdin, bytes: &mut [u8]) -> usize
+    ensures { result ≤ length bytes.new }
 {
-    io::write_all(STDOUT_FILENO, &line[..count]);
+    let mut done = 0;
+    for _ in 0..u64::MAX {
+        if done >= bytes.len() {
+            break;
+        }
+        match input.read(&mut bytes[done..]) {
+            Ok(0) => break,
+            Ok(n) => done += n,
+            Err(_) => break,
+        }
+    }
+    done
 }
 
-fn write_last(count: usize)
+// The line at the beginning of a buffer; of length 0, none. A write that fails is passed over.
+fn write_line(out: Stdout, line: &[u8], count: usize)
+    requires { count ≤ length line.now }
+{
+    let _ = out.write_all(&line[..count]);
+}
+
+fn write_last(out: Stdout, count: usize)
     requires { count ≤ 65536 }
 {
     let mut line = [0u8; 24];
     let n = journal_lines::last_line(count as u32, &mut line);
-    io::write_all(STDOUT_FILENO, &line[..n]);
+    let _ = out.write_all(&line[..n]);
 }
 
 // All commands, as far as they go, on lent tables; the lines are made in a lent buffer. The offset reached is given.
 fn run_on(
+    out: Stdout,
     settings: &mut [u32],
     nodes: &mut [u32],
     pages: &mut [u32],
@@ -63,7 +84,7 @@ fn run_on(
         let t = take_turn(
             settings, nodes, pages, sketches, working, found, distances, bytes, at, m, line,
         );
-        write_line(line, t.length);
+        write_line(out, line, t.length);
         at = t.at;
         m = t.m;
         going = t.going;
@@ -72,7 +93,7 @@ fn run_on(
 }
 
 // The program's tables, for its capacities and any settings, and its buffer for a line.
-fn run(bytes: &[u8]) -> usize
+fn run(out: Stdout, bytes: &[u8]) -> usize
     requires { length bytes.now ≤ 65536 }
     ensures completed { Completed bytes.now result }
     ensures upper_bound { result ≤ 65536 }
@@ -86,6 +107,7 @@ fn run(bytes: &[u8]) -> usize
     let mut distances = [0u16; FOUND];
     let mut line = [0u8; LINE];
     run_on(
+        out,
         &mut settings,
         &mut nodes,
         &mut pages,
@@ -98,9 +120,9 @@ fn run(bytes: &[u8]) -> usize
     )
 }
 
-fn main() {
-    let mut bytes = io::large_buffer();
-    let n = io::read_full(STDIN_FILENO, &mut bytes);
-    let count = run(&bytes[..n]);
-    write_last(count);
+fn main(rt: HostRuntime) {
+    let mut bytes = [0u8; 65536];
+    let n = read_full(&mut rt.stdin(), &mut bytes);
+    let count = run(rt.stdout(), &bytes[..n]);
+    write_last(rt.stdout(), count);
 }

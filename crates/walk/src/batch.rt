@@ -14,7 +14,7 @@ use walk_steps::turn::{Move, turn};
 use walk_steps::{Scope, frame};
 
 // What is left of a walk.
-#[derive(Drop)]
+#[derive(Clone, Copy)]
 pub enum Rest {
     // it goes on from a place
     More(Place),
@@ -25,7 +25,7 @@ pub enum Rest {
 }
 
 // The next n leaves, each by the link to its first page, and what is left of the walk.
-#[derive(Drop)]
+#[derive(Clone, Copy)]
 pub struct Batch {
     pub links: [u32; 16],
     pub n: usize,

@@ -7,7 +7,7 @@ ghost use Rattle.walk_steps.specs.Stack.{frame_at, pushed};
 use children::cursor::Cursor;
 
 // The children at a cursor, each to be within the radius.
-#[derive(Drop)]
+#[derive(Clone, Copy)]
 pub struct Frame {
     pub cursor: Cursor,
     pub radius: u32,

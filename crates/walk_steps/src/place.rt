@@ -8,7 +8,7 @@ use crate::frame::Frame;
 use children::cursor::Cursor;
 
 // The level, the children still to be gone through there, and what is left of the nodes that may be read and of the steps.
-#[derive(Drop)]
+#[derive(Clone, Copy)]
 pub struct Place {
     pub depth: usize,
     pub frame: Frame,

@@ -13,7 +13,7 @@ use descent::Cursor;
 use layout::nodes::Kind;
 
 // The last number is the link to go on from.
-#[derive(Drop)]
+#[derive(Clone, Copy)]
 pub enum Move {
     // to the next chain, whose head is at the first number
     Chain(u32, u32),

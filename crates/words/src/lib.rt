@@ -1,5 +1,7 @@
 // Bits and runs of words in a lent table of 32-bit words. The laws of the definitions that the
 // contracts cite are in proofs/Bits.antt, proofs/Flags.antt and proofs/Rising.antt.
+#![tactic(auto)]
+
 ghost use Rattle.std.specs.Prelude.{◌≡◌, true, false, ◌≢◌, ◌+◌, ◌/◌, ◌≤◌, ◌<◌, length};
 ghost use Rattle.words.specs.Bits.{with_bit, lowest, flag, with_flag, zeroed};
 

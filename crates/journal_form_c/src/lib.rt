@@ -1,12 +1,12 @@
 // The form of a command for C.
+#![tactic(auto)]
+
 ghost use Rattle.std.specs.Prelude.{◌≡◌};
 ghost use Rattle.meaning.specs.Journal.{form as form_number};
-
-use crate::form;
 
 #[unsafe(no_mangle)]
 pub extern "C" fn vetch_form(m: u8, first: u8, bytes: &[u8]) -> u32
     ensures { result ≡ form_number m first bytes.now }
 {
-    form(m, first, bytes)
+    journal_form::form(m, first, bytes)
 }

@@ -14,8 +14,8 @@ use Rattle.meeting.proofs.Linked.{linked-from, inside-in}
 use Rattle.traversal.proofs.Tables.{ready-kept, links-inside, links-small, fitting}
 use Rattle.traversal.proofs.Pages.{pages_from}
 use Rattle.traversal.proofs.Batches.{steps_of, coming_from, next-less, Walking, walking_start, walking-unmet, walking-next, walking-done, walking-broken, walked}
-use Rattle.traversal.proofs.blocks.meet_block.Statement.{statement}
-use Rattle.traversal.proofs.blocks.meet_block.Tie as tie
+use Rattle.traversal.proofs.all_blocks.meet_block.Statement.{statement}
+use Rattle.traversal.proofs.all_blocks.meet_block.Tie as tie
 
 abbrev invariant-loop : tie.invariant-loop
 invariant-loop table nodes pages sketches query map₀ counts₀ scope j bytes n trie base stack₀ tally₀ batch₀ map counts stack tally batch =

@@ -10,8 +10,8 @@ use Rattle.meeting.proofs.Linked.{linked-from, inside-each}
 use Rattle.traversal.proofs.Going.{going_start, going-broken}
 use Rattle.traversal.proofs.Tables.{nodes-there, links-inside}
 use Rattle.traversal.proofs.Exact.{exact-spent, exact-met, exact-unmet}
-use Rattle.traversal.proofs.blocks.meet_exact.Statement.{statement}
-use Rattle.traversal.proofs.blocks.meet_exact.Tie as tie
+use Rattle.traversal.proofs.all_blocks.meet_exact.Statement.{statement}
+use Rattle.traversal.proofs.all_blocks.meet_exact.Tie as tie
 
 leaves-requires : tie.Need-leaves-requires
 leaves-requires c κs =

@@ -5,8 +5,8 @@ use mathlib.Core.Path.{refl, sym}
 use borrow.Author.Rules.{rules}
 use Rattle.traversal.proofs.Going.{meeting-same}
 use Rattle.traversal.proofs.AllBlocks.{blocks-all}
-use Rattle.traversal.proofs.blocks.meet_blocks.Statement.{statement}
-use Rattle.traversal.proofs.blocks.meet_blocks.Tie as tie
+use Rattle.traversal.proofs.all_blocks.meet_blocks.Statement.{statement}
+use Rattle.traversal.proofs.all_blocks.meet_blocks.Tie as tie
 
 distance-table-requires : tie.Need-distance-table-requires
 distance-table-requires c κs = tt

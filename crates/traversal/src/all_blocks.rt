@@ -12,7 +12,7 @@ use meeting::{Scope, Tallies, Tally, chains_of, meet};
 use walk::batch::Rest;
 
 // Where the walk of a block begins: the block, its radius, and what is left of the nodes, with the pages marked so far.
-#[derive(Drop)]
+#[derive(Clone, Copy)]
 pub struct Start {
     pub block: usize,
     pub radius: u32,

@@ -7,8 +7,8 @@ use Rattle.traversal.specs.Meets.{meet_from}
 use Rattle.traversal.proofs.Going.{Going, going_start, going-same}
 use Rattle.traversal.proofs.Tables.{prepared-kept}
 use Rattle.traversal.proofs.AllBlocks.{blocks_start, blocks-over, blocks_more, blocks-left, blocks-stop}
-use Rattle.traversal.proofs.blocks.meet_each.Statement.{statement}
-use Rattle.traversal.proofs.blocks.meet_each.Tie as tie
+use Rattle.traversal.proofs.all_blocks.meet_each.Statement.{statement}
+use Rattle.traversal.proofs.all_blocks.meet_each.Tie as tie
 
 abbrev invariant-loop : tie.invariant-loop
 invariant-loop table nodes pages sketches query map₀ counts₀ scope radius q tally₀ j₀ map counts tally j =

@@ -1,7 +1,9 @@
 // The calls on sketches for C. A slice is a pointer and a length; the number is the result, and the value is written beside it.
+#![tactic(auto)]
+
 ghost use Rattle.sketch_calls.specs.Calls.{Measured, Packed, Unpacked};
 
-use crate::calls::{measure, pack, unpack};
+use sketch_calls::calls::{measure, pack, unpack};
 
 // The distance of two sketches; 0 with a refusal.
 #[unsafe(no_mangle)]
