@@ -34,6 +34,7 @@ pub struct Level {
 }
 
 // Where the symbols of block j stand in the rows of the sketch table.
+#[tactic(auto, unfolding(crate::specs::RowBytes::rows_of, meaning::specs::Forest::block_bytes))]
 pub fn rows_of(h: Header, j: usize) -> Rows
     requires header_limits { HeaderLimits h }
     requires j_lt_q { j < h.q }

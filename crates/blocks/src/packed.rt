@@ -13,6 +13,7 @@ use crate::{Level, Rows, block_of, rows_of};
 use layout::{Block, Header};
 
 // The packed byte of `count` symbols of the sketch table from `at` on, each taken modulo 2^b, so that any table gives a byte.
+#[tactic(auto, unfolding(crate::specs::Packed::row_byte))]
 pub fn row_byte(b: u32, sketches: &[u8], at: usize, count: usize) -> u32
     requires b_bound { b ≤ 8 }
     requires count_bound { b * count ≤ 8 }
@@ -31,6 +32,7 @@ pub fn row_byte(b: u32, sketches: &[u8], at: usize, count: usize) -> u32
 }
 
 // The byte of a page at a level.
+#[tactic(auto, unfolding(crate::specs::Packed::page_byte))]
 pub fn page_byte(sketches: &[u8], level: Level, block: Block, p: usize) -> u32
     requires sketch_table { SketchTable block.pages level sketches.now }
     requires p_lt_pages { p < block.pages }
@@ -42,6 +44,7 @@ pub fn page_byte(sketches: &[u8], level: Level, block: Block, p: usize) -> u32
 }
 
 // Level k of a block.
+#[tactic(auto, unfolding(crate::specs::Packed::level_at))]
 pub fn level_at(rows: Rows, k: usize) -> Level
     requires k_bound { k < 64 }
     requires per_bound { rows.per ≤ 8 }
@@ -78,6 +81,7 @@ pub fn level_at(rows: Rows, k: usize) -> Level
 }
 
 // Writes the packed bytes of block j of a page's row, at the beginning. Symbols are taken modulo 2^b, so that every table has such bytes.
+#[tactic(auto, unfolding(meaning::specs::Forest::block_bytes, crate::specs::RowBytes::row_bytes))]
 pub fn row_bytes(bytes: &mut [u8; 64], h: Header, sketches: &[u8], p: usize, j: usize)
     requires header_limits { HeaderLimits h }
     requires h_in_bounds { sketches_length (bare h) ≤ length sketches.now }
@@ -99,6 +103,7 @@ pub fn row_bytes(bytes: &mut [u8; 64], h: Header, sketches: &[u8], p: usize, j: 
 }
 
 // The packed bytes of block j of a sketch, at the beginning.
+#[tactic(auto, unfolding(meaning::specs::Forest::block_bytes, meaning::specs::Forest::bytes_of_sketch))]
 pub fn block_bytes(h: Header, sketch: &[u8], j: usize) -> [u8; 64]
     requires header_limits { HeaderLimits h }
     requires fits { Fits h sketch.now }

@@ -35,6 +35,7 @@ pub enum Next {
 }
 
 // All children of node x.
+#[tactic(auto, unfolding(crate::specs::Cursors::all_of))]
 pub fn all(nodes: &[u32], cap: usize, x: usize) -> Cursor
     requires node_table { NodeTable cap nodes.now }
     requires x_lt_cap { x < cap }
@@ -50,6 +51,7 @@ pub fn all(nodes: &[u32], cap: usize, x: usize) -> Cursor
 }
 
 // The child at a link.
+#[tactic(auto, unfolding(crate::specs::Cursors::look_at))]
 pub fn look(nodes: &[u32], cap: usize, link: u32) -> Seen
     requires node_table { NodeTable cap nodes.now }
     requires link_nonzero { 0 < link }
@@ -64,6 +66,7 @@ pub fn look(nodes: &[u32], cap: usize, link: u32) -> Seen
 }
 
 // The next step: along the chain, else to the next chain.
+#[tactic(auto, unfolding(crate::specs::Cursors::next_of))]
 pub fn step(nodes: &[u32], cap: usize, c: Cursor) -> Next
     requires node_table { NodeTable cap nodes.now }
     requires last_bound { c.last < node_words cap }
@@ -83,6 +86,7 @@ pub fn step(nodes: &[u32], cap: usize, c: Cursor) -> Next
 }
 
 // The link to the first child of node x in the chain of a byte.
+#[tactic(auto, unfolding(crate::specs::Cursors::first_for))]
 pub fn first_for(nodes: &[u32], cap: usize, x: usize, byte: u32) -> u32
     requires node_table { NodeTable cap nodes.now }
     requires x_lt_cap { x < cap }

@@ -6,6 +6,7 @@ ghost use Rattle.children.specs.Order.{bare, entered, past_child, next_chain, st
 use layout::nodes::{byte_of, head_at, link_of};
 
 // Has node x no children: are all its heads 0?
+#[tactic(auto, unfolding(crate::specs::Order::bare, meaning::specs::Lists::upto))]
 pub fn is_bare(nodes: &[u32], cap: usize, x: usize) -> bool
     requires node_table { NodeTable cap nodes.now }
     requires x_lt_cap { x < cap }
@@ -43,6 +44,7 @@ pub enum Step {
 }
 
 // All children of node x.
+#[tactic(auto, unfolding(crate::specs::Order::entered))]
 pub fn enter(nodes: &[u32], cap: usize, x: usize) -> Frame
     requires node_table { NodeTable cap nodes.now }
     requires x_lt_cap { x < cap }

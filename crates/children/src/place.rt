@@ -14,6 +14,7 @@ pub enum Place {
 }
 
 // A chain has at most 32 children: the budget is enough for every sound table.
+#[tactic(auto, unfolding(crate::specs::Places::find_place))]
 pub fn find_place(nodes: &[u32], cap: usize, n: usize, byte: u32) -> Place
     requires node_table { NodeTable cap nodes.now }
     requires n_lt_cap { n < cap }

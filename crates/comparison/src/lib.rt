@@ -41,6 +41,7 @@ pub fn shape_of(b: u32, n: usize) -> Shape
 
 // The bytes of the packing in turn, and the groups of each; left at the first place where the distance passes the radius.
 // `left` is what the radius still allows.
+#[tactic(auto, unfolding(crate::specs::Verdicts::verdict_of, meaning::specs::Sketch::distance))]
 pub fn compare(shape: Shape, row: &[u8], query: &[u8], radius: u32) -> Verdict
     requires shaped { Shaped shape (length row.now) }
     requires row_len { length row.now ≡ length query.now }

@@ -101,6 +101,7 @@ fn advance(nodes: &[u32], cap: usize, bytes: &[u8], c: Cursor) -> Cursor
 }
 
 // How many of the first n descents have not ended?
+#[tactic(auto, unfolding(crate::specs::Cursor::going))]
 fn going(cursors: [Cursor; 16], n: usize) -> u32
     requires { n ≤ 16 }
     ensures { result ≡ going cursors n }
@@ -155,6 +156,7 @@ pub fn descend(
 }
 
 // The link of the first page of the leaf that a descent led to, 0 where there is none, and one past every page where it did not end.
+#[tactic(auto, unfolding(crate::specs::Cursor::leaf_of))]
 pub fn leaf_of(c: Cursor) -> u32
     ensures { result ≡ leaf_of c }
 {

@@ -75,6 +75,7 @@ const BYTE_DISTANCES: [u8; 2048] = [
 ];
 
 // The table as a value. It is made anew by each call: a search makes it once and lends it to each step.
+#[tactic(auto, unfolding(crate::specs::Table::distance_table, meaning::specs::Sketch::byte_distance, meaning::specs::Lists::upto, meaning::specs::Lists::from, meaning::specs::Sketch::group, meaning::specs::Sketch::per_byte))]
 pub fn distance_table() -> [u8; 2048]
     ensures { result ≡ distance_table }
 {
@@ -82,6 +83,7 @@ pub fn distance_table() -> [u8; 2048]
 }
 
 // How many symbols of b bits differ in two packed bytes whose exclusive or is v.
+#[tactic(auto, unfolding(crate::specs::Table::distance_table, meaning::specs::Sketch::byte_distance))]
 pub fn byte_distance(table: &[u8; 2048], b: u32, v: u8) -> u32
     requires table_value { table.now ≡ distance_table }
     requires bits { Bits b }

@@ -11,6 +11,7 @@ ghost use Rattle.entry.specs.Entry.{store_entry, entry, page_asked};
 
 use layout::{Header, Opening};
 
+#[tactic(auto, unfolding(layout::specs::Lengths::nodes_length))]
 pub fn long_nodes(h: Header, nodes: &[u32]) -> bool
     requires { HeaderLimits h }
     ensures { result ≡ leb (nodes_length (bare h)) (length nodes.now) }
@@ -18,6 +19,7 @@ pub fn long_nodes(h: Header, nodes: &[u32]) -> bool
     layout::lengths::nodes_length(h) <= nodes.len()
 }
 
+#[tactic(auto, unfolding(layout::specs::Lengths::pages_length, layout::specs::Lengths::sketches_length))]
 pub fn long_pages(h: Header, pages: &[u32], sketches: &[u8]) -> bool
     requires { HeaderLimits h }
     ensures { result ≡ leb (pages_length (bare h)) (length pages.now) && leb (sketches_length (bare h)) (length sketches.now) }
@@ -26,6 +28,7 @@ pub fn long_pages(h: Header, pages: &[u32], sketches: &[u8]) -> bool
         & (layout::lengths::sketches_length(h) <= sketches.len())
 }
 
+#[tactic(auto, unfolding(layout::specs::Lengths::working_length))]
 pub fn long_working(h: Header, working: &[u32]) -> bool
     requires { HeaderLimits h }
     ensures { result ≡ leb (working_length (bare h)) (length working.now) }
@@ -34,6 +37,7 @@ pub fn long_working(h: Header, working: &[u32]) -> bool
 }
 
 // The store: the nodes, the pages and their sketches.
+#[tactic(auto, unfolding(layout::specs::Lengths::nodes_length, layout::specs::Lengths::pages_length, layout::specs::Lengths::sketches_length))]
 fn long_store(h: Header, nodes: &[u32], pages: &[u32], sketches: &[u8]) -> bool
     requires { HeaderLimits h }
     ensures { result ≡ leb (nodes_length (bare h)) (length nodes.now) && (leb (pages_length (bare h)) (length pages.now) && leb (sketches_length (bare h)) (length sketches.now)) }
@@ -42,6 +46,7 @@ fn long_store(h: Header, nodes: &[u32], pages: &[u32], sketches: &[u8]) -> bool
 }
 
 // 5 and 6 of a call that takes the store: the opening, or the number of the first that says no.
+#[tactic(auto, unfolding(crate::specs::Entry::store_entry))]
 pub fn admit(settings: &[u32], nodes: &[u32], pages: &[u32], sketches: &[u8]) -> Opening
     ensures { result ≡ store_entry (tables settings.now nodes.now pages.now sketches.now []) }
 {
@@ -56,6 +61,7 @@ pub fn admit(settings: &[u32], nodes: &[u32], pages: &[u32], sketches: &[u8]) ->
 }
 
 // 8 and 9: is the page below the capacity, and live where it is to be? The number of the first that says no, or 0.
+#[tactic(auto, unfolding(meaning::specs::Refusal::first_no, crate::specs::Entry::page_asked))]
 pub fn ask_page(h: Header, pages: &[u32], page: u32, live: bool) -> u32
     requires { h.pages ≤ length pages.now }
     ensures { result ≡ first_no (page_asked h.pages pages.now page live) }
@@ -70,6 +76,7 @@ pub fn ask_page(h: Header, pages: &[u32], page: u32, live: bool) -> u32
 }
 
 // 5 and 6 of a call that takes all the tables: the opening, or the number of the first that says no.
+#[tactic(auto, unfolding(crate::specs::Entry::entry))]
 pub fn enter(
     settings: &[u32],
     nodes: &[u32],

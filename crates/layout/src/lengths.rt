@@ -7,6 +7,7 @@ ghost use Rattle.layout.specs.Working.{map_words, summary_words};
 
 use crate::Header;
 
+#[tactic(auto, unfolding(crate::specs::Lengths::nodes_length))]
 pub fn nodes_length(h: Header) -> usize
     requires { HeaderLimits h }
     ensures { result ≡ nodes_length (bare h) }
@@ -14,6 +15,7 @@ pub fn nodes_length(h: Header) -> usize
     crate::nodes::WORDS * h.nodes
 }
 
+#[tactic(auto, unfolding(crate::specs::Lengths::pages_length))]
 pub fn pages_length(h: Header) -> usize
     requires { HeaderLimits h }
     ensures { result ≡ pages_length (bare h) }
@@ -21,6 +23,7 @@ pub fn pages_length(h: Header) -> usize
     (2 + h.q) * h.pages
 }
 
+#[tactic(auto, unfolding(crate::specs::Lengths::sketches_length))]
 pub fn sketches_length(h: Header) -> usize
     requires { HeaderLimits h }
     ensures { result ≡ sketches_length (bare h) }
@@ -29,6 +32,7 @@ pub fn sketches_length(h: Header) -> usize
 }
 
 // The words of the first map of the working table.
+#[tactic(auto, unfolding(crate::specs::Working::map_words))]
 pub fn map_words(h: Header) -> usize
     requires { HeaderLimits h }
     ensures { result ≡ map_words (bare h) }
@@ -41,6 +45,7 @@ pub fn map_words(h: Header) -> usize
 }
 
 // The words of the second.
+#[tactic(auto, unfolding(crate::specs::Working::summary_words))]
 pub fn summary_words(h: Header) -> usize
     requires { HeaderLimits h }
     ensures { result ≡ summary_words (bare h) }
@@ -48,6 +53,7 @@ pub fn summary_words(h: Header) -> usize
     (map_words(h) + 31) / 32
 }
 
+#[tactic(auto, unfolding(crate::specs::Lengths::working_length))]
 pub fn working_length(h: Header) -> usize
     requires { HeaderLimits h }
     ensures { result ≡ working_length (bare h) }

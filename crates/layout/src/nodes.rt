@@ -84,6 +84,7 @@ pub enum Kind {
 }
 
 // What node x is.
+#[tactic(auto, unfolding(crate::specs::States::kind_of))]
 pub fn kind_of(nodes: &[u32], cap: usize, x: usize) -> Kind
     requires node_table { NodeTable cap nodes.now }
     requires x_lt_cap { x < cap }
@@ -100,6 +101,7 @@ pub fn kind_of(nodes: &[u32], cap: usize, x: usize) -> Kind
 }
 
 // The link to the first page of leaf x; 0 of another node.
+#[tactic(auto, unfolding(crate::specs::States::kind_of))]
 pub fn first_page(nodes: &[u32], cap: usize, x: usize) -> u32
     requires node_table { NodeTable cap nodes.now }
     requires x_lt_cap { x < cap }
@@ -114,6 +116,7 @@ pub fn first_page(nodes: &[u32], cap: usize, x: usize) -> u32
 }
 
 // The number of pages that stands in leaf x.
+#[tactic(auto, unfolding(crate::specs::States::count_of))]
 pub fn page_count(nodes: &[u32], cap: usize, x: usize) -> u32
     requires node_table { NodeTable cap nodes.now }
     requires x_lt_cap { x < cap }
@@ -187,6 +190,7 @@ fn one_less(count: u32) -> u32
 }
 
 // Leaf x has one page more, and its first page is at a link.
+#[tactic(auto, unfolding(crate::specs::States::longer))]
 pub fn lengthen(nodes: &mut [u32], cap: usize, x: usize, first: u32)
     requires node_table { NodeTable cap nodes.old }
     requires x_lt_cap { x < cap }
@@ -198,6 +202,7 @@ pub fn lengthen(nodes: &mut [u32], cap: usize, x: usize, first: u32)
 }
 
 // Leaf x has one page less, but some, and its first page is at a link.
+#[tactic(auto, unfolding(crate::specs::States::shorter))]
 pub fn shorten(nodes: &mut [u32], cap: usize, x: usize, first: u32)
     requires node_table { NodeTable cap nodes.old }
     requires x_lt_cap { x < cap }

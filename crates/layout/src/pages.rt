@@ -10,6 +10,7 @@ pub fn page_word(pages: &[u32], p: usize) -> u32
     pages[p]
 }
 
+#[tactic(auto, unfolding(crate::specs::Pages::is_live))]
 pub fn is_live(pages: &[u32], p: usize) -> bool
     requires { p < length pages.now }
     ensures { result ≡ is_live pages.now p }
@@ -18,6 +19,7 @@ pub fn is_live(pages: &[u32], p: usize) -> bool
 }
 
 // The class of page p; 0 of a page that is not live.
+#[tactic(auto, unfolding(crate::specs::Pages::class_of))]
 pub fn class_of(pages: &[u32], p: usize) -> u32
     requires { p < length pages.now }
     ensures { result ≡ class_of pages.now p }
@@ -27,6 +29,7 @@ pub fn class_of(pages: &[u32], p: usize) -> u32
 }
 
 // The signature that is stored for page p, in a table of cap pages.
+#[tactic(auto, unfolding(crate::specs::Pages::signature_at))]
 pub fn signature_word(pages: &[u32], cap: usize, p: usize) -> u32
     requires { cap + p < length pages.now }
     ensures { result ≡ signature_at pages.now cap p }
@@ -43,6 +46,7 @@ pub fn next_at(cap: usize, j: usize) -> usize
 }
 
 // The row of page p: a part of the sketch table itself.
+#[tactic(auto, unfolding(crate::specs::Pages::row_of))]
 pub fn row(sketches: &[u8], m: usize, p: usize) -> &[u8]
     requires { p * m + m ≤ length sketches.now }
     ensures result_value { result.now ≡ row_of m sketches.now p }
@@ -55,6 +59,7 @@ pub fn row(sketches: &[u8], m: usize, p: usize) -> &[u8]
 }
 
 // Page p is live, in this class, and its row has this signature.
+#[tactic(auto, unfolding(crate::specs::Pages::with_page))]
 pub fn write_page(pages: &mut [u32], cap: usize, p: usize, class: u32, signature: u32)
     requires p_lt_cap { (p < cap) × (cap + p < length pages.old) }
     requires class_bound { class < 64 }
@@ -66,6 +71,7 @@ pub fn write_page(pages: &mut [u32], cap: usize, p: usize, class: u32, signature
 }
 
 // Page p is not live.
+#[tactic(auto, unfolding(crate::specs::Pages::without_page))]
 pub fn strike_page(pages: &mut [u32], p: usize)
     requires { p < length pages.old }
     ensures { pages.new ≡ without_page pages.old p }
@@ -74,6 +80,7 @@ pub fn strike_page(pages: &mut [u32], p: usize)
 }
 
 // Writes x to the row of page p.
+#[tactic(auto, unfolding(crate::specs::Pages::with_row))]
 pub fn write_row(sketches: &mut [u8], m: usize, p: usize, x: &[u8])
     requires m_in_bounds { p * m + m ≤ length sketches.old }
     requires x_len { length x.now ≡ m }

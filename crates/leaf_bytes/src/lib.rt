@@ -18,6 +18,7 @@ pub enum Needed {
 
 // How many different bytes a new page's byte and those of the pages of a chain are at one level: so many children a leaf with
 // these pages gets. A chain that is longer than the capacity is broken.
+#[tactic(auto, unfolding(crate::specs::Bytes::distinct_bytes))]
 pub fn distinct_bytes(
     pages: &[u32],
     sketches: &[u8],

@@ -8,6 +8,7 @@ ghost use Rattle.node_check.specs.Frame.{step_in};
 use children::order::{Frame, Step, next_child};
 
 // In a node at level k of a block of n symbols: the byte of a child is to be such as packing can give there.
+#[tactic(auto, unfolding(crate::specs::Frame::step_in))]
 pub fn next_step(nodes: &[u32], cap: usize, b: u32, n: usize, k: usize, frame: Frame) -> Step
     requires node_table { NodeTable cap nodes.now }
     requires bits { Bits b }

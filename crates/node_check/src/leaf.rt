@@ -18,6 +18,7 @@ pub enum Kind {
 }
 
 // What node x is: a leaf has no children.
+#[tactic(auto, unfolding(crate::specs::Leaf::kind_of))]
 pub fn kind_of(nodes: &[u32], cap: usize, x: usize) -> Kind
     requires node_table { NodeTable cap nodes.now }
     requires x_lt_cap { x < cap }
@@ -37,6 +38,7 @@ pub fn kind_of(nodes: &[u32], cap: usize, x: usize) -> Kind
 }
 
 // Are the first `depth` bytes of page p those of the path?
+#[tactic(auto, unfolding(crate::specs::Leaf::on_path, meaning::specs::Lists::upto))]
 fn is_on_path(
     sketches: &[u8],
     block: Block,

@@ -10,6 +10,7 @@ pub struct Window {
 }
 
 // Marks node x where it lies in the window. Was it not marked before?
+#[tactic(auto, unfolding(crate::specs::Mark::mark_once))]
 pub fn mark_once(map: &mut [u32], window: Window, x: usize) -> bool
     requires { window.size ≤ 32 * length map.old }
     ensures { noted map.new result ≡ mark_once window map.old x }

@@ -6,6 +6,7 @@ ghost use Rattle.rights.specs.Entries.{is_current, all_current};
 use crate::records;
 
 // Is the reader's entry current?
+#[tactic(auto, unfolding(crate::specs::Entries::is_current))]
 fn is_current(ws: &[u32], reader: usize) -> bool
     requires { (settings_length ≤ length ws.now) × (reader < 256) }
     ensures { result ≡ is_current ws.now reader }
@@ -16,6 +17,7 @@ fn is_current(ws: &[u32], reader: usize) -> bool
 }
 
 // Is no entry stale?
+#[tactic(auto, unfolding(crate::specs::Entries::all_current))]
 pub fn all_current(ws: &[u32]) -> bool
     requires { settings_length ≤ length ws.now }
     ensures { result ≡ all_current ws.now }

@@ -7,6 +7,7 @@ ghost use Rattle.rights.specs.Holders.{member_renewed};
 use crate::records;
 
 // Writes the reader's entry as the records have it.
+#[tactic(auto, unfolding(crate::specs::Entries::renewed, layout::specs::Entries::with_entry))]
 pub fn renew(ws: &mut [u32], reader: usize)
     requires { (settings_length ≤ length ws.old) × (reader < 256) }
     ensures { ws.new ≡ renewed ws.old reader }
@@ -18,6 +19,7 @@ pub fn renew(ws: &mut [u32], reader: usize)
 }
 
 // Writes the class in the reader's entry if he is a member of the group: it is open to him where one of his groups is a holder.
+#[tactic(auto, unfolding(crate::specs::Holders::member_renewed, crate::specs::Register::is_member))]
 fn renew_member(ws: &mut [u32], reader: usize, group: usize, class: usize, holders: u32)
     requires { (settings_length ≤ length ws.old) × (reader < 256) × (group < 32) × (class < 64) }
     ensures { ws.new ≡ member_renewed ws.old reader group class holders }
@@ -32,6 +34,7 @@ fn renew_member(ws: &mut [u32], reader: usize, group: usize, class: usize, holde
 }
 
 // Writes the class as the records have it in the entries of the group's members.
+#[tactic(auto, unfolding(crate::specs::Entries::class_renewed))]
 pub fn renew_class(ws: &mut [u32], group: usize, class: usize)
     requires { (settings_length ≤ length ws.old) × (group < 32) × (class < 64) }
     ensures { ws.new ≡ class_renewed ws.old group class 256 }

@@ -29,6 +29,7 @@ pub struct Classes {
 }
 
 // Makes the reader a member of the group.
+#[tactic(auto, unfolding(crate::specs::Entries::registered))]
 pub fn join(ws: &mut [u32], reader: usize, group: usize)
     requires { (settings_length ≤ length ws.old) × (reader < 256) × (group < 32) }
     ensures { ws.new ≡ registered (join reader group) ws.old }
@@ -38,6 +39,7 @@ pub fn join(ws: &mut [u32], reader: usize, group: usize)
 }
 
 // The reader is no member of the group any more.
+#[tactic(auto, unfolding(crate::specs::Entries::registered))]
 pub fn leave(ws: &mut [u32], reader: usize, group: usize)
     requires { (settings_length ≤ length ws.old) × (reader < 256) × (group < 32) }
     ensures { ws.new ≡ registered (leave reader group) ws.old }
@@ -47,6 +49,7 @@ pub fn leave(ws: &mut [u32], reader: usize, group: usize)
 }
 
 // Grants the class to the group.
+#[tactic(auto, unfolding(crate::specs::Entries::registered))]
 pub fn grant(ws: &mut [u32], group: usize, class: usize)
     requires { (settings_length ≤ length ws.old) × (group < 32) × (class < 64) }
     ensures { ws.new ≡ registered (grant group class) ws.old }
@@ -56,6 +59,7 @@ pub fn grant(ws: &mut [u32], group: usize, class: usize)
 }
 
 // Takes the class from the group.
+#[tactic(auto, unfolding(crate::specs::Entries::registered))]
 pub fn revoke(ws: &mut [u32], group: usize, class: usize)
     requires { (settings_length ≤ length ws.old) × (group < 32) × (class < 64) }
     ensures { ws.new ≡ registered (revoke group class) ws.old }
@@ -65,6 +69,7 @@ pub fn revoke(ws: &mut [u32], group: usize, class: usize)
 }
 
 // The classes open to the reader: his entry.
+#[tactic(auto, unfolding(crate::specs::Open::entry_of, layout::specs::Entries::low_of, layout::specs::Entries::high_of))]
 pub fn entry(ws: &[u32], reader: usize) -> Classes
     requires { (settings_length ≤ length ws.now) × (reader < 256) }
     ensures { result ≡ entry_of ws.now reader }
@@ -77,6 +82,7 @@ pub fn entry(ws: &[u32], reader: usize) -> Classes
 }
 
 // Is the class in the set? A class above 63 is in none.
+#[tactic(auto, unfolding(crate::specs::Open::is_open, words::specs::Bits::bit))]
 pub fn is_open(k: Classes, class: u32) -> bool
     ensures { result ≡ is_open k class }
 {
@@ -88,6 +94,7 @@ pub fn is_open(k: Classes, class: u32) -> bool
 }
 
 // Is the class open to the reader?
+#[tactic(auto, unfolding(crate::specs::Register::opens))]
 pub fn is_open_to(ws: &[u32], reader: usize, class: u32) -> bool
     requires { (settings_length ≤ length ws.now) × (reader < 256) }
     ensures { result ≡ opens ws.now reader class }

@@ -7,6 +7,7 @@ ghost use Rattle.rights.specs.Holders.{holders};
 use crate::Classes;
 
 // The classes granted to the groups that have the reader as a member.
+#[tactic(auto, unfolding(crate::specs::Open::open_classes, crate::specs::Open::with_group))]
 pub fn open_classes(ws: &[u32], reader: usize) -> Classes
     requires { (settings_length ≤ length ws.now) × (reader < 256) }
     ensures { result ≡ open_classes ws.now reader }
@@ -27,6 +28,7 @@ pub fn open_classes(ws: &[u32], reader: usize) -> Classes
 }
 
 // The groups that are granted the class, a bit for each.
+#[tactic(auto, unfolding(crate::specs::Holders::holders, crate::specs::Register::is_granted))]
 pub fn holders(ws: &[u32], class: usize) -> u32
     requires { (settings_length ≤ length ws.now) × (class < 64) }
     ensures { result ≡ holders ws.now class 32 }

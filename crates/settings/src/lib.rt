@@ -26,6 +26,7 @@ pub const REGISTER: usize = 832;
 const FREE: usize = 902;
 
 // Question 4 of an opening that is lent so many thresholds, each of 16 bits.
+#[tactic(auto, unfolding(layout::specs::Limits::limits_of, meaning::specs::SketchCalls::sketch_limits))]
 pub fn limits(b: u32, m: u32, q: u32, pages: u32, nodes: u32, thresholds: usize) -> bool
     ensures { result ≡ limits_of b m q pages nodes thresholds }
 {
@@ -37,6 +38,7 @@ pub fn limits(b: u32, m: u32, q: u32, pages: u32, nodes: u32, thresholds: usize)
 }
 
 // Is each threshold in the table below 65,536? No branch: one pass joins their bits.
+#[tactic(auto, unfolding(layout::specs::Settings::settings_of))]
 fn thresholds_fit(settings: &[u32]) -> bool
     requires { settings_length ≤ length settings.now }
     ensures { result ≡ all (λ t. ltb t 65536) (settings_of settings.now).thresholds }
@@ -51,6 +53,7 @@ fn thresholds_fit(settings: &[u32]) -> bool
 }
 
 // Does the table show an opening?
+#[tactic(auto, unfolding(layout::specs::Settings::settings_of, layout::specs::Settings::shows_opening))]
 fn shows_opening(settings: &[u32]) -> bool
     requires { settings_length ≤ length settings.now }
     ensures { result ≡ shows_opening settings.now }
@@ -68,6 +71,7 @@ fn shows_opening(settings: &[u32]) -> bool
 }
 
 // The header of an opening: words 1 to 5.
+#[tactic(auto, unfolding(layout::specs::Settings::settings_of))]
 fn header(settings: &[u32]) -> Header
     requires { settings_length ≤ length settings.now }
     ensures { result ≡ header_of (settings_of settings.now) }
@@ -82,6 +86,7 @@ fn header(settings: &[u32]) -> Header
 }
 
 // The opening that the table shows; else 5 where it is too short, and 6 where it shows none.
+#[tactic(auto, unfolding(layout::specs::Header::opening_of))]
 pub fn opening(settings: &[u32]) -> Opening
     ensures { result ≡ opening_of settings.now }
 {
@@ -95,6 +100,7 @@ pub fn opening(settings: &[u32]) -> Opening
 }
 
 // The thresholds of all levels: a part of the table itself.
+#[tactic(auto, unfolding(layout::specs::Settings::settings_of))]
 pub fn thresholds(settings: &[u32]) -> &[u32]
     requires { settings_length ≤ length settings.now }
     ensures { result.now ≡ (settings_of settings.now).thresholds }
@@ -132,6 +138,7 @@ fn write_thresholds(settings: &mut [u32], thresholds: &[u16])
 }
 
 // Writes an opening: the first 70 words.
+#[tactic(auto, unfolding(layout::specs::Settings::with_header))]
 pub fn write_header(settings: &mut [u32], h: Header, thresholds: &[u16])
     requires settings_length_in_bounds { settings_length ≤ length settings.old }
     requires header_limits { HeaderLimits h }

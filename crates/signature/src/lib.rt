@@ -16,6 +16,7 @@ use sketch::packing::symbols_at;
 
 // The signature of a row of symbols, each taken modulo 2^b, so that any row has one; symbols in range stay as they are.
 // From the last packed byte to the first: the word is rotated by a byte, and the byte goes into its lowest.
+#[tactic(auto, unfolding(layout::specs::Signature::signature, blocks::specs::RowBytes::reduced))]
 pub fn signature_of(b: u32, row: &[u8]) -> u32
     requires bits { Bits b }
     requires row_len_bound { length row.now ≤ 64 }
@@ -34,6 +35,7 @@ pub fn signature_of(b: u32, row: &[u8]) -> u32
 }
 
 // The distance of two signatures: four entries of the table of byte distances.
+#[tactic(auto, unfolding(crate::specs::Distance::signature_distance, meaning::specs::Lists::sum, meaning::specs::Lists::from, meaning::specs::Lists::upto, meaning::specs::Sketch::group))]
 pub fn signature_distance(table: &[u8; 2048], b: u32, s: u32, t: u32) -> u32
     requires table_value { table.now ≡ distance_table }
     requires bits { Bits b }

@@ -7,6 +7,7 @@ ghost use Rattle.sketch.specs.Settings.{Bits};
 use crate::packing::pack_into;
 
 // How many symbols block j of q has.
+#[tactic(auto, unfolding(meaning::specs::Sketch::block_length))]
 pub fn block_length(m: usize, q: usize, j: usize) -> usize
     requires m_bound { m ≤ 64 }
     requires j_lt_q { j < q }
@@ -19,6 +20,7 @@ pub fn block_length(m: usize, q: usize, j: usize) -> usize
 }
 
 // Where block j of q begins.
+#[tactic(auto, unfolding(meaning::specs::Sketch::block_start))]
 pub fn block_start(m: usize, q: usize, j: usize) -> usize
     requires m_bound { m ≤ 64 }
     requires j_lt_q { j < q }
@@ -33,6 +35,7 @@ pub fn block_start(m: usize, q: usize, j: usize) -> usize
 }
 
 // Block j of a sketch, packed on its own into the beginning of out.
+#[tactic(auto, unfolding(meaning::specs::Sketch::block, meaning::specs::Sketch::pack))]
 pub fn pack_block(b: u32, m: usize, q: usize, j: usize, sketch: &[u8], out: &mut [u8])
     requires bits { Bits b }
     requires m_bound { m ≤ 64 }

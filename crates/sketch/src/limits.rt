@@ -5,6 +5,7 @@ ghost use Rattle.meaning.specs.SketchCalls.{sketch_limits};
 ghost use Rattle.sketch.specs.Settings.{Bits};
 
 // b is 1 to 8 and m is 1 to 64.
+#[tactic(auto, unfolding(meaning::specs::SketchCalls::sketch_limits))]
 pub fn within_limits(b: u32, m: u32) -> bool
     ensures { result ≡ sketch_limits b m }
 {
@@ -21,6 +22,7 @@ pub fn within_limits(b: u32, m: u32) -> bool
 }
 
 // z: how many symbols a byte takes.
+#[tactic(auto, unfolding(meaning::specs::Sketch::per_byte))]
 pub fn per_byte(b: u32) -> usize
     requires { Bits b }
     ensures { result ≡ per_byte b }
@@ -29,6 +31,7 @@ pub fn per_byte(b: u32) -> usize
 }
 
 // How many bytes n symbols need.
+#[tactic(auto, unfolding(meaning::specs::Sketch::packed_length))]
 pub fn packed_length(b: u32, n: usize) -> usize
     requires bits { Bits b }
     requires n_bound { n ≤ 64 }

@@ -7,6 +7,7 @@ ghost use Rattle.sketch.specs.Settings.{Bits};
 use crate::limits::{packed_length, per_byte};
 
 // How many symbols byte k of a packing of n symbols holds.
+#[tactic(auto, unfolding(meaning::specs::Sketch::symbols_at))]
 pub fn symbols_at(b: u32, n: usize, k: usize) -> usize
     requires bits { Bits b }
     requires n_bound { n ≤ 64 }
@@ -19,6 +20,7 @@ pub fn symbols_at(b: u32, n: usize, k: usize) -> usize
 }
 
 // One byte: its symbols from the last, the highest, to the first.
+#[tactic(auto, unfolding(meaning::specs::Sketch::pack_byte))]
 pub fn pack_byte(b: u32, xs: &[u8]) -> u8
     requires bits { Bits b }
     requires xs_len_bound { length xs.now ≤ per_byte b }
@@ -35,6 +37,7 @@ pub fn pack_byte(b: u32, xs: &[u8]) -> u8
 }
 
 // The first n symbols of xs, packed into the beginning of out.
+#[tactic(auto, unfolding(meaning::specs::Sketch::pack))]
 pub fn pack_into(b: u32, n: usize, xs: &[u8], out: &mut [u8])
     requires bits { Bits b }
     requires n_bound { n ≤ 64 }
@@ -55,6 +58,7 @@ pub fn pack_into(b: u32, n: usize, xs: &[u8], out: &mut [u8])
 }
 
 // The b-bit group i of a byte.
+#[tactic(auto, unfolding(meaning::specs::Sketch::group))]
 pub fn group_of(b: u32, v: u8, i: usize) -> u8
     requires bits { Bits b }
     requires i_bound { i < per_byte b }
@@ -65,6 +69,7 @@ pub fn group_of(b: u32, v: u8, i: usize) -> u8
 }
 
 // n symbols out of bytes, written to the beginning of out.
+#[tactic(auto, unfolding(meaning::specs::Sketch::unpack))]
 pub fn unpack_into(b: u32, n: usize, bytes: &[u8], out: &mut [u8])
     requires bits { Bits b }
     requires n_bound { n ≤ 64 }
@@ -88,6 +93,7 @@ pub fn unpack_into(b: u32, n: usize, bytes: &[u8], out: &mut [u8])
 }
 
 // Whether v is a byte that packing n symbols can give at place k: its filler and the bits above b × z are 0.
+#[tactic(auto, unfolding(meaning::specs::Sketch::symbols_at, meaning::specs::Sketch::packable))]
 pub fn packable(b: u32, n: usize, k: usize, v: u8) -> bool
     requires bits { Bits b }
     requires n_bound { n ≤ 64 }
@@ -99,6 +105,7 @@ pub fn packable(b: u32, n: usize, k: usize, v: u8) -> bool
 }
 
 // Whether each byte is one that packing n symbols can give at its place.
+#[tactic(auto, unfolding(meaning::specs::Sketch::all_packable, meaning::specs::Lists::upto))]
 pub fn all_packable(b: u32, n: usize, bytes: &[u8]) -> bool
     requires bits { Bits b }
     requires n_bound { n ≤ 64 }

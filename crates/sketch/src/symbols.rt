@@ -5,6 +5,7 @@ ghost use Rattle.sketch.specs.Pass.{GoneOver};
 ghost use Rattle.sketch.specs.Settings.{Bits};
 
 // Whether every symbol is below 2^b. Of the symbols together, bit by bit, that is one test.
+#[tactic(auto, unfolding(meaning::specs::Sketch::in_range))]
 pub fn in_range(b: u32, xs: &[u8]) -> bool
     requires { Bits b }
     ensures { result ≡ in_range b xs.now }
@@ -19,6 +20,7 @@ pub fn in_range(b: u32, xs: &[u8]) -> bool
 }
 
 // Whether every symbol is 0.
+#[tactic(auto, unfolding(meaning::specs::Sketch::blank))]
 pub fn blank(xs: &[u8]) -> bool
     ensures { result ≡ blank xs.now }
 {

@@ -9,6 +9,7 @@ use children::place::{Place, find_place};
 use layout::nodes::{next_free, set_empty, set_free};
 
 // Node f as an empty leaf with a byte, linked into a slot before what the slot linked to.
+#[tactic(auto, unfolding(crate::specs::Model::link_leaf))]
 fn link_leaf(nodes: &mut [u32], cap: usize, slot: usize, f: usize, byte: u32)
     requires node_table { NodeTable cap nodes.old }
     requires slot_bound { slot < node_words cap }
@@ -29,6 +30,7 @@ pub enum Got {
 }
 
 // The first free node as an empty leaf with a byte, linked into a slot.
+#[tactic(auto, unfolding(crate::specs::Model::fresh_leaf))]
 pub fn fresh_leaf(nodes: &mut [u32], cap: usize, slot: usize, byte: u32, free: u32) -> Got
     requires node_table { NodeTable cap nodes.old }
     requires slot_bound { slot < node_words cap }
@@ -49,6 +51,7 @@ pub fn fresh_leaf(nodes: &mut [u32], cap: usize, slot: usize, byte: u32, free: u
 }
 
 // The child of a byte, which is made, an empty leaf, where it is missing.
+#[tactic(auto, unfolding(crate::specs::Model::child_leaf))]
 pub fn child_leaf(nodes: &mut [u32], cap: usize, n: usize, byte: u32, free: u32) -> Got
     requires node_table { NodeTable cap nodes.old }
     requires n_lt_cap { n < cap }
@@ -65,6 +68,7 @@ pub fn child_leaf(nodes: &mut [u32], cap: usize, n: usize, byte: u32, free: u32)
 }
 
 // A child leaf without pages, out of the chain at a slot and first among the free nodes; the new free link.
+#[tactic(auto, unfolding(crate::specs::Model::free_child))]
 pub fn free_child(nodes: &mut [u32], cap: usize, slot: usize, child: usize, free: u32) -> u32
     requires node_table { NodeTable cap nodes.old }
     requires slot_bound { slot < node_words cap }

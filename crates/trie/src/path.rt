@@ -16,6 +16,7 @@ pub enum Step {
 }
 
 // One step down from node n at a level, by the byte there.
+#[tactic(auto, unfolding(crate::specs::Descend::step_to))]
 fn step_to(nodes: &[u32], cap: usize, bytes: &[u8], n: usize, level: usize) -> Step
     requires node_table { NodeTable cap nodes.now }
     requires n_lt_cap { n < cap }
@@ -47,6 +48,7 @@ pub enum Reach {
 }
 
 // Down from a root by the bytes, a level for each.
+#[tactic(auto, unfolding(crate::specs::Descend::descend_to))]
 pub fn descend_to(nodes: &[u32], cap: usize, root: usize, bytes: &[u8]) -> Reach
     requires node_table { NodeTable cap nodes.now }
     requires root_lt_cap { root < cap }
@@ -79,6 +81,7 @@ pub fn descend_to(nodes: &[u32], cap: usize, root: usize, bytes: &[u8]) -> Reach
 
 // The same way; each inner node passed is noted at its level, with the slot that links to it. (The prover is told that the arrays have
 // 64 places.)
+#[tactic(auto, unfolding(crate::specs::Descend::descend_to, crate::specs::Descend::passed_at))]
 pub fn trace_to(
     nodes: &[u32],
     cap: usize,

@@ -14,6 +14,7 @@ pub enum Span {
 }
 
 // Are at least `need` nodes free? Their chain begins at link `first`.
+#[tactic(auto, unfolding(crate::specs::Model::span_from))]
 pub fn enough_free(nodes: &[u32], cap: usize, first: u32, need: usize) -> Span
     requires { NodeTable cap nodes.now }
     ensures { result ≡ span_from nodes.now cap first need }

@@ -20,6 +20,7 @@ pub enum Target {
 }
 
 // The leaf that bytes lead to, which is made, empty, where it is missing.
+#[tactic(auto, unfolding(crate::specs::Insert::leaf_for))]
 pub fn leaf_for(nodes: &mut [u32], cap: usize, bytes: &[u8], root: usize, free: u32) -> Target
     requires node_table { NodeTable cap nodes.old }
     requires root_lt_cap { root < cap }

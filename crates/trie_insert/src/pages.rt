@@ -8,6 +8,7 @@ use layout::nodes::{Kind, kind_of, lengthen};
 use trie::leaf::{Got, child_leaf};
 
 // A page put first into a leaf; false where the node is none.
+#[tactic(auto, unfolding(crate::specs::Pages::push_page))]
 pub fn push_page(nodes: &mut [u32], pages: &mut [u32], block: Block, n: usize, p: usize) -> bool
     requires node_table { NodeTable block.nodes nodes.old }
     requires page_table { PageTable block.pages block.base pages.old }
@@ -28,6 +29,7 @@ pub fn push_page(nodes: &mut [u32], pages: &mut [u32], block: Block, n: usize, p
 }
 
 // A page put into the child leaf of a byte.
+#[tactic(auto, unfolding(crate::specs::Pages::put_leaf_m))]
 pub fn put_leaf(
     nodes: &mut [u32],
     pages: &mut [u32],

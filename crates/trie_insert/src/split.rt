@@ -13,6 +13,7 @@ use layout::nodes::{page_count, set_inner};
 use trie::leaf::Got;
 
 // The pages of a chain, each in turn put into the child leaf of its byte; the answer is node n.
+#[tactic(auto, unfolding(crate::specs::Split::split_from))]
 pub fn split_pages(
     nodes: &mut [u32],
     pages: &mut [u32],
@@ -63,6 +64,7 @@ pub fn split_pages(
 }
 
 // Whether leaf n at level k is too long, by the number that stands in it.
+#[tactic(auto, unfolding(crate::specs::Split::too_long))]
 fn too_long(nodes: &[u32], thresholds: &[u32], cap: usize, rows: Rows, k: usize, n: usize) -> bool
     requires node_table { NodeTable cap nodes.now }
     requires bytes_in_bounds { rows.bytes ≤ length thresholds.now }
@@ -76,6 +78,7 @@ fn too_long(nodes: &[u32], thresholds: &[u32], cap: usize, rows: Rows, k: usize,
 }
 
 // Leaf n at level k as an inner node without children, its pages, which are loose then, in leaves below.
+#[tactic(auto, unfolding(crate::specs::Split::split_leaf))]
 fn split_leaf(
     nodes: &mut [u32],
     pages: &mut [u32],

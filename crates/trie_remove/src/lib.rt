@@ -25,6 +25,7 @@ pub enum Taken {
 }
 
 // Page p out of a chain of which it is not the first.
+#[tactic(auto, unfolding(crate::specs::Take::take_from))]
 fn take_behind(pages: &mut [u32], pcap: usize, base: usize, first: u32, p: usize) -> Taken
     requires page_table { PageTable pcap base pages.old }
     requires p_lt_pcap { p < pcap }
@@ -55,6 +56,7 @@ fn take_behind(pages: &mut [u32], pcap: usize, base: usize, first: u32, p: usize
 }
 
 // Page p out of the chain that begins at a link. Of the first page only the answer tells.
+#[tactic(auto, unfolding(crate::specs::Take::take_page))]
 pub fn take_page(pages: &mut [u32], pcap: usize, base: usize, first: u32, p: usize) -> Taken
     requires page_table { PageTable pcap base pages.old }
     requires p_lt_pcap { p < pcap }
@@ -82,6 +84,7 @@ pub struct Reached {
 
 // Up from an empty leaf: where it is not the root it is freed, and the node above is an empty leaf in its turn where it has no child
 // left. The path has the nodes above, and their slots. The free link then.
+#[tactic(auto, unfolding(crate::specs::Prune::prune_up))]
 fn prune_up(
     nodes: &mut [u32],
     cap: usize,
@@ -113,6 +116,7 @@ fn prune_up(
 }
 
 // A leaf with one page less, the first at a link; where it has none, nodes are freed from it on up. The free link then.
+#[tactic(auto, unfolding(crate::specs::Remove::shorten_leaf))]
 pub fn shorten_leaf(
     nodes: &mut [u32],
     cap: usize,
@@ -144,6 +148,7 @@ pub enum Removed {
 }
 
 // Page p out of a leaf.
+#[tactic(auto, unfolding(crate::specs::Remove::remove_at))]
 pub fn remove_at(
     nodes: &mut [u32],
     pages: &mut [u32],
@@ -172,6 +177,7 @@ pub fn remove_at(
 }
 
 // Page p out of the leaf where its bytes lead. The arrays are for the path to it.
+#[tactic(auto, unfolding(crate::specs::Remove::remove_page))]
 pub fn remove_page(
     nodes: &mut [u32],
     pages: &mut [u32],

@@ -40,6 +40,7 @@ fn leaf_needs(
 }
 
 // A new leaf at level k, where so many levels have a byte: it splits at once where the threshold is 0.
+#[tactic(auto, unfolding(crate::specs::Needs::gap_needs))]
 fn gap_needs(thresholds: &[u32], bytes: usize, k: usize) -> usize
     requires { bytes ≤ length thresholds.now }
     ensures { result ≡ gap_needs thresholds.now bytes k }

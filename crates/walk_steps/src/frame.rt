@@ -26,6 +26,7 @@ pub fn enter(nodes: &[u32], cap: usize, x: usize, radius: u32) -> Frame
 }
 
 // Puts a frame into the stack at a level.
+#[tactic(auto, unfolding(crate::specs::Stack::pushed))]
 pub fn push(stack: &mut [u32; 256], level: usize, frame: Frame)
     requires { level < 64 }
     ensures { stack.new ≡ pushed stack.old level frame }

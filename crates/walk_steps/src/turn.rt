@@ -62,6 +62,7 @@ fn reach(
 }
 
 // Takes one step for the query's bytes.
+#[tactic(auto, unfolding(crate::specs::Place::turned))]
 pub fn turn(table: &[u8; 2048], nodes: &[u32], bytes: &[u8], scope: Scope, place: Place) -> Move
     requires table_value { table.now ≡ distance_table }
     requires fitting { Fitting (within nodes.now bytes.now scope) }

@@ -6,6 +6,7 @@ ghost use Rattle.std.specs.Prelude.{◌≡◌, true, false, ◌≢◌, ◌+◌, 
 ghost use Rattle.words.specs.Bits.{with_bit, lowest, flag, with_flag, zeroed};
 
 // Is flag n of the words from `base` on set?
+#[tactic(auto, unfolding(crate::specs::Bits::flag, crate::specs::Bits::bit))]
 pub fn has(ws: &[u32], base: usize, n: usize) -> bool
     requires { base + n / 32 < length ws.now }
     ensures { result ≡ flag ws.now base n }
@@ -16,6 +17,7 @@ pub fn has(ws: &[u32], base: usize, n: usize) -> bool
 }
 
 // Sets flag n of the words from `base` on.
+#[tactic(auto, unfolding(crate::specs::Bits::with_flag))]
 pub fn set(ws: &mut [u32], base: usize, n: usize)
     requires { base + n / 32 < length ws.old }
     ensures { ws.new ≡ with_flag ws.old base n true }
@@ -26,6 +28,7 @@ pub fn set(ws: &mut [u32], base: usize, n: usize)
 }
 
 // Clears flag n of the words from `base` on.
+#[tactic(auto, unfolding(crate::specs::Bits::with_flag))]
 pub fn clear(ws: &mut [u32], base: usize, n: usize)
     requires { base + n / 32 < length ws.old }
     ensures { ws.new ≡ with_flag ws.old base n false }
@@ -37,6 +40,7 @@ pub fn clear(ws: &mut [u32], base: usize, n: usize)
 }
 
 // Writes 0 to the n words from `base` on.
+#[tactic(auto, unfolding(crate::specs::Bits::zeroed))]
 pub fn zero_run(ws: &mut [u32], base: usize, n: usize)
     requires { base + n ≤ length ws.old }
     ensures { ws.new ≡ zeroed ws.old base n }
@@ -49,6 +53,7 @@ pub fn zero_run(ws: &mut [u32], base: usize, n: usize)
 }
 
 // The lowest set bit of w, and 32 for 0.
+#[tactic(auto, unfolding(crate::specs::Bits::lowest))]
 pub fn lowest_bit(w: u32) -> u32
     ensures { result ≡ lowest w }
 {
@@ -56,6 +61,7 @@ pub fn lowest_bit(w: u32) -> u32
 }
 
 // w without its lowest set bit.
+#[tactic(auto, unfolding(crate::specs::Bits::with_bit, crate::specs::Bits::lowest))]
 pub fn without_lowest(w: u32) -> u32
     requires { w ≢ 0 }
     ensures { result ≡ with_bit w (lowest w) false }

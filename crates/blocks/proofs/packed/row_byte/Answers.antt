@@ -1,0 +1,13 @@
+-- `row_byte` is `row_byte`: at each turn v is the byte of the symbols from place i on.
+use native.Mathlib.Omega.{arith}
+use Rattle.blocks.proofs.Bytes.{row-turn, row_fits, row_done, row_last}
+use Rattle.blocks.proofs.packed.row_byte.Goals as goal
+
+pub overflow_add-v-in-loop-i : goal.overflow_add-v-in-loop-i
+overflow_add-v-in-loop-i c = search row_fits
+
+pub loop-i-preserved : goal.loop-i-preserved
+loop-i-preserved c = (omega arith, search row-turn)
+
+pub returns-clause-small : goal.returns-clause-small
+returns-clause-small c = search (row_done, row_last)

@@ -1,0 +1,22 @@
+-- `find_place` is `find_place`: each turn takes one step of the definition.
+use native.Mathlib.Omega.{arith}
+use Rattle.children.proofs.Steps.{place_out, place_none, place-broken, place-go, place_found, place-past}
+use Rattle.children.proofs.place.find_place.Goals as goal
+
+pub loop-left-preserved : goal.loop-left-preserved
+loop-left-preserved c = (search place-go, omega arith, omega arith)
+
+pub returns-then-left-eq0-clause-value : goal.returns-then-left-eq0-clause-value
+returns-then-left-eq0-clause-value c = search (place_out, arith)
+
+pub returns-then-link-eq0-clause-value : goal.returns-then-link-eq0-clause-value
+returns-then-link-eq0-clause-value c = search (place_none, arith)
+
+pub returns-then-cap-link-clause-value : goal.returns-then-cap-link-clause-value
+returns-then-cap-link-clause-value c = search (place-broken, arith)
+
+pub returns-then-b-byte-2-clause-value : goal.returns-then-b-byte-2-clause-value
+returns-then-b-byte-2-clause-value c = search (place_found, arith)
+
+pub returns-else-b-byte-clause-value : goal.returns-else-b-byte-clause-value
+returns-else-b-byte-clause-value c = search (place-past, arith)

@@ -1,0 +1,11 @@
+-- `shows_opening` is `shows_opening`.
+use native.Mathlib.Omega.{arith}
+use Rattle.layout.specs.Settings.{settings_of}
+use Rattle.settings.proofs.Tests.{shows-tests}
+use Rattle.settings.proofs.shows_opening.Goals as goal
+
+pub returns : goal.returns
+unfolding settings_of
+returns c =
+    rw (c.limits.ensures, c.thresholds_fit.ensures)
+    (shows-tests c.args.settings.now (omega arith))

@@ -1,0 +1,13 @@
+use Prim.Native.Nat.{◌-◌, ◌<◌, ◌≤◌}
+use mathlib.Core.Path.{◌≡◌}
+use lib.ListN.{length}
+use Rattle.layout.specs.Nodes.{node_words}
+use Rattle.trie.specs.Descend.{descend, descend_to}
+use Rattle.trie.proofs.path.descend_to.Given as goal
+
+abbrev pub invariant-loop-s : goal.invariant-loop-s
+invariant-loop-s l =
+    (descend l.nodes l.cap l.bytes l.n l.slot l.level (length l.bytes - l.level) ≡ descend_to l.nodes l.cap l.root l.bytes) × (l.n < l.cap) × (l.slot < node_words l.cap) × (l.level ≤ length l.bytes)
+
+abbrev pub decreases-loop-s : goal.decreases-loop-s
+decreases-loop-s l = length l.bytes - l.level

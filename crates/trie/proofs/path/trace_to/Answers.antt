@@ -1,0 +1,31 @@
+-- `trace_to` is `descend_to`, as `descend_to` is, and notes the nodes that it passes.
+use Prim.Native.Nat.{◌<◌}
+use native.Mathlib.Omega.{arith}
+use borrow.Author.Rules.{rules}
+use lib.ListN.{length}
+use Rattle.trie.specs.Descend.{noted}
+use Rattle.trie.proofs.Descends.{desc-leaf, desc-child, desc-gap, desc-nowhere}
+use Rattle.trie.proofs.Inside.{child-node, child-slot, child-level}
+use Rattle.trie.proofs.Notes.{passed_on, note-on}
+use Rattle.trie.proofs.path.trace_to.Goals as goal
+use Rattle.trie.proofs.path.trace_to.Goals.{In-Child}
+
+-- a step to a child takes a byte
+deeper : (c : In-Child) → c.loop-s.level < length c.args.bytes.now
+deeper c = child-level _ _ _ _ c.step_to-step.ensures.inside _ _ c.in-Child.is
+
+pub loop-s-preserved : goal.loop-s-preserved
+loop-s-preserved c =
+    let at = c.loop-s in
+    let l = deeper (goal.at.loop-s-preserved c).In-Child in
+    let noted = note-on at.above at.slots _ at.level at.n at.slot at.invariant.5 at.invariant.4 (omega (arith, l)) (omega (arith, l)) in
+    (search (desc-child, l), search child-node, search child-slot, omega (arith, l), search passed_on, noted, search rules, search rules)
+
+pub returns-in-Leaf-clause-value : goal.returns-in-Leaf-clause-value
+returns-in-Leaf-clause-value c = search desc-leaf
+
+pub returns-in-Gap-clause-value : goal.returns-in-Gap-clause-value
+returns-in-Gap-clause-value c = search desc-gap
+
+pub returns-in-Broken-clause-value : goal.returns-in-Broken-clause-value
+returns-in-Broken-clause-value c = search desc-nowhere

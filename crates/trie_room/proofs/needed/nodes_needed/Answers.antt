@@ -1,0 +1,12 @@
+-- `nodes_needed` is `nodes_needed`.
+use Rattle.trie_room.specs.Needs.{needed_at, nodes_needed}
+use mathlib.Core.Path.{ap, ◌∙◌}
+use Rattle.trie_room.proofs.needed.nodes_needed.Goals as goal
+
+pub returns : goal.returns
+unfolding nodes_needed
+returns c =
+    let args = c.args in
+    c.needed_at.ensures
+    ∙ ap (needed_at args.pages.now args.sketches.now args.thresholds.now args.block.pages args.block.base args.rows args.bytes.now args.nodes.now args.block.nodes)
+    c.descend_to-reach.ensures.value

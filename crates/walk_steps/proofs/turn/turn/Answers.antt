@@ -1,0 +1,26 @@
+-- `turn` is `turned`, by the next step in the node.
+use native.Mathlib.Omega.{arith}
+use Rattle.children.proofs.Cursors.{next-below}
+use Rattle.walk_steps.proofs.Turns.{turned-out, turned-chain, turned_up, turned-broken, turned-past, turned-reached}
+use Rattle.walk_steps.proofs.turn.turn.Goals as goal
+
+pub returns-then-place-eq0-2 : goal.returns-then-place-eq0-2
+returns-then-place-eq0-2 c = turned-out _ _ c.if-place-eq0.false _ c.step.ensures _ _ _ c.in-Child.is c.if-place-eq0-2.true
+
+pub returns-then-frame-d : goal.returns-then-frame-d
+returns-then-frame-d c = turned-past _ _ c.if-place-eq0.false _ c.step.ensures _ _ _ c.in-Child.is c.if-place-eq0-2.false _ c.byte_distance-d.ensures c.if-frame-d.true
+
+pub returns-in-Chain : goal.returns-in-Chain
+returns-in-Chain c = turned-chain _ _ c.if-place-eq0.false _ c.step.ensures _ _ c.in-Chain.is
+
+pub returns-in-End : goal.returns-in-End
+returns-in-End c = turned_up _ _ c.if-place-eq0.false _ c.step.ensures c.in-End.is
+
+pub returns-in-Broken : goal.returns-in-Broken
+returns-in-Broken c = turned-broken _ _ c.if-place-eq0.false _ c.step.ensures c.in-Broken.is
+
+pub returns-else-frame-d : goal.returns-else-frame-d
+returns-else-frame-d c = turned-reached _ _ c.if-place-eq0.false _ c.step.ensures _ _ _ c.in-Child.is c.if-place-eq0-2.false _ c.byte_distance-d.ensures c.if-frame-d.false _ c.reach.ensures
+
+pub reach-requires-clause-x_lt_cap : goal.reach-requires-clause-x_lt_cap
+reach-requires-clause-x_lt_cap c = let pre = c.requires in (next-below _ _ _ _ _ _ _ c.step.ensures c.in-Child.is, omega (arith, pre.fitting.bytes, pre.depth_in_bounds.0))
