@@ -9,6 +9,7 @@ use layout::Opening;
 const CLASSES: u32 = 64;
 
 // The opening where none of them says no, else the number of the first that does.
+#[tactic(auto, unfolding(entry::specs::Admission::admission))]
 pub fn admit(
     settings: &[u32],
     nodes: &[u32],

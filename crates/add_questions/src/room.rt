@@ -76,6 +76,7 @@ fn all_needed(
 }
 
 // Are so many free, from the free link on?
+#[tactic(auto, unfolding(layout::specs::Lengths::nodes_length))]
 pub fn room(
     thresholds: &[u32],
     nodes: &[u32],

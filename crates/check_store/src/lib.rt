@@ -23,6 +23,7 @@ pub struct Verdict {
 }
 
 // The pages, the free chain and the tries, with the first free link. The map is for marks.
+#[tactic(auto, unfolding(layout::specs::Lengths::nodes_length, crate::specs::Store::test_store))]
 fn test_store(
     nodes: &[u32],
     pages: &[u32],

@@ -6,6 +6,7 @@ ghost use Rattle.check_tables.specs.Free.{is_free, test_free};
 use layout::nodes::{Kind, next_free};
 use node_check::leaf::Left;
 
+#[tactic(auto, unfolding(crate::specs::Free::is_free))]
 fn is_free(nodes: &[u32], cap: usize, x: usize) -> bool
     requires node_table { NodeTable cap nodes.now }
     requires x_lt_cap { x < cap }
@@ -19,6 +20,7 @@ fn is_free(nodes: &[u32], cap: usize, x: usize) -> bool
 }
 
 // How many nodes are not free, where all on the chain are.
+#[tactic(auto, unfolding(crate::specs::Free::test_free))]
 pub fn test_free(nodes: &[u32], cap: usize, first: u32) -> Left
     requires { NodeTable cap nodes.now }
     ensures { result ≡ test_free nodes.now cap first }

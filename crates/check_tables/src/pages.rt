@@ -12,6 +12,7 @@ use sketch::symbols::in_range;
 
 const CLASSES: u32 = 64;
 
+#[tactic(auto, unfolding(layout::specs::Lengths::sketches_length, crate::specs::Pages::page_fits))]
 fn page_fits(pages: &[u32], sketches: &[u8], h: Header, p: usize) -> bool
     requires header_limits { HeaderLimits h }
     requires h_in_bounds { pages_length (bare h) ≤ length pages.now }
@@ -34,6 +35,7 @@ fn page_fits(pages: &[u32], sketches: &[u8], h: Header, p: usize) -> bool
 }
 
 // How many pages are live, where all pass.
+#[tactic(auto, unfolding(crate::specs::Pages::test_pages))]
 pub fn test_pages(pages: &[u32], sketches: &[u8], h: Header) -> Left
     requires header_limits { HeaderLimits h }
     requires h_in_bounds { pages_length (bare h) ≤ length pages.now }

@@ -42,6 +42,7 @@ fn test_block(
 }
 
 // The tries of all blocks: `budget` nodes together, each with `live` pages.
+#[tactic(auto, unfolding(crate::specs::Windows::blocks_from))]
 fn test_blocks(
     nodes: &[u32],
     pages: &[u32],

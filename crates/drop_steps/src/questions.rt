@@ -7,6 +7,7 @@ ghost use Rattle.entry.specs.Admission.{admission};
 use layout::Opening;
 
 // The opening where none of them says no, else the number of the first that does.
+#[tactic(auto, unfolding(entry::specs::Admission::admission))]
 pub fn admit(settings: &[u32], nodes: &[u32], pages: &[u32], sketches: &[u8], page: u32) -> Opening
     ensures { result ≡ admission (tables settings.now nodes.now pages.now sketches.now []) (drop page) }
 {

@@ -14,6 +14,7 @@ use layout::Header;
 const EMPTY: u32 = 131072;
 
 // The link to node x of the free chain, or none past the last node.
+#[tactic(auto, unfolding(promises::specs::Answers::free_link))]
 pub fn free_link(cap: usize, x: usize) -> u32
     requires { (cap ≤ most_nodes) × (x ≤ cap) }
     ensures { result ≡ free_link cap x }
@@ -21,6 +22,7 @@ pub fn free_link(cap: usize, x: usize) -> u32
     if x < cap { (x + 1) as u32 } else { 0 }
 }
 
+#[tactic(auto, unfolding(promises::specs::Answers::fresh_chain))]
 fn chain_word(h: Header, x: usize) -> u32
     requires { (h.nodes ≤ most_nodes) × (x < h.nodes) }
     ensures { result ≡ fresh_chain (bare h) x }
@@ -32,6 +34,7 @@ fn chain_word(h: Header, x: usize) -> u32
     }
 }
 
+#[tactic(auto, unfolding(promises::specs::Answers::fresh_chain, meaning::specs::Lists::upto))]
 fn write_chain(nodes: &mut [u32], h: Header)
     requires { (h.nodes ≤ most_nodes) × (h.nodes ≤ length nodes.old) }
     ensures { nodes.new ≡ sets nodes.old 0 (map (fresh_chain (bare h)) (upto h.nodes)) }
@@ -44,12 +47,14 @@ fn write_chain(nodes: &mut [u32], h: Header)
     }
 }
 
+#[tactic(auto, unfolding(promises::specs::Answers::fresh_state))]
 fn state_word(h: Header, x: usize) -> u32
     ensures { result ≡ fresh_state (bare h) x }
 {
     if x < h.q { EMPTY } else { 0 }
 }
 
+#[tactic(auto, unfolding(promises::specs::Answers::fresh_state, meaning::specs::Lists::upto))]
 fn write_states(nodes: &mut [u32], h: Header)
     requires { (h.nodes ≤ most_nodes) × (h.nodes + h.nodes ≤ length nodes.old) }
     ensures { nodes.new ≡ sets nodes.old h.nodes (map (fresh_state (bare h)) (upto h.nodes)) }
@@ -62,6 +67,7 @@ fn write_states(nodes: &mut [u32], h: Header)
     }
 }
 
+#[tactic(auto, unfolding(layout::specs::Lengths::nodes_length, promises::specs::Answers::fresh_nodes))]
 pub fn write_nodes(nodes: &mut [u32], h: Header)
     requires header_limits { HeaderLimits h }
     requires h_in_bounds { nodes_length (bare h) ≤ length nodes.old }

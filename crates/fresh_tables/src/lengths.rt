@@ -29,6 +29,7 @@ fn out_of_limits() -> Lengths
     }
 }
 
+#[tactic(auto, unfolding(crate::specs::Lengths::lengths_of))]
 pub fn needed(b: u32, m: u32, q: u32, page_capacity: u32, node_capacity: u32) -> Lengths
     ensures { result ≡ lengths_of (settings_given b m q page_capacity node_capacity []) }
 {

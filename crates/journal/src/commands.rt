@@ -67,6 +67,7 @@ fn wide_word(x: u16) -> u32
 }
 
 // The two bytes at k and k + 1, the low one first.
+#[tactic(auto, unfolding(meaning::specs::Journal::word_at))]
 pub fn word_at(bytes: &[u8], k: usize) -> u16
     requires { k ≤ 4 }
     ensures { result ≡ word_at bytes.now k }
@@ -86,6 +87,7 @@ pub fn symbols_at(bytes: &[u8], at: usize, m: u8) -> &[u8]
 }
 
 // J, L, G or R with its two operands.
+#[tactic(auto, unfolding(crate::specs::Steps::change_of))]
 fn change_of(c: u8, x: u32, y: u32) -> Change
     ensures { result ≡ change_of c x y }
 {
@@ -108,6 +110,7 @@ fn change_of(c: u8, x: u32, y: u32) -> Change
 }
 
 // The command at an offset whose form is right.
+#[tactic(auto, unfolding(crate::specs::Steps::command_at))]
 fn command_at(bytes: &[u8], at: usize, m: u8) -> Command
     requires { at + taken m (drop at bytes.now) ≤ length bytes.now }
     ensures { result ≡ command_at bytes.now at }
@@ -147,6 +150,7 @@ fn command_at(bytes: &[u8], at: usize, m: u8) -> Command
 }
 
 // The mark of the command at an offset: the first one stands at 0.
+#[tactic(auto, unfolding(meaning::specs::Journal::mark_at))]
 fn mark_at(at: usize) -> u8
     ensures { result ≡ mark_at at }
 {
@@ -154,6 +158,7 @@ fn mark_at(at: usize) -> u8
 }
 
 // What stands at an offset, with m symbols a sketch.
+#[tactic(auto, unfolding(meaning::specs::Journal::form_at, meaning::specs::Journal::taken))]
 pub fn next_at(bytes: &[u8], at: usize, m: u8) -> Step
     ensures { Stepped m bytes.now at result }
 {
@@ -170,6 +175,7 @@ pub fn next_at(bytes: &[u8], at: usize, m: u8) -> Step
 }
 
 // The offset reached by a step from another: that behind a command taken; else it stays.
+#[tactic(auto, unfolding(crate::specs::Steps::reached_by))]
 pub fn reached(step: Step, at: usize) -> usize
     ensures { result ≡ reached_by step at }
 {

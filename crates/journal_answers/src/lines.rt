@@ -10,6 +10,7 @@ use journal::commands::Command;
 use journal_lines::{refusal_line, search_line};
 
 // The line of an accepted command, at the beginning of a lent buffer. Its length is given; 0 where there is none.
+#[tactic(auto, unfolding(journal::specs::Steps::meant, crate::specs::Lines::accepted_line))]
 fn listing_line(
     command: Command,
     count: usize,
@@ -35,6 +36,7 @@ fn listing_line(
 }
 
 // The line of a command at an offset, by the number of its refusal and the count of a search.
+#[tactic(auto, unfolding(crate::specs::Lines::line_of, journal::specs::Steps::meant))]
 pub fn command_line(
     command: Command,
     number: u32,
@@ -58,6 +60,7 @@ pub fn command_line(
 }
 
 // m behind a command.
+#[tactic(auto, unfolding(journal::specs::Steps::meant, crate::specs::Lines::symbols_after, meaning::specs::Journal::call_of))]
 pub fn symbols_after(command: Command, m: u8) -> u8
     ensures { result ≡ symbols_after (meant 0 [] command) m }
 {

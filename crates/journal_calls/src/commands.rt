@@ -63,6 +63,7 @@ fn open_levels(
 }
 
 // Changes the register.
+#[tactic(auto, unfolding(journal::specs::Steps::change_meant))]
 fn change_register(settings: &mut [u32], change: Change) -> u32
     ensures { RightsPromise (change_meant change) settings.old result settings.new }
 {
@@ -99,6 +100,7 @@ fn search_for(
 }
 
 // Carries a command out. Its m symbols, where it has any, lie in the journal's bytes.
+#[tactic(auto, unfolding(journal::specs::Steps::symbols_end, journal::specs::Steps::meant))]
 pub fn execute(
     settings: &mut [u32],
     nodes: &mut [u32],

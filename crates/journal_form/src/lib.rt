@@ -15,6 +15,7 @@ const OPERANDS: u32 = 3;
 const WELL_FORMED: u32 = 0;
 
 // Is the command byte known?
+#[tactic(auto, unfolding(meaning::specs::Journal::entries, meaning::specs::Journal::known))]
 pub fn is_known(c: u8) -> bool
     ensures { result ≡ known c }
 {
@@ -46,6 +47,7 @@ pub fn is_known(c: u8) -> bool
 }
 
 // Is it I exactly where it is the first command? A mark of 0 stands for a later one.
+#[tactic(auto, unfolding(meaning::specs::Journal::in_place))]
 pub fn is_in_place(mark: u8, c: u8) -> bool
     ensures { result ≡ in_place mark c }
 {
@@ -56,6 +58,7 @@ pub fn is_in_place(mark: u8, c: u8) -> bool
 }
 
 // How many bytes its operands have, with m symbols a sketch.
+#[tactic(auto, unfolding(meaning::specs::Journal::entries, meaning::specs::Journal::operand_bytes))]
 pub fn operand_bytes(m: u8, c: u8) -> usize
     ensures { result ≡ operand_bytes m c }
 {
@@ -72,6 +75,7 @@ pub fn operand_bytes(m: u8, c: u8) -> usize
 }
 
 // The form of the command at the beginning of the bytes: 0, or the first number that fails.
+#[tactic(auto, unfolding(meaning::specs::Journal::form))]
 pub fn form(m: u8, mark: u8, bytes: &[u8]) -> u32
     ensures { result ≡ form_number m mark bytes.now }
 {

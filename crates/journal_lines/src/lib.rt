@@ -7,6 +7,7 @@ ghost use Rattle.meaning.specs.Output.{output};
 ghost use Rattle.meaning.specs.Journal.{decimal, field, hits, search_line, refusal_line, last_line};
 
 // How many decimal digits n has.
+#[tactic(auto, unfolding(meaning::specs::Journal::decimal))]
 fn places(n: u32) -> usize
     ensures value { result ≡ length (decimal n) }
     ensures upper_bound { result ≤ 10 }
@@ -21,6 +22,7 @@ fn places(n: u32) -> usize
 }
 
 // The k digits of n at an offset, from the last to the first.
+#[tactic(auto, unfolding(meaning::specs::Journal::decimal))]
 fn spell(n: u32, k: usize, out: &mut [u8], at: usize)
     requires k_value { k ≡ length (decimal n) }
     requires k_in_bounds { at + k ≤ length out.old }
@@ -37,6 +39,7 @@ fn spell(n: u32, k: usize, out: &mut [u8], at: usize)
 }
 
 // A mark and a number at an offset. The offset behind them is given, here and below.
+#[tactic(auto, unfolding(meaning::specs::Journal::decimal))]
 fn put_marked(mark: u8, n: u32, out: &mut [u8], at: usize) -> usize
     requires { at + 11 ≤ length out.old }
     ensures out_after { out.new ≡ sets out.old at (mark ∷ decimal n) }
@@ -60,6 +63,7 @@ fn put_field(n: u32, out: &mut [u8], at: usize) -> usize
 }
 
 // A hit: a blank, the page, a colon and its distance.
+#[tactic(auto, unfolding(meaning::specs::Journal::decimal))]
 fn put_hit(page: u32, distance: u32, out: &mut [u8], at: usize) -> usize
     requires { at + 22 ≤ length out.old }
     ensures out_after { out.new ≡ sets out.old at (field page ++ (58 ∷ decimal distance)) }
@@ -71,6 +75,7 @@ fn put_hit(page: u32, distance: u32, out: &mut [u8], at: usize) -> usize
 }
 
 // The hits, and the end of the line.
+#[tactic(auto, unfolding(meaning::specs::Journal::hits))]
 fn put_hits(pages: &[u16], distances: &[u16], out: &mut [u8], at: usize) -> usize
     requires pages_len { length pages.now ≡ length distances.now }
     requires pages_in_bounds { at + 22 * length pages.now + 1 ≤ length out.old }
@@ -89,6 +94,7 @@ fn put_hits(pages: &[u16], distances: &[u16], out: &mut [u8], at: usize) -> usiz
 }
 
 // `S`, the reader, the count and the hits. The length of the line is given, here and below.
+#[tactic(auto, unfolding(meaning::specs::Journal::search_line))]
 pub fn search_line(reader: u32, pages: &[u16], distances: &[u16], out: &mut [u8]) -> usize
     requires pages_len { length pages.now ≡ length distances.now }
     requires pages_len_bound { length pages.now ≤ 65535 }
@@ -104,6 +110,7 @@ pub fn search_line(reader: u32, pages: &[u16], distances: &[u16], out: &mut [u8]
 }
 
 // `E`, the offset of the refused command and the number.
+#[tactic(auto, unfolding(meaning::specs::Journal::refusal_line))]
 pub fn refusal_line(at: u32, number: u32, out: &mut [u8]) -> usize
     requires { 24 ≤ length out.old }
     ensures out_after { out.new ≡ sets out.old 0 (refusal_line at number) }
@@ -118,6 +125,7 @@ pub fn refusal_line(at: u32, number: u32, out: &mut [u8]) -> usize
 }
 
 // `Z` and the count of bytes taken.
+#[tactic(auto, unfolding(meaning::specs::Journal::last_line))]
 pub fn last_line(count: u32, out: &mut [u8]) -> usize
     requires { 24 ≤ length out.old }
     ensures out_after { out.new ≡ sets out.old 0 (last_line count) }

@@ -16,6 +16,7 @@ use fresh_tables::fresh;
 use layout::Header;
 
 // 5: is every table long enough?
+#[tactic(auto, unfolding(promises::specs::Answers::long_settings, promises::specs::Answers::long_for, promises::specs::Answers::long_nodes, promises::specs::Answers::long_pages, promises::specs::Answers::long_working))]
 fn long_enough(
     h: Header,
     settings: &[u32],
@@ -34,6 +35,7 @@ fn long_enough(
 }
 
 // The settings table: the header, a register with no pairs, and the free chain's first link.
+#[tactic(auto, unfolding(promises::specs::Answers::fresh_settings))]
 fn write_settings(settings: &mut [u32], h: Header, thresholds: &[u16])
     requires settings_length_in_bounds { settings_length ≤ length settings.old }
     requires header_limits { HeaderLimits h }
@@ -46,6 +48,7 @@ fn write_settings(settings: &mut [u32], h: Header, thresholds: &[u16])
 }
 
 // Every table that an opening writes, over its beginning.
+#[tactic(auto, unfolding(promises::specs::Answers::fresh_settings, promises::specs::Answers::fresh_nodes, promises::specs::Answers::fresh_pages))]
 fn lay_out(
     settings: &mut [u32],
     nodes: &mut [u32],

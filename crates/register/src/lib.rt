@@ -15,6 +15,7 @@ const GROUPS: u32 = 32;
 const CLASSES: u32 = 64;
 
 // Questions 5, 6 and 7: is each of the two numbers below its limit? Gives 0 where none says no.
+#[tactic(auto, unfolding(crate::specs::Register::register_number))]
 fn refusal(settings: &[u32], first: u32, firsts: u32, second: u32, seconds: u32) -> u32
     ensures { result ≡ register_number settings.now (ltb first firsts && ltb second seconds) }
 {

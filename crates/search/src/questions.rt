@@ -11,6 +11,7 @@ const READERS: u32 = 256;
 const RADIUS: u32 = 64;
 
 // 7, 10 and 11: the number of the first that says no, else 0.
+#[tactic(auto, unfolding(meaning::specs::Refusal::first_no, crate::specs::Questions::query_asked))]
 pub fn query_number(h: Header, reader: u32, radius: u32, sketch: &[u8]) -> u32
     requires { HeaderLimits h }
     ensures { result ≡ first_no (query_asked h reader radius sketch.now) }

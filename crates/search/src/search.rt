@@ -18,6 +18,7 @@ use meeting::{Scope, Tallies};
 
 // Walks the tries, then lists what was met and passed; 14 where a link was not in order or a budget did not last. No page is marked
 // yet; the maps are cleared.
+#[tactic(auto, unfolding(words::specs::Bits::zeroed))]
 fn find(
     nodes: &[u32],
     pages: &[u32],

@@ -30,6 +30,7 @@ fn refused(number: u32) -> Place
 }
 
 // Where the page's row stands.
+#[tactic(auto, unfolding(crate::specs::Show::place_of))]
 pub fn find_row(settings: &[u32], pages: &[u32], sketches: &[u8], reader: u32, page: u32) -> Place
     ensures { result ≡ place_of (show_tables settings.now pages.now sketches.now) reader page }
 {
@@ -64,6 +65,7 @@ pub fn find_row(settings: &[u32], pages: &[u32], sketches: &[u8], reader: u32, p
 }
 
 // The refusal's number, or 0 where the row is shown.
+#[tactic(auto, unfolding(crate::specs::Show::place_of, promises::specs::Readings::row_shown))]
 pub fn show_number(settings: &[u32], pages: &[u32], sketches: &[u8], reader: u32, page: u32) -> u32
     ensures { OnShow reader page (show_tables settings.now pages.now sketches.now) result (row_shown (show_tables settings.now pages.now sketches.now) reader page) }
 {
@@ -71,6 +73,7 @@ pub fn show_number(settings: &[u32], pages: &[u32], sketches: &[u8], reader: u32
 }
 
 // The row itself, or an empty part.
+#[tactic(auto, unfolding(crate::specs::Show::place_of, promises::specs::Answers::number, promises::specs::Readings::start_shown))]
 pub fn show<'a>(
     settings: &[u32],
     pages: &[u32],

@@ -50,6 +50,7 @@ fn strip_end(k: usize, n: usize) -> usize
 // The places of two sketches in one loop, range and difference together. After k places all symbols so far are in range, and d is the
 // distance of the first k (`After`); a symbol out of range ends it. A turn takes a strip, and asks at its end: with a branch at each place
 // long sketches take five times as long.
+#[tactic(auto, unfolding(crate::specs::Measuring::ending))]
 fn measure_symbols(b: u32, x: &[u8], y: &[u8]) -> Answer
     requires bits { Bits b }
     requires x_len { length x.now ≡ length y.now }
@@ -75,6 +76,7 @@ fn measure_symbols(b: u32, x: &[u8], y: &[u8]) -> Answer
 }
 
 // The distance of two sketches.
+#[tactic(auto, unfolding(meaning::specs::SketchCalls::measure_number, meaning::specs::Refusal::first_no))]
 pub fn measure(b: u32, m: u32, x: &[u8], y: &[u8]) -> Answer
     ensures { Measured b m x.now y.now result.number result.value }
 {
@@ -92,6 +94,7 @@ pub fn measure(b: u32, m: u32, x: &[u8], y: &[u8]) -> Answer
 }
 
 // A sketch packed into the beginning of out.
+#[tactic(auto, unfolding(meaning::specs::SketchCalls::pack_number, meaning::specs::Refusal::first_no, meaning::specs::SketchCalls::length_given, meaning::specs::SketchCalls::output_left))]
 pub fn pack(b: u32, m: u32, x: &[u8], out: &mut [u8]) -> Answer
     ensures { Packed b m x.now out.old result.number result.value out.new }
 {
@@ -121,6 +124,7 @@ pub fn pack(b: u32, m: u32, x: &[u8], out: &mut [u8]) -> Answer
 }
 
 // A sketch out of its packed bytes, written to the beginning of out.
+#[tactic(auto, unfolding(meaning::specs::SketchCalls::unpack_number, meaning::specs::Refusal::first_no, meaning::specs::SketchCalls::length_given, meaning::specs::SketchCalls::output_left))]
 pub fn unpack(b: u32, m: u32, bytes: &[u8], out: &mut [u8]) -> Answer
     ensures { Unpacked b m bytes.now out.old result.number result.value out.new }
 {

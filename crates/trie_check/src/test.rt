@@ -23,6 +23,7 @@ fn past_leaf(place: Place, byte: u32, link: u32, pages: u32) -> Place
 }
 
 // In an inner node x, a level below.
+#[tactic(auto, unfolding(children::specs::Order::entered))]
 fn enter_child(nodes: &[u32], cap: usize, place: Place, x: u32) -> Place
     requires node_table { NodeTable cap nodes.now }
     requires x_lt_cap { x < cap }
@@ -92,6 +93,7 @@ fn test_below(
 }
 
 // What is left where a test holds.
+#[tactic(auto, unfolding(crate::specs::Trie::left_if))]
 fn left_if(left: u32, holds: bool) -> Left
     ensures { result ≡ left_if left holds }
 {
