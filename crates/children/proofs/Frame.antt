@@ -6,7 +6,6 @@ use native.Mathlib.Omega.{arith}
 use borrow.Author.Tests.{eq-eqb, ne_eqb}
 use lib.ListN.{length, set}
 use lib.Seq.{get_or-set_same, get_or-set_other}
-use Rattle.meaning.specs.Trie.{nodes}
 use Rattle.children.specs.Heap.{Cells, hit, node_claims, page_claims, Holds, Heap, nil, node, page, ◌⊕◌}
 use Rattle.layout.specs.Tables.{NodeTable, PageTable}
 

@@ -3,12 +3,11 @@ use Prim.Native.Nat.{ℕ, suc, ◌+◌, ◌*◌, ◌-◌, ◌/◌, ◌<◌, ◌�
 use mathlib.Core.Path.{◌≡◌, ap₂, ◌∙◌, sym, subst}
 use mathlib.Core.List.{List}
 use native.Mathlib.Omega.{arith}
-use Rattle.meaning.specs.Trie.{Children, nodes, nodes_in}
+use Rattle.meaning.specs.Trie.{Children, nodes_in}
 use Rattle.layout.specs.Nodes.{chain_word, head_at, node_words, most_nodes}
 use Rattle.children.specs.Heap.{Cells, Holds, node, ◌⊕◌}
 use Rattle.children.specs.Places.{find_place}
 use Rattle.children.specs.Phys.{Kids, inner_p, children_of, first_in, heads_from, kid_cells, Sound, SoundK}
-use Rattle.trie_laws.proofs.Lists.{holds, same}
 use Rattle.children.proofs.Frame.{Same}
 use Rattle.children.proofs.Held.{Held, gap, onto, answer, link_to, held_cells, SoundH}
 use Rattle.children.proofs.SpotList.{SpotL, spot_l}

@@ -32,8 +32,8 @@ module _ (ws nodes pages sketches : List ℕ) where
   abbrev T : Tables
   T = tables ws nodes pages sketches []
 
-  abbrev Long : Header → Bool
-  Long g =
+  abbrev is_long : Header → Bool
+  is_long g =
       leb (nodes_length (bare g)) (length nodes)
       && (leb (pages_length (bare g)) (length pages) && leb (sketches_length (bare g)) (length sketches))
 
@@ -42,17 +42,17 @@ module _ (ws nodes pages sketches : List ℕ) where
   store-refused n e = tell-refused T (first_no (store_asked T)) n (refused-number ws _ _ n e) (λ z. omega (arith, refused-range ws n e))
 
   module _ (h : Header) (e : opening_of ws ≡ Shown h) where
-    by-header : first_no (store_asked T) ≡ cond (Long h) 0 6
+    by-header : first_no (store_asked T) ≡ cond (is_long h) 0 6
     unfolding store_asked long_nodes long_pages nodes_length pages_length sketches_length first_no
     by-header =
         shown-number ws (long_nodes (given T) T && long_pages (given T) T) [] h e
-        ∙ ap (λ g. cond (Long g) 0 6) (shown ws h e).header
+        ∙ ap (λ g. cond (is_long g) 0 6) (shown ws h e).header
 
-    pub store-short : Long h ≡ false → Refused 6 ≡ store_entry T
+    pub store-short : is_long h ≡ false → Refused 6 ≡ store_entry T
     unfolding store_entry
     store-short a = tell-refused T (first_no (store_asked T)) 6 (by-header ∙ rw a) (omega arith)
 
-    pub store_long : Long h ≡ true → Shown h ≡ store_entry T
+    pub store_long : is_long h ≡ true → Shown h ≡ store_entry T
     unfolding store_entry
     store_long a = tell-shown T (first_no (store_asked T)) h (shown ws h e).header (by-header ∙ rw a)
 

@@ -54,20 +54,20 @@ module _ (ws nodes pages sketches working : List ℕ) where
       tell-refused T (first_no (tables_asked T)) n (asked-last ∙ rw (ne_eqb (first_no (store_asked store)) 0 (λ z. r.1 (sym r.0 ∙ z))) r.0) r.1
 
   module _ (h : Header) (e : store_entry store ≡ Shown h) where
-    abbrev Working : Bool
-    Working = leb (working_length (bare h)) (length working)
+    abbrev working_is_long : Bool
+    working_is_long = leb (working_length (bare h)) (length working)
 
-    by-header : first_no (tables_asked T) ≡ cond Working 0 6
+    by-header : first_no (tables_asked T) ≡ cond working_is_long 0 6
     unfolding long_working working_length map_words summary_words
     by-header =
         asked-last
         ∙ rw (shown-none store h e) (ap (λ (g : Header). cond (leb (working_length (bare g)) (length working)) 0 6) (same-header store h e))
 
-    pub enter-short : Working ≡ false → Refused 6 ≡ entry T
+    pub enter-short : working_is_long ≡ false → Refused 6 ≡ entry T
     unfolding entry
     enter-short a = tell-refused T (first_no (tables_asked T)) 6 (by-header ∙ rw a) (omega arith)
 
-    pub enter-all : Working ≡ true → Shown h ≡ entry T
+    pub enter-all : working_is_long ≡ true → Shown h ≡ entry T
     unfolding entry
     enter-all a = tell-shown T (first_no (tables_asked T)) h (same-header store h e) (by-header ∙ rw a)
 

@@ -26,6 +26,7 @@ pub struct Turn {
 }
 
 // After 4 it stops.
+#[tactic(auto, unfolding(crate::specs::Turns::goes_on))]
 fn goes_on(number: u32) -> bool
     ensures { result ≡ goes_on number }
 {
@@ -40,6 +41,7 @@ fn offset_after(going: bool, to: usize, at: usize) -> usize
 }
 
 // Carries out a command, behind which the offset is `to`, and puts its line at the beginning of a lent buffer.
+#[tactic(auto, unfolding(journal::specs::Steps::meant))]
 fn carry_out(
     settings: &mut [u32],
     nodes: &mut [u32],

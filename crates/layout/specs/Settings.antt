@@ -1,6 +1,6 @@
 -- The settings table: a mark, b, m, q, the capacities, 64 thresholds, 256 words of memberships, 64 words of grants, 512 words of entries,
 -- the free link.
-use Rattle.std.specs.Prelude.{ℕ, ◌+◌, Bool, ◌&&◌, List, ◌∷◌, ◌++◌, eqb, get_or, take, drop}
+use Rattle.std.specs.Prelude.{ℕ, Bool, ◌&&◌, List, ◌∷◌, ◌++◌, eqb, get_or, take, drop}
 use Rattle.meaning.specs.Ledger.{Settings}
 use Rattle.meaning.specs.Questions.{in_limits}
 

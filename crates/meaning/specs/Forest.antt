@@ -1,5 +1,5 @@
 -- The tries of demand 2 beside the ledger: one for each block, grown by the same events.
-use Rattle.std.specs.Prelude.{ℕ, suc, ◌+◌, ◌/◌, cond, List, [], ◌∷◌, ◌++◌, map, eqb, replicate}
+use Rattle.std.specs.Prelude.{ℕ, suc, ◌/◌, cond, List, [], ◌∷◌, ◌++◌, map, eqb, replicate}
 use Rattle.meaning.specs.Lists.{sum}
 use Rattle.meaning.specs.Sketch.{pack, packed_length, block, block_length}
 use Rattle.meaning.specs.Trie.{Tree, fresh, insert, remove, met}

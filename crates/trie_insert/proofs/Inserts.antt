@@ -32,8 +32,8 @@ use Rattle.trie_insert.proofs.Grow.{Grown, grow-right}
 
 module _ (bytes_of : ℕ → List ℕ) (S τ Y : List ℕ) (r : Rows) (cap pcap base p : ℕ) (rows : RowTable pcap r S) (small : cap ≤ most_nodes) (lp : p < pcap)
     (are : (k : ℕ) → k < r.bytes → (q : ℕ) → q < pcap → byte_at bytes_of k q ≡ page_byte S (level_at r k) q) where
-  Insert : ℕ → Tree → Tree
-  Insert k = insert bytes_of r.bytes τ k p
+  insert_from : ℕ → Tree → Tree
+  insert_from k = insert bytes_of r.bytes τ k p
 
   abbrev byte : ℕ → ℕ
   byte j = byte_at bytes_of j p
@@ -45,8 +45,8 @@ module _ (bytes_of : ℕ → List ℕ) (S τ Y : List ℕ) (r : Rows) (cap pcap 
     entered = beside (same-swap C.rest (page (base + p) v) G).to (enter cap pcap base small byte C (leaf_p c ps) refl st g)
 
     leaf-lift : C.around (add_leaf bytes_of r.bytes τ k p ps) ≡ insert bytes_of r.bytes τ 0 p (C.around (leaf ps))
-    unfolding Insert insert
-    leaf-lift = C.lift Insert (insert-walks bytes_of p r.bytes τ) (leaf ps) (kept-add bytes_of r.bytes τ k p ps)
+    unfolding insert_from insert
+    leaf-lift = C.lift insert_from (insert-walks bytes_of p r.bytes τ) (leaf ps) (kept-add bytes_of r.bytes τ k p ps)
 
     pub insert-at : nodes (insert bytes_of r.bytes τ 0 p (C.around (leaf ps))) ≤ nodes (C.around (leaf ps)) + length fs →
         Grown cap pcap base top (nodes (C.around (leaf ps)) + length fs) (insert bytes_of r.bytes τ 0 p (C.around (leaf ps))) G (grow_leaf S τ r cap pcap base N P k c p free)
@@ -78,8 +78,8 @@ module _ (bytes_of : ℕ → List ℕ) (S τ Y : List ℕ) (r : Rows) (cap pcap 
     abbrev K : Children
     K = a.spot.later
 
-    abbrev In : Children → Children
-    In = insert_in bytes_of r.bytes τ j p
+    abbrev insert_below : Children → Children
+    insert_below = insert_in bytes_of r.bytes τ j p
 
     here : tree t ≡ a.way.context.around (inner (children_of a.kids))
     here = ap tree (sym a.way.is) ∙ a.way.context.trees (inner_p n a.kids)
@@ -88,18 +88,18 @@ module _ (bytes_of : ℕ → List ℕ) (S τ Y : List ℕ) (r : Rows) (cap pcap 
     children-now = ap children_of (sym (spot-same cap pcap base small a.spot a.none)) ∙ a.spot.children gap
 
     -- the children after the insertion, and that an empty leaf made first changes nothing
-    children-then : In (children_of a.kids) ≡ a.spot.before (child b (add_leaf bytes_of r.bytes τ (suc j) p []) K)
+    children-then : insert_below (children_of a.kids) ≡ a.spot.before (child b (add_leaf bytes_of r.bytes τ (suc j) p []) K)
     children-then =
-        ap In children-now ∙ a.spot.skip In (insert-skips bytes_of p r.bytes τ j) K ∙ ap a.spot.before (insert-new bytes_of p r.bytes τ j K a.spot.above)
+        ap insert_below children-now ∙ a.spot.skip insert_below (insert-skips bytes_of p r.bytes τ j) K ∙ ap a.spot.before (insert-new bytes_of p r.bytes τ j K a.spot.above)
 
-    children-made : In (a.spot.before (child b (leaf []) K)) ≡ In (children_of a.kids)
+    children-made : insert_below (a.spot.before (child b (leaf []) K)) ≡ insert_below (children_of a.kids)
     children-made =
-        a.spot.skip In (insert-skips bytes_of p r.bytes τ j) (child b (leaf []) K) ∙ ap a.spot.before (insert-empty bytes_of p r.bytes τ j K a.spot.above)
-        ∙ sym (a.spot.skip In (insert-skips bytes_of p r.bytes τ j) K) ∙ ap In (sym children-now)
+        a.spot.skip insert_below (insert-skips bytes_of p r.bytes τ j) (child b (leaf []) K) ∙ ap a.spot.before (insert-empty bytes_of p r.bytes τ j K a.spot.above)
+        ∙ sym (a.spot.skip insert_below (insert-skips bytes_of p r.bytes τ j) K) ∙ ap insert_below (sym children-now)
 
-    inner-lift : (cs : Children) → insert bytes_of r.bytes τ 0 p (a.way.context.around (inner cs)) ≡ a.way.context.around (inner (In cs))
-    unfolding Insert insert
-    inner-lift cs = sym (a.way.context.lift Insert (insert-walks bytes_of p r.bytes τ) (inner cs) tt)
+    inner-lift : (cs : Children) → insert bytes_of r.bytes τ 0 p (a.way.context.around (inner cs)) ≡ a.way.context.around (inner (insert_below cs))
+    unfolding insert_from insert
+    inner-lift cs = sym (a.way.context.lift insert_from (insert-walks bytes_of p r.bytes τ) (inner cs) tt)
 
     abbrev with : Tree
     with = a.way.context.around (inner (a.spot.before (child b (leaf []) K)))

@@ -162,19 +162,19 @@ module _ {cap pcap base : ℕ} (small : cap ≤ most_nodes) (bytes_of : ℕ → 
 
     -- it was the last child: the node is an empty leaf
     module _ (z : a.spot.put gap ≡ no_kid) where
-      abbrev Emptied : List ℕ
-      Emptied = set M (state_at cap a.node) empty_state
+      abbrev emptied_nodes : List ℕ
+      emptied_nodes = set M (state_at cap a.node) empty_state
 
       childless : State cap pcap base M P (root u + 1) (inner_p a.node no_kid) (root u ∷ fs) (w.context.rest ⊕ G)
       childless = subst (λ (ks : Kids). State cap pcap base M P (root u + 1) (inner_p a.node ks) (root u ∷ fs) (w.context.rest ⊕ G)) z freed-state
 
-      emptied : State cap pcap base Emptied P (root u + 1) (w.context.put (leaf_p a.node [])) (root u ∷ fs) G
+      emptied : State cap pcap base emptied_nodes P (root u + 1) (w.context.put (leaf_p a.node [])) (root u ∷ fs) G
       emptied = go-out cap pcap base small bytes_of p w (leaf_p a.node []) refl (leaf-state childless)
 
       gone : remove bytes_of j p (tree parent) ≡ leaf []
       gone = left ∙ rw z (shrunk-last (byte_at bytes_of j p) (children_of a.kids) (spot-has cap pcap base small a.spot u a.here))
 
-      goes_on : UpDone cap pcap base bytes_of p Emptied P t parent (root u ∷ fs) G (prune_up Emptied cap way j a.node a.above (root u + 1)) →
+      goes_on : UpDone cap pcap base bytes_of p emptied_nodes P t parent (root u ∷ fs) G (prune_up emptied_nodes cap way j a.node a.above (root u + 1)) →
           UpDone cap pcap base bytes_of p N P t u fs G (prune_up N cap way (suc j) (root u) s free)
       unfolding nodes free_child
       goes_on d =
@@ -206,5 +206,5 @@ module _ {cap pcap base : ℕ} (small : cap ≤ most_nodes) (bytes_of : ℕ → 
           State cap pcap base N P free ((to j (inner_p l.node l.kids) l.above l.linked).context.put (leaf_p l.node [])) fs G →
           UpDone cap pcap base bytes_of p N P t (inner_p l.node l.kids) fs G (prune_up N cap way j l.node l.above free)) →
           UpDone cap pcap base bytes_of p N P t u fs G (prune_up N cap way (suc j) (root u) s free)
-      go no_kid z more = goes_on l e st z (more (gone l e st z) (Emptied l e st z) P (root u + 1) (root u ∷ fs) G (emptied l e st z))
+      go no_kid z more = goes_on l e st z (more (gone l e st z) (emptied_nodes l e st z) P (root u + 1) (root u ∷ fs) G (emptied l e st z))
       go (kid b v ks) z more = stops l e st b v ks z

@@ -11,7 +11,7 @@ use lib.Bits.{bit_and, bit_or, and_step, and_self}
 use lib.ListN.{length, get_or, set, length-map, get_or-map}
 use lib.Count
 use mir.Val.{bool_byte}
-use Rattle.words.specs.Bits.{bit, with_bit, rising, bits_of, lowest, ones, with_flag}
+use Rattle.words.specs.Bits.{bit, with_bit, rising, bits_of, lowest, with_flag}
 use Rattle.words.proofs.Bits.{digit, bit-half, half_lt, with-sum, with-or, with-and, lowest_set}
 use Rattle.words.proofs.Rising.{rising-map}
 
