@@ -7,7 +7,7 @@ use mathlib.Core.List.{List, [], ◌∷◌, map as each}
 use borrow.Author.Tests.{ltb-true}
 use lib.Dec.{ltb}
 use lib.ListN.{length, get_or}
-use Rattle.meaning.specs.Lists.{count, upto}
+use Rattle.meaning.specs.Lists.{upto}
 use Rattle.meaning.specs.Sketch.{block_length}
 use Rattle.meaning.specs.Trie.{Tree}
 use Rattle.meaning.specs.Ledger.{Settings}

@@ -7,7 +7,7 @@ use mathlib.Core.List.{List, [], ◌∷◌, map}
 use lib.ListN.{length, get_or}
 use Rattle.meaning.specs.Lists.{sum}
 use Rattle.meaning.specs.Sketch.{block_length}
-use Rattle.meaning.specs.Trie.{Tree, byte_at, remove, nodes}
+use Rattle.meaning.specs.Trie.{Tree, byte_at, remove}
 use Rattle.meaning.specs.Ledger.{Settings}
 use Rattle.meaning.specs.Forest.{block_bytes, each_from, total_nodes}
 use Rattle.layout.specs.Pages.{next_at}

@@ -1,6 +1,5 @@
 -- A small history whose tables compute, so that no hypothesis of the theorem is empty; and a page added to its tables.
 use mathlib.Core.Path.{◌≡◌, refl}
-use mathlib.Core.Bool.{true}
 use mathlib.Core.List.{List, [], ◌∷◌}
 use Prim.Native.Nat.{ℕ}
 use lib.ListN.{get_or, set, replicate}

@@ -1,5 +1,5 @@
 -- A call's refusal number, by the questions of documents 01 and 02 in their order, and the tables that it leaves.
-use Rattle.std.specs.Prelude.{ℕ, suc, ◌+◌, ◌*◌, Bool, true, cond, ◌&&◌, List, [], ◌∷◌, ◌++◌, map, ltb, leb, length, replicate}
+use Rattle.std.specs.Prelude.{ℕ, suc, ◌*◌, Bool, true, cond, ◌&&◌, List, [], ◌∷◌, ◌++◌, map, ltb, leb, length, replicate}
 use Rattle.meaning.specs.Lists.{onto, upto}
 use Rattle.meaning.specs.Refusal.{Question, ask, first_no}
 use Rattle.meaning.specs.Trie.{Tree}

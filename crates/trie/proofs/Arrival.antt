@@ -12,7 +12,7 @@ use Rattle.layout.specs.Nodes.{most_nodes}
 use Rattle.layout.specs.States.{kind_of}
 use Rattle.layout.specs.declared.nodes.Kind.TheVariants as kind
 use Rattle.layout.proofs.States.{inner-kind}
-use Rattle.children.specs.Heap.{Cells, Holds, node}
+use Rattle.children.specs.Heap.{Cells, Holds}
 use Rattle.children.specs.Places.{find_place}
 use Rattle.children.specs.Phys.{Phys, Kids, root, tree, children_of, first, cells, State, leaf_p, inner_p}
 use Rattle.children.proofs.Leaves.{held-kind}

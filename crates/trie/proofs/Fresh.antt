@@ -4,7 +4,6 @@ use mathlib.Core.Path.{◌≡◌, refl, sym, subst}
 use mathlib.Core.List.{List, [], ◌∷◌}
 use native.Mathlib.Omega.{arith}
 use lib.ListN.{length-set}
-use Rattle.meaning.specs.Trie.{nodes}
 use Rattle.layout.specs.Nodes.{state_at, free_state, inner_state, empty_state, most_nodes}
 use Rattle.layout.specs.States.{next_free}
 use Rattle.trie.specs.declared.leaf.Got.TheVariants.{Node}

@@ -10,7 +10,7 @@ use lib.ListN.{length, get_or}
 use borrow.Author.Tests.{leb-true, le-leb, lt-ltb}
 use Rattle.meaning.specs.Lists.{all}
 use Rattle.meaning.specs.Sketch.{packable}
-use Rattle.meaning.specs.Trie.{Tree, inner, Children, none, child, nodes, nodes_in, pages_in, pages_among}
+use Rattle.meaning.specs.Trie.{Tree, inner, Children, none, child, nodes_in, pages_in, pages_among}
 use Rattle.layout.specs.Nodes.{state_at, inner_state}
 use Rattle.layout.specs.Pages.{is_live}
 use Rattle.children.specs.Heap.{Holds}

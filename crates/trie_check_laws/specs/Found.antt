@@ -1,7 +1,7 @@
 -- What the test of one block's trie finds where it says yes. `bytes_of` are the pages' packed bytes in this block.
 use Rattle.std.specs.Prelude.{ℕ, ◌+◌, ◌<◌, ◌≡◌, Bool, true, cond, List, [], length}
 use Rattle.meaning.specs.Lists.{all}
-use Rattle.meaning.specs.Trie.{nodes, byte_at, pages_in}
+use Rattle.meaning.specs.Trie.{byte_at, pages_in}
 use Rattle.words.specs.Bits.{flag}
 use Rattle.layout.specs.Pages.{is_live}
 use Rattle.children.specs.Heap.{Holds}

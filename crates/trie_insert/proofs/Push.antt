@@ -5,7 +5,6 @@ use mathlib.Core.List.{List, ◌∷◌}
 use mathlib.Core.Bool.{true}
 use native.Mathlib.Omega.{arith}
 use lib.ListN.{length, get_or, set, length-set}
-use Rattle.meaning.specs.Trie.{nodes}
 use Rattle.layout.specs.Nodes.{state_at, leaf_state}
 use Rattle.layout.specs.States.{kind_of}
 use Rattle.layout.specs.Pages.{most_pages}
@@ -14,7 +13,6 @@ use Rattle.children.specs.Heap.{Cells, Heap, node, page, ◌⊕◌}
 use Rattle.children.specs.Phys.{first, page_cells, no_kids, free_cells, cells, State, leaf_p}
 use Rattle.children.proofs.Frame.{Less, less, same-swap, node-write, page-write, nodes-kept, pages-kept}
 use Rattle.children.proofs.Leaves.{held-kind, held-count}
-use Rattle.trie.proofs.Context.{below}
 use Rattle.trie.proofs.Spans.{pages-most}
 use Rattle.trie_insert.specs.Pages.{push_nodes, push_pages, push_page, pushed}
 use Rattle.trie_insert.proofs.Steps.{push-done}

@@ -19,7 +19,7 @@ use Rattle.trie.proofs.Steps.{child-found, child-made}
 use Rattle.children.proofs.Held.{Held, gap, held, onto, answer}
 use Rattle.children.proofs.Spot.{SpotK}
 use Rattle.children.proofs.Spots.{spot-sound}
-use Rattle.trie.proofs.Context.{Context, whole, below, rest, inside, enter, leave, beside}
+use Rattle.trie.proofs.Context.{Context, whole, inside, enter, leave, beside}
 use Rattle.trie.proofs.Fresh.{fresh-state, fresh-is}
 use Rattle.trie_insert.specs.Pages.{push_nodes, push_pages, push_page, After, put_leaf_m, pushed, after}
 use Rattle.trie_insert.proofs.Abstract.{put-skips, put-here, put-new}

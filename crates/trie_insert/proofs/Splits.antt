@@ -4,7 +4,7 @@ use mathlib.Core.Path.{◌≡◌, refl, ap, ◌∙◌, sym}
 use mathlib.Core.List.{List, [], ◌∷◌}
 use native.Mathlib.Omega.{arith}
 use lib.ListN.{length, get_or}
-use Rattle.meaning.specs.Trie.{child, byte_at, put_leaf, split, nodes, nodes_in}
+use Rattle.meaning.specs.Trie.{byte_at, put_leaf, split, nodes_in}
 use Rattle.layout.specs.Nodes.{most_nodes}
 use Rattle.trie.specs.declared.leaf.Got.TheVariants.{Node}
 use Rattle.blocks.specs.declared.Level.{Level}

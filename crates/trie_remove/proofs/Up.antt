@@ -6,7 +6,7 @@ use mathlib.Core.Path.{◌≡◌, refl, ap, ◌∙◌, sym, subst}
 use mathlib.Core.Bool.{true, false}
 use mathlib.Core.List.{List, [], ◌∷◌}
 use lib.ListN.{length, set, length-set}
-use Rattle.meaning.specs.Trie.{leaf, inner, none, shrunk, byte_at, remove, nodes, nodes_in}
+use Rattle.meaning.specs.Trie.{leaf, inner, shrunk, byte_at, remove, nodes, nodes_in}
 use Rattle.layout.specs.Nodes.{state_at, inner_state, empty_state, most_nodes}
 use Rattle.children.specs.Heap.{Cells, node, ◌⊕◌}
 use Rattle.children.specs.Order.{bare}

@@ -1,5 +1,5 @@
 -- Computed: b 2, m 4, one block, threshold 1, four nodes and two pages (document 01, "Small sums"). Page 0, 0 1 2 3, stands in the root.
-use Prim.Native.Nat.{ℕ, ◌+◌}
+use Prim.Native.Nat.{ℕ}
 use mathlib.Core.Path.{◌≡◌, refl}
 use mathlib.Core.List.{List, [], ◌∷◌, ◌++◌}
 use lib.ListN.{replicate}

@@ -17,7 +17,7 @@ use Rattle.descent.proofs.Steps.{drawn-one-more}
 use Rattle.walk_steps.specs.declared.place.Place.{Place}
 use Rattle.walk_steps.specs.Given.{Given, leaf_from, drawn_from}
 use Rattle.walk_steps.specs.Place.{with_nodes}
-use Rattle.walk.specs.declared.batch.Rest.TheVariants.{More, Done, Broken}
+use Rattle.walk.specs.declared.batch.Rest.TheVariants.{More, Done}
 use Rattle.walk.specs.declared.batch.Batch.{Batch}
 use Rattle.walk.specs.Leaves.{Leaves, leaves, broken, before, spend}
 use Rattle.walk.specs.Walk.{leaf_then}

@@ -1,4 +1,4 @@
--- `rows_of` is `rows_of`.
+-- The function `rows_of` is the definition `rows_of`.
 use native.Mathlib.Omega.{arith}
 use Rattle.sketch.proofs.BlockEnds.{block-ends}
 use Rattle.blocks.proofs.rows_of.Goals as goal

@@ -1,4 +1,4 @@
--- `shape_of` is `shape_of`.
+-- The function `shape_of` is the definition `shape_of`.
 use Prim.Native.Nat.{◌≤◌}
 use native.Mathlib.Omega.{arith}
 use Rattle.comparison.proofs.Shapes.{bytes-some}

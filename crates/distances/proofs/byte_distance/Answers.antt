@@ -1,4 +1,4 @@
--- `byte_distance` is `byte_distance`: the entry of `distance_table` at b's row and v.
+-- The function `byte_distance` is the definition `byte_distance`: the entry of `distance_table` at b's row and v.
 use mathlib.Core.Path.{◌≡◌, ap₂, ◌∙◌}
 use Prim.Native.Nat.{ℕ, ◌+◌, ◌*◌, ◌-◌, ◌/◌, ◌%◌, ◌<◌}
 use native.Mathlib.Omega.{arith}

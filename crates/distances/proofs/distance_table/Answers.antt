@@ -1,4 +1,4 @@
--- `distance_table` is `distance_table`: one computed test over the whole table.
+-- The function `distance_table` is the definition `distance_table`: one computed test over the whole table.
 use mathlib.Core.Path.{refl}
 use Rattle.meaning.specs.Lists.{count, upto, from}
 use Rattle.meaning.specs.Sketch.{byte_distance, group, per_byte}

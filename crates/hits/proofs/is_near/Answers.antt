@@ -1,4 +1,4 @@
--- `is_near` is `is_near`.
+-- The function `is_near` is the definition `is_near`.
 use mathlib.Core.Path.{sym, ◌∙◌}
 use borrow.Author.Tests.{not-true}
 use Rattle.hits.proofs.Hit.{near-all}

@@ -1,4 +1,4 @@
--- `probe_of` is `probe_of`. The query's symbols are in range, so that its signature is that of the query itself.
+-- The function `probe_of` is the definition `probe_of`. The query's symbols are in range, so that its signature is that of the query itself.
 use mathlib.Core.Path.{ap, ◌∙◌}
 use Prim.Native.Nat.{◌*◌}
 use native.Mathlib.Omega.{arith}

@@ -1,4 +1,4 @@
--- `distinct_bytes` is `distinct_bytes`: each turn takes one page of the chain.
+-- The function `distinct_bytes` is the definition `distinct_bytes`: each turn takes one page of the chain.
 use mathlib.Core.Path.{◌∙◌}
 use mathlib.Core.Bool.{true, false, not}
 use Prim.Native.Nat.{◌<◌}

@@ -1,4 +1,4 @@
--- `shows_opening` is `shows_opening`.
+-- The function `shows_opening` is the definition `shows_opening`.
 use native.Mathlib.Omega.{arith}
 use Rattle.layout.specs.Settings.{settings_of}
 use Rattle.settings.proofs.Tests.{shows-tests}

@@ -1,4 +1,4 @@
--- `signature_distance` is `signature_distance`: each entry of the table is the distance of one byte.
+-- The function `signature_distance` is the definition `signature_distance`: each entry of the table is the distance of one byte.
 use mathlib.Core.Path.{◌≡◌}
 use Prim.Native.Nat.{ℕ, ◌+◌, ◌≤◌}
 use native.Mathlib.Omega.{arith}

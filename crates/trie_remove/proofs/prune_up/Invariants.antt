@@ -1,4 +1,4 @@
--- `prune_up` is `prune_up`: each turn takes one step of the definition.
+-- The function `prune_up` is the definition `prune_up`: each turn takes one step of the definition.
 use Prim.Native.Nat.{◌<◌, ◌≤◌}
 use mathlib.Core.Path.{◌≡◌}
 use lib.ListN.{length}

@@ -1,4 +1,4 @@
--- `visit_child` is `visit_child`, by the mark and the kind of the child.
+-- The function `visit_child` is the definition `visit_child`, by the mark and the kind of the child.
 use Rattle.trie_visit.proofs.Visits.{child-marked, child-damaged, child-inner, child-deep, child-empty, child-leaf}
 use Rattle.trie_visit.proofs.visit_child.Goals as goal
 

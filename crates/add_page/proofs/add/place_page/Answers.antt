@@ -1,4 +1,4 @@
--- `place_page` is `place_page`.
+-- The function `place_page` is the definition `place_page`.
 use mathlib.Core.Path.{◌∙◌}
 use mathlib.Core.List.{[]}
 use Rattle.promises.specs.Tables.{Tables, tables}

@@ -1,4 +1,4 @@
--- `put_page` is `put_page`.
+-- The function `put_page` is the definition `put_page`.
 use native.Mathlib.Omega.{arith}
 use mathlib.Core.List.{[]}
 use borrow.Author.Rules.{rules}

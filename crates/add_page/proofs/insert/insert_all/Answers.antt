@@ -1,4 +1,4 @@
--- `insert_all` is `insert_all`.
+-- The function `insert_all` is the definition `insert_all`.
 use native.Mathlib.Omega.{arith}
 use borrow.Author.Rules.{rules}
 use Rattle.add_laws.proofs.Inserts.{insert-start, insert-done, insert-more, insert-full, insert-failed}

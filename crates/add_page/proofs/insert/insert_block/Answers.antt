@@ -1,4 +1,4 @@
--- `insert_block` is `insert_block`.
+-- The function `insert_block` is the definition `insert_block`.
 use native.Mathlib.Omega.{arith}
 use mathlib.Core.Path.{sym, ◌∙◌}
 use lib.Seq.{length-take-le}

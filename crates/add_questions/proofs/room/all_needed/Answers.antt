@@ -1,4 +1,4 @@
--- `all_needed` is `all_needed`.
+-- The function `all_needed` is the definition `all_needed`.
 use Prim.Native.Nat.{◌≤◌}
 use native.Mathlib.Omega.{arith}
 use Rattle.add_laws.proofs.Rooms.{needs-start, needs-done, needs-more, needs-broken, needs-few}

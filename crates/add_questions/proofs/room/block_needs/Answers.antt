@@ -1,4 +1,4 @@
--- `block_needs` is `block_needs`.
+-- The function `block_needs` is the definition `block_needs`.
 use native.Mathlib.Omega.{arith}
 use mathlib.Core.Path.{sym, ◌∙◌}
 use lib.Seq.{length-take-le}

@@ -1,4 +1,4 @@
--- `row_byte` is `row_byte`: at each turn v is the byte of the symbols from place i on.
+-- The function `row_byte` is the definition `row_byte`: at each turn v is the byte of the symbols from place i on.
 use native.Mathlib.Omega.{arith}
 use Rattle.blocks.proofs.Bytes.{row-turn, row_fits, row_done, row_last}
 use Rattle.blocks.proofs.packed.row_byte.Goals as goal

@@ -1,4 +1,4 @@
--- `is_free` is `is_free`, by what the node is.
+-- The function `is_free` is the definition `is_free`, by what the node is.
 use mathlib.Core.Path.{sym, ◌∙◌}
 use Rattle.check_tables.proofs.FreeSteps.{free-bare, inner-used, leaf-used}
 use Rattle.check_tables.proofs.free.is_free.Goals as goal

@@ -1,4 +1,4 @@
--- `test_free` is `test_free`.
+-- The function `test_free` is the definition `test_free`.
 use native.Mathlib.Omega.{arith}
 use borrow.Author.Rules.{rules}
 use Rattle.check_tables.proofs.FreeSteps.{chain-end, chain-spent, chain-broken, chain-used, chain_next}

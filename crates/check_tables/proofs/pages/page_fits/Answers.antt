@@ -1,4 +1,4 @@
--- `page_fits` is `page_fits`.
+-- The function `page_fits` is the definition `page_fits`.
 use Prim.Native.Nat.{◌≤◌, ◌+◌, ◌*◌}
 use native.Mathlib.Omega.{arith}
 use mathlib.Core.Path.{ap, ◌∙◌}

@@ -1,4 +1,4 @@
--- `test_pages` is `test_pages`.
+-- The function `test_pages` is the definition `test_pages`.
 use native.Mathlib.Omega.{arith}
 use Rattle.layout.specs.Header.{bare}
 use Rattle.layout.proofs.Words.{page-inside}

@@ -1,4 +1,4 @@
--- `test_windows` is `test_windows`.
+-- The function `test_windows` is the definition `test_windows`.
 use native.Mathlib.Omega.{arith}
 use borrow.Author.Rules.{rules}
 use Rattle.check_tries.proofs.WindowSteps.{windows-start, windows-done, windows-past, windows-no, windows-next}

@@ -1,4 +1,4 @@
--- `next_child` is `next_child`, a test at a time.
+-- The function `next_child` is the definition `next_child`, a test at a time.
 use borrow.Author.Tests.{lt-ltb, le-ltb, eq-eqb, ne_eqb}
 use Rattle.children.specs.Order.{next_child}
 use Rattle.children.proofs.order.next_child.Goals as goal

@@ -1,4 +1,4 @@
--- `step_along` is `step_along`, a test at a time.
+-- The function `step_along` is the definition `step_along`, a test at a time.
 use mathlib.Core.Path.{refl, sym}
 use native.Mathlib.Omega.{arith}
 use Rattle.children.proofs.Ordered.{along-outside, along-low, along-high, along-child}

@@ -1,4 +1,4 @@
--- `find_place` is `find_place`: each turn takes one step of the definition.
+-- The function `find_place` is the definition `find_place`: each turn takes one step of the definition.
 use native.Mathlib.Omega.{arith}
 use Rattle.children.proofs.Steps.{place_out, place_none, place-broken, place-go, place_found, place-past}
 use Rattle.children.proofs.place.find_place.Goals as goal

@@ -1,4 +1,4 @@
--- `remove_all` is `remove_all`.
+-- The function `remove_all` is the definition `remove_all`.
 use native.Mathlib.Omega.{arith}
 use mathlib.Core.Path.{refl}
 use borrow.Author.Rules.{rules}

@@ -1,4 +1,4 @@
--- `remove_block` is `remove_block`.
+-- The function `remove_block` is the definition `remove_block`.
 use native.Mathlib.Omega.{arith}
 use Prim.Native.Nat.{ℕ}
 use mathlib.Core.Path.{◌≡◌, sym, ◌∙◌}

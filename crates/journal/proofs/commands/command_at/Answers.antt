@@ -1,4 +1,4 @@
--- `command_at` is `command_at`: each return is one letter's command.
+-- The function `command_at` is the definition `command_at`: each return is one letter's command.
 use mathlib.Core.Path.{ap, ◌∙◌}
 use Rattle.journal.proofs.Steps.{open_at, add_at, drop_at, search-at, change-at}
 use Rattle.journal.specs.declared.commands.Command.TheVariants.{Register}

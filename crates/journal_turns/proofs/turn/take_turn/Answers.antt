@@ -38,8 +38,8 @@ returns-in-Refused-clause-line_after c =
     let T = tables args.settings.now args.nodes.now args.pages.now args.sketches.now args.working.now in
     let put = c.refusal_line.ensures in
     (take-refused
-      args.bytes.now _ _ T (output args.found.now args.distances.now) args.at args.m _ put.upper_bound c.in-Refused.number (stepped read c.in-Refused.is)
-      put.out_after put.value).1.0
+    args.bytes.now _ _ T (output args.found.now args.distances.now) args.at args.m _ put.upper_bound c.in-Refused.number (stepped read c.in-Refused.is)
+    put.out_after put.value).1.0
 
 pub returns-in-End-clause-turned : goal.returns-in-End-clause-turned
 returns-in-End-clause-turned c =

@@ -1,4 +1,4 @@
--- `summary_words` is `summary_words`.
+-- The function `summary_words` is the definition `summary_words`.
 use native.Mathlib.Omega.{arith}
 use Rattle.layout.specs.Header.{bare}
 use Rattle.layout.proofs.Sizes.{map-most}

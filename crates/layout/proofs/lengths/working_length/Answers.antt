@@ -1,4 +1,4 @@
--- `working_length` is `working_length`.
+-- The function `working_length` is the definition `working_length`.
 use native.Mathlib.Omega.{arith}
 use Rattle.layout.specs.Header.{bare}
 use Rattle.layout.proofs.Sizes.{map-most, summary-most}

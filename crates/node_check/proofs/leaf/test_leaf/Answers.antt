@@ -1,4 +1,4 @@
--- `test_leaf` is `test_leaf`, by what its pages leave.
+-- The function `test_leaf` is the definition `test_leaf`, by what its pages leave.
 use Rattle.node_check.proofs.LeafSteps.{leaf-even, leaf-uneven, leaf-failed}
 use Rattle.node_check.proofs.leaf.test_leaf.Goals as goal
 

@@ -1,4 +1,4 @@
--- `test_pages` is `test_pages`: each turn takes one step of the definition.
+-- The function `test_pages` is the definition `test_pages`: each turn takes one step of the definition.
 use Prim.Native.Nat.{◌+◌, ◌-◌}
 use mathlib.Core.Path.{◌∙◌, sym}
 use native.Mathlib.Omega.{arith}

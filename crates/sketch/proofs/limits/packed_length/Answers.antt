@@ -1,4 +1,4 @@
--- `packed_length` is `packed_length`.
+-- The function `packed_length` is the definition `packed_length`.
 use native.Mathlib.Omega.{arith}
 use Rattle.sketch.proofs.Width.{z-pos, z-most}
 use Rattle.sketch.proofs.limits.packed_length.Goals as goal

@@ -1,4 +1,4 @@
--- `all_packable` is `all_packable`: the bytes from place k on decide it.
+-- The function `all_packable` is the definition `all_packable`: the bytes from place k on decide it.
 use mathlib.Core.Path.{sym, ◌∙◌}
 use native.Mathlib.Omega.{arith}
 use Rattle.meaning.specs.Sketch.{packed_length}

@@ -1,4 +1,4 @@
--- `pack_byte` is `pack_byte`: at each turn v is the byte of the symbols from place i on.
+-- The function `pack_byte` is the definition `pack_byte`: at each turn v is the byte of the symbols from place i on.
 use mathlib.Core.Path.{◌≡◌}
 use Prim.Native.Nat.{ℕ, ◌+◌, ◌-◌, ◌*◌, ◌%◌, ◌^◌, ◌<◌}
 use native.Mathlib.Omega.{arith}

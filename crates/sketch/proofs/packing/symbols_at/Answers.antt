@@ -1,4 +1,4 @@
--- `symbols_at` is `symbols_at`.
+-- The function `symbols_at` is the definition `symbols_at`.
 use Prim.Native.Nat.{◌*◌, ◌<◌}
 use native.Mathlib.Omega.{arith}
 use Rattle.sketch.proofs.Width.{byte-begins}

@@ -1,4 +1,4 @@
--- `blank` is `blank`: the symbols from place i on decide it.
+-- The function `blank` is the definition `blank`: the symbols from place i on decide it.
 use mathlib.Core.Path.{sym, ◌∙◌}
 use native.Mathlib.Omega.{arith}
 use Rattle.sketch.proofs.Places.{blank-stop, blank-more, blank-end}

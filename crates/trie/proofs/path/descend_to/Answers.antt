@@ -1,4 +1,4 @@
--- `descend_to` is `descend_to`: each turn takes one step of the definition.
+-- The function `descend_to` is the definition `descend_to`: each turn takes one step of the definition.
 use Prim.Native.Nat.{◌<◌}
 use native.Mathlib.Omega.{arith}
 use lib.ListN.{length}

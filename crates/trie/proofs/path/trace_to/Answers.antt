@@ -3,7 +3,6 @@ use Prim.Native.Nat.{◌<◌}
 use native.Mathlib.Omega.{arith}
 use borrow.Author.Rules.{rules}
 use lib.ListN.{length}
-use Rattle.trie.specs.Descend.{noted}
 use Rattle.trie.proofs.Descends.{desc-leaf, desc-child, desc-gap, desc-nowhere}
 use Rattle.trie.proofs.Inside.{child-node, child-slot, child-level}
 use Rattle.trie.proofs.Notes.{passed_on, note-on}

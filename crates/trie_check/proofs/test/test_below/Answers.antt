@@ -1,4 +1,4 @@
--- `test_below` is `test_below`: each turn takes one step of the machine.
+-- The function `test_below` is the definition `test_below`: each turn takes one step of the machine.
 use mathlib.Core.Path.{refl, sym, ◌∙◌}
 use native.Mathlib.Omega.{arith}
 use Rattle.trie_check.proofs.Stack.{safe-start, safe-chain, safe-past, safe-down, safe-up}

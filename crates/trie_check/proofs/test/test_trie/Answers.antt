@@ -1,4 +1,4 @@
--- `test_trie` is `test_trie`, by the mark and the kind of the root.
+-- The function `test_trie` is the definition `test_trie`, by the mark and the kind of the root.
 use mathlib.Core.Path.{◌∙◌}
 use native.Mathlib.Omega.{arith}
 use Rattle.trie_check.proofs.Turns.{trie-spent, trie-marked, trie-damaged, trie-inner, trie-some, trie-failed}

@@ -1,4 +1,4 @@
--- `leaf_needs` is `leaf_needs`.
+-- The function `leaf_needs` is the definition `leaf_needs`.
 use native.Mathlib.Omega.{arith}
 use Rattle.blocks.proofs.Bytes.{level-path}
 use Rattle.trie_room.proofs.Ways.{leaf-splits, leaf-stays}

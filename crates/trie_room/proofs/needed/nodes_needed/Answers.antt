@@ -1,4 +1,4 @@
--- `nodes_needed` is `nodes_needed`.
+-- The function `nodes_needed` is the definition `nodes_needed`.
 use Rattle.trie_room.specs.Needs.{needed_at, nodes_needed}
 use mathlib.Core.Path.{ap, ◌∙◌}
 use Rattle.trie_room.proofs.needed.nodes_needed.Goals as goal
