@@ -34,7 +34,7 @@ export HELP
 .PHONY: help run test prove edits picture program library archives check-rust fuzz bench plot install places uninstall need-cc need-tests
 # two runs of rt would wait for one another
 .NOTPARALLEL:
-# a program whose run failed is not left behind
+# what a failed command began is not left behind
 .DELETE_ON_ERROR:
 
 help:
