@@ -76,7 +76,8 @@ PARTS = $(EXPORTS:%=target/staticlib/lib%.a)
 library: $(LIBRARY)
 library archives: TOOLS = ar $(firstword $(CC))
 
-# one run of rt proves all crates, and leaves the program and the archives in their folders out
+# one run of rt proves all crates, and leaves the program and the archives in their folders out; until it passes those of before stay
+.PRECIOUS: $(PROGRAM) $(PARTS)
 $(PROGRAM) $(PARTS) &: $(SOURCES)
 	@.ci/need rt $(TOOLS)
 	@$(PROGRESS) target/log/build rt all test
