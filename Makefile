@@ -32,9 +32,9 @@ endef
 export HELP
 
 .PHONY: help run test prove edits picture program library archives check-rust fuzz bench plot install places uninstall need-cc need-tests
-# two runs of rt must not write to target/ at a time
+# two runs of rt would wait for one another
 .NOTPARALLEL:
-# a program whose run failed is not left behind
+# what a failed command began is not left behind
 .DELETE_ON_ERROR:
 
 help:
@@ -55,35 +55,39 @@ test: need-rt need-ar need-cc need-tests
 	@.ci/run
 
 prove: need-rt
-	@$(PROGRESS) target/prove.log rt check
+	@$(PROGRESS) target/log/prove rt all check
 
 edits: need-rt
 	@[ -n '$(NAME)' ] || { echo 'make edits NAME=crate: which crate?' >&2; exit 1; }
-	@.ci/edits $(NAME)
+	@$(PROGRESS) target/log/edits rt must-fail $(NAME)
 
 picture: need-python3
 	@docs/picture
 	@docs/definitions
 
-SOURCES := crates.txt $(shell find crates -name '*.rt' -o -name '*.antt')
+SOURCES := crates.txt $(shell find crates -name out -prune -o \( -name '*.rt' -o -name '*.antt' \) -print)
 PROGRAM = target/bin/vetchdawn
 program: $(PROGRAM)
-# archives has ALSO: the crates of both are proved in one run
-$(PROGRAM): $(SOURCES)
-	@.ci/need rt $(if $(ALSO),ar $(firstword $(CC)))
-	@$(PROGRESS) target/program.log rt check vetchdawn $(ALSO)
-	@touch $@
 
 # what the proved crates offer to C, each as an archive, and all of it in one
-ARCHIVES = version sketch_calls journal_form capi_changes capi_readings
+EXPORTS = version sketch_calls_c journal_form_c capi_changes capi_readings
 LIBRARY = target/staticlib/libvetchdawn.a
+PARTS = $(EXPORTS:%=target/staticlib/lib%.a)
 library: $(LIBRARY)
-$(LIBRARY): $(SOURCES)
-	@.ci/need rt ar $(firstword $(CC))
-	@$(PROGRESS) target/archives.log rt check $(ARCHIVES)
-	@printf '%s\n' $(ARCHIVES) | $(PROGRESS) target/staticlib.log xargs -n 1 -P 2 .ci/archive
+library archives: TOOLS = ar $(firstword $(CC))
+
+# one run of rt proves all crates, and leaves the program and the archives in their folders out; until it passes those of before stay
+.PRECIOUS: $(PROGRAM) $(PARTS)
+$(PROGRAM) $(PARTS) &: $(SOURCES)
+	@.ci/need rt $(TOOLS)
+	@$(PROGRESS) target/log/build rt all test
+	@install -D crates/vetchdawn/out/vetchdawn $(PROGRAM)
+	@install -D -m 644 -t target/staticlib $(foreach name,$(EXPORTS),crates/$(name)/out/lib$(name).a)
+
+$(LIBRARY): $(PARTS)
+	@.ci/need ar
 	@rm -f $@
-	@{ echo create $@; for name in $(ARCHIVES); do echo addlib target/staticlib/lib$$name.a; done; echo save; } | ar -M
+	@{ echo create $@; for part in $(PARTS); do echo addlib $$part; done; echo save; } | ar -M
 
 # the same as a shared library; the header has the version
 VERSION := $(shell awk '$$2 ~ /^VETCHDAWN_VERSION_(MAJOR|MINOR|PATCH)$$/ { printf "%s%s", dot, $$3; dot = "." }' include/vetchdawn.h)
@@ -94,14 +98,13 @@ $(SHARED): $(LIBRARY) include/vetchdawn.h vetchdawn.map
 	@mkdir -p $(@D)
 	@$(CC) $(LDFLAGS) -shared -o $@ -Wl,-soname,$(SONAME) -Wl,--version-script=vetchdawn.map -Wl,--no-undefined -Wl,-z,text \
 	  -Wl,-z,relro -Wl,-z,now -Wl,--whole-archive $(LIBRARY) -Wl,--no-whole-archive
-	@ln -sfn $(@F) $(@D)/$(SONAME)
-	@ln -sfn $(SONAME) $(@D)/libvetchdawn.so
+	@for name in $(SONAME) libvetchdawn.so; do cp $@ $(@D)/$$name; done
 
-archives: ALSO = $(ARCHIVES)
 archives: $(PROGRAM) $(LIBRARY) $(SHARED)
 
+# some tests make links, which rt takes nowhere below the top: their folder is elsewhere, and goes with them
 check-rust: need-tests archives
-	@$(CARGO) test $(TESTS) --lib --test '*'
+	@export TMPDIR=$$(mktemp -d) && trap 'rm -rf "$$TMPDIR"' EXIT && $(CARGO) test $(TESTS) --lib --test '*'
 
 # the gate has ten seconds of it
 fuzz: need-cargo library

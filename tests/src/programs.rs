@@ -1,4 +1,5 @@
 //! Commands and programs in C that tests run.
+use std::fs;
 use std::io::Write;
 use std::path::{Path, PathBuf};
 use std::process::{Command, Output};
@@ -6,6 +7,14 @@ use std::process::{Command, Output};
 /// The repository.
 pub fn root() -> PathBuf {
     Path::new(env!("CARGO_MANIFEST_DIR")).parent().unwrap().to_path_buf()
+}
+
+/// An empty folder of this name, outside the repository: below its top `rt` takes no link and no second list of crates.
+pub fn scratch(name: &str) -> PathBuf {
+    let folder = std::env::temp_dir().join(format!("vetchdawn{}", root().display()).replace('/', "-")).join(name);
+    let _ = fs::remove_dir_all(&folder);
+    fs::create_dir_all(&folder).unwrap();
+    folder
 }
 
 pub fn ended(command: &mut Command) -> Output {

@@ -32,8 +32,9 @@ fn in_c(parameter: &str) -> Vec<String> {
     }
 }
 
+/// But for what `rt` makes, in folders `out`.
 fn sources(folder: &Path, found: &mut Vec<PathBuf>) {
-    for entry in fs::read_dir(folder).unwrap().map(Result::unwrap) {
+    for entry in fs::read_dir(folder).unwrap().map(Result::unwrap).filter(|entry| entry.file_name() != "out") {
         if entry.file_type().unwrap().is_dir() {
             sources(&entry.path(), found);
         } else if entry.path().extension().is_some_and(|ending| ending == "rt") {

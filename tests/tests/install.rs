@@ -2,12 +2,12 @@
 //! and that `make uninstall` leaves nothing.
 mod installed;
 
-use installed::{compile_server, install, installed, make, scratch, SERVER};
+use installed::{compile_server, install, installed, make, SERVER};
 use std::collections::BTreeSet;
 use std::fs;
 use std::path::{Path, PathBuf};
 use std::process::Command;
-use vetchdawn_tests::programs::{done, ended, root, there};
+use vetchdawn_tests::programs::{done, ended, root, scratch, there};
 
 const PYTHON: &str = "\
 page 7 again: refused by question 9
@@ -311,9 +311,9 @@ fn places_are_asked_for_first() {
     assert!(told(&format!("PREFIX={}", root().display())).starts_with("PREFIX is this repository"));
 }
 
-/// The times of all that is built.
+/// The times of all that is built, and of what was kept of runs of `rt`.
 fn times() -> Vec<(String, std::time::SystemTime)> {
-    let folders = ["target/bin", "target/lib", "target/staticlib", "target/stamp", "target/log"].map(|folder| root().join(folder));
+    let folders = ["target/bin", "target/lib", "target/staticlib", "target/log"].map(|folder| root().join(folder));
     folders.iter().flat_map(|folder| files(folder).into_iter().map(|name| folder.join(name))).map(|path| (path.display().to_string(), fs::symlink_metadata(path).unwrap().modified().unwrap())).collect()
 }
 

@@ -2,9 +2,9 @@
 //! under valgrind.
 mod installed;
 
-use installed::{compile_server, installed, scratch, SERVER};
+use installed::{compile_server, installed, SERVER};
 use std::process::Command;
-use vetchdawn_tests::programs::{done, watched};
+use vetchdawn_tests::programs::{done, scratch, watched};
 
 #[test]
 fn server_in_c() {

@@ -3,7 +3,7 @@
 use std::path::{Path, PathBuf};
 use std::process::Command;
 use std::sync::{Mutex, OnceLock};
-use vetchdawn_tests::programs::{compile, done, root};
+use vetchdawn_tests::programs::{compile, done, root, scratch};
 
 /// What examples/server.c prints.
 pub const SERVER: &str = "\
@@ -15,14 +15,6 @@ Boris, no longer in the reading room, within 1: none
 Anna, the nearest six dropped, within 2: 28:1 29:1 31:1 32:1 22:2 23:2 25:2 26:2
 the store is sound
 ";
-
-/// An empty folder of this name.
-pub fn scratch(name: &str) -> PathBuf {
-    let folder = Path::new(env!("CARGO_TARGET_TMPDIR")).join(name);
-    let _ = std::fs::remove_dir_all(&folder);
-    std::fs::create_dir_all(&folder).unwrap();
-    folder
-}
 
 /// `make` in the repository, without what an outer `make` hands on.
 pub fn make(words: &[&str]) -> Command {
