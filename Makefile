@@ -6,6 +6,8 @@ JOURNAL = crates/vetchdawn/stdin
 PREFIX = /usr/local
 LIBDIR = lib
 
+# how many crates are proved at a time: one a processor, with 4 GB for each
+AT_ONCE = $(shell awk '/^processor/ { n++ } /^MemAvailable/ { m = int($$2 / 4000000) } END { print m < 1 ? 1 : m < n ? m : n }' /proc/cpuinfo /proc/meminfo)
 PROGRESS = .ci/progress
 # the seconds that PROGRESS shows are counted from here
 ifndef BEGAN
@@ -55,7 +57,7 @@ test: need-rt need-ar need-cc need-tests
 	@.ci/run
 
 prove: need-rt
-	@$(PROGRESS) target/log/prove rt all check
+	@$(PROGRESS) target/log/prove rt all check --jobs $(AT_ONCE)
 
 edits: need-rt
 	@[ -n '$(NAME)' ] || { echo 'make edits NAME=crate: which crate?' >&2; exit 1; }
@@ -80,7 +82,7 @@ library archives: TOOLS = ar $(firstword $(CC))
 .PRECIOUS: $(PROGRAM) $(PARTS)
 $(PROGRAM) $(PARTS) &: $(SOURCES)
 	@.ci/need rt $(TOOLS)
-	@$(PROGRESS) target/log/build rt all test
+	@$(PROGRESS) target/log/build rt all test --jobs $(AT_ONCE)
 	@install -D crates/vetchdawn/out/vetchdawn $(PROGRAM)
 	@install -D -m 644 -t target/staticlib $(foreach name,$(EXPORTS),crates/$(name)/out/lib$(name).a)
 
