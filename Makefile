@@ -6,8 +6,8 @@ JOURNAL = crates/vetchdawn/stdin
 PREFIX = /usr/local
 LIBDIR = lib
 
-# how many crates are proved at a time: one a processor, with 4 GB for each
-AT_ONCE = $(shell awk '/^processor/ { n++ } /^MemAvailable/ { m = int($$2 / 4000000) } END { print m < 1 ? 1 : m < n ? m : n }' /proc/cpuinfo /proc/meminfo)
+# how many crates are proved at a time: one a processor, with 2 GB for each
+AT_ONCE = $(shell awk '/^processor/ { n++ } /^MemAvailable/ { m = int($$2 / 2000000) } END { print m < 1 ? 1 : m < n ? m : n }' /proc/cpuinfo /proc/meminfo)
 PROGRESS = .ci/progress
 # the seconds that PROGRESS shows are counted from here
 ifndef BEGAN
