@@ -78,13 +78,12 @@ PARTS = $(EXPORTS:%=target/staticlib/lib%.a)
 library: $(LIBRARY)
 library archives: TOOLS = ar $(firstword $(CC))
 
-# one run of rt proves all crates, and leaves the program and the archives in their folders out; until it passes those of before stay
+# all crates are proved in one run, and these are built; until that is through those of before stay
 .PRECIOUS: $(PROGRAM) $(PARTS)
 $(PROGRAM) $(PARTS) &: $(SOURCES)
 	@.ci/need rt $(TOOLS)
-	@$(PROGRESS) target/log/build rt all test --jobs $(AT_ONCE)
-	@install -D crates/vetchdawn/out/vetchdawn $(PROGRAM)
-	@install -D -m 644 -t target/staticlib $(foreach name,$(EXPORTS),crates/$(name)/out/lib$(name).a)
+	@$(PROGRESS) target/log/proofs rt all check --jobs $(AT_ONCE)
+	@$(PROGRESS) target/log/build .ci/build $(EXPORTS)
 
 $(LIBRARY): $(PARTS)
 	@.ci/need ar
