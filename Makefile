@@ -17,8 +17,8 @@ endif
 define HELP
 make help                      this list; minutes are from nothing, on two cores, those of the gate on four
 make run              11 min   the program, run on an example, or on another journal: JOURNAL=file
-make program          11 min   the program alone
-make library          11 min   the archive alone
+make program          11 min   the program; the archives are built with it
+make library          11 min   the archive; the program is built with it
 make archives         11 min   the program, the archive and the shared library: all that install puts in place
 make install          11 min   archives, put in place: PREFIX=/usr/local LIBDIR=lib, and DESTDIR=folder for packages
 make uninstall                 removes what install put there; with the same PREFIX and DESTDIR
