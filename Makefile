@@ -15,16 +15,16 @@ export BEGAN := $(shell date +%s)
 endif
 
 define HELP
-make help                      this list; minutes are from nothing, on two cores, those of the gate on four
-make run              11 min   the program, run on an example, or on another journal: JOURNAL=file
-make program          11 min   the program; the archives are built with it
-make library          11 min   the archive; the program is built with it
-make archives         11 min   the program, the archive and the shared library: all that install puts in place
-make install          11 min   archives, put in place: PREFIX=/usr/local LIBDIR=lib, and DESTDIR=folder for packages
+make help                      this list; minutes are from nothing, on four cores
+make run               8 min   the program, run on an example, or on another journal: JOURNAL=file
+make program           8 min   the program; the archives are built with it
+make library           8 min   the archive; the program is built with it
+make archives          8 min   the program, the archive and the shared library: all that install puts in place
+make install           8 min   archives, put in place: PREFIX=/usr/local LIBDIR=lib, and DESTDIR=folder for packages
 make uninstall                 removes what install put there; with the same PREFIX and DESTDIR
-make prove            11 min   proves every crate that has changed
+make prove             7 min   proves every crate that has changed
 make edits NAME=crate          tries the must-fail edits of one crate
-make test             30 min   the gate: every crate proved, the must-fail edits, the program, the tests
+make test             26 min   the gate: every crate proved, the must-fail edits, the program, the tests
 make check-rust                archives, then the tests alone
 make fuzz                      the archive, then five minutes of calls on any tables
 make bench                     the archive, then the figures of docs/BENCHMARKS.md
