@@ -16,6 +16,7 @@ ghost use Rattle.promises.specs.Calls.{OpenPromise};
 
 use fresh_tables::fresh;
 use layout::Header;
+use layout::settings::{LENGTH, MEMBERS, REGISTER};
 use lent::{Index, View};
 use refusals::Refusal;
 
@@ -25,8 +26,7 @@ fn long_enough(h: Header, view: View<'_>, working: &[u32]) -> bool
     requires { HeaderLimits h }
     ensures { result ≡ long_settings (held_with view.entry working.now) && long_for (bare h) (held_with view.entry working.now) (opening (bare h)) }
 {
-    (layout::settings::LENGTH <= view.settings.len())
-        & (entry::long_store(h, view) & entry::long_working(h, working))
+    (LENGTH <= view.settings.len()) & (entry::long_store(h, view) & entry::long_working(h, working))
 }
 
 // The settings table: the header, a register with no pairs, and the free chain's first link.
@@ -38,11 +38,7 @@ fn write_settings(settings: &mut [u32], h: Header, thresholds: &[u16])
     ensures { settings.new ≡ onto (fresh_settings (with_thresholds h thresholds.now)) settings.old }
 {
     settings::write_header(settings, h, thresholds);
-    words::zero_run(
-        settings,
-        layout::settings::MEMBERS,
-        layout::settings::REGISTER,
-    );
+    words::zero_run(settings, MEMBERS, REGISTER);
     settings::set_free_link(settings, fresh::free_link(h.nodes, h.q));
 }
 
