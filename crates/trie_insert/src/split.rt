@@ -9,7 +9,7 @@ use crate::pages::{push_page, put_leaf};
 use blocks::packed::{level_at, page_byte};
 use blocks::{Level, Rows};
 use layout::Block;
-use layout::nodes::{page_count, set_inner};
+use layout::nodes::{State, page_count, set_state};
 use trie::leaf::Got;
 
 // The pages of a chain, each in turn put into the child leaf of its byte; the answer is node n.
@@ -98,7 +98,7 @@ fn split_leaf(
     ensures { after nodes.new pages.new result ≡ split_leaf sketches.now rows block.nodes block.pages block.base nodes.old pages.old k n first free }
 {
     let level = level_at(rows, k);
-    set_inner(nodes, block.nodes, n);
+    set_state(nodes, block.nodes, n, State::Inner);
     split_pages(nodes, pages, sketches, block, level, n, first, free)
 }
 
