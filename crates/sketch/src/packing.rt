@@ -28,9 +28,7 @@ pub fn pack_byte(b: u32, xs: &[u8]) -> u8
     ensures { result ≡ pack_byte b xs.now }
 {
     let mut v: u32 = 0;
-    let mut i = xs.len();
-    while i > 0 {
-        i -= 1;
+    for i in (0..xs.len()).rev() {
         v = (v << b) + xs[i] as u32;
     }
     v as u8
@@ -47,13 +45,10 @@ pub fn pack_into(b: u32, n: usize, xs: &[u8], out: &mut [u8])
     ensures { out.new ≡ onto (pack b (take n xs.now)) out.old }
 {
     let z = per_byte(b);
-    let k = packed_length(b, n);
-    let mut j = 0;
-    while j < k {
+    for j in 0..packed_length(b, n) {
         let at = j * z;
         let end = at + symbols_at(b, n, j);
         out[j] = pack_byte(b, &xs[at..end]);
-        j += 1;
     }
 }
 
@@ -80,10 +75,8 @@ pub fn unpack_into(b: u32, n: usize, bytes: &[u8], out: &mut [u8])
     let z = per_byte(b);
     let mut k = 0;
     let mut g = 0;
-    let mut i = 0;
-    while i < n {
+    for i in 0..n {
         out[i] = group_of(b, bytes[k], g);
-        i += 1;
         g += 1;
         if g == z {
             k += 1;
@@ -112,12 +105,10 @@ pub fn all_packable(b: u32, n: usize, bytes: &[u8]) -> bool
     requires bytes_len { length bytes.now ≡ packed_length b n }
     ensures { result ≡ all_packable b n bytes.now }
 {
-    let mut k = 0;
-    while k < bytes.len() {
+    for k in 0..bytes.len() {
         if !packable(b, n, k, bytes[k]) {
             return false;
         }
-        k += 1;
     }
     true
 }

@@ -20,13 +20,13 @@ turned : (c : In-loop-i) →
 turned c =
     let start = c in
     let inv = c.loop-i.invariant in
-    byte_step start.args.b start.args.xs.now start.requires.xs_len_bound start.requires.xs_value _ _ start.requires.bits.1 c.loop-i-test.true inv.0 inv.1
+    byte_step start.args.b start.args.xs.now start.requires.xs_len_bound start.requires.xs_value _ _ start.requires.bits.1 c.loop-i-test.true (omega arith) inv
 
 pub overflow_add-v : goal.overflow_add-v
 overflow_add-v c = omega (arith, turned (goal.at.overflow_add-v c).In-loop-i, fits (goal.at.overflow_add-v c).At-loop-i (c.loop-i.i - 1))
 
 pub loop-i-preserved : goal.loop-i-preserved
-loop-i-preserved c = (omega arith, turned (goal.at.loop-i-preserved c).In-loop-i)
+loop-i-preserved c = turned (goal.at.loop-i-preserved c).In-loop-i
 
 pub overflow_cast-result : goal.overflow_cast-result
 overflow_cast-result c = omega (arith, fits (goal.at.overflow_cast-result c).At-loop-i c.loop-i.i)

@@ -17,9 +17,8 @@ use Rattle.sketch.proofs.packing.pack_into.Goals.{After-symbols_at, In-loop-j}
 -- byte j begins inside the symbols
 begins : (c : In-loop-j) → c.loop-j.j * c.per_byte-z.result < c.args.n
 begins c =
-    let inv = c.loop-j.invariant in
     let start = c in
-    rw inv.0 (byte-begins start.args.b start.args.n c.loop-j.j start.requires.bits (rw inv.1 at c.loop-j-test.true))
+    rw c.per_byte-z.ensures (byte-begins start.args.b start.args.n c.loop-j.j start.requires.bits (rw c.packed_length-j-end.ensures at c.loop-j-test.true))
 
 ends : (c : After-symbols_at) →
     let at = c.loop-j.j * c.per_byte-z.result in
@@ -27,7 +26,7 @@ ends : (c : After-symbols_at) →
 ends c =
     let at-loop = c in
     let args = at-loop.args in
-    part-ends args.b args.n at-loop.loop-j.j _ _ at-loop.loop-j.invariant.0 c.symbols_at.ensures (begins (goal.at.overflow_add-end c).In-loop-j)
+    part-ends args.b args.n at-loop.loop-j.j _ _ c.per_byte-z.ensures c.symbols_at.ensures (begins (goal.at.overflow_add-end c).In-loop-j)
 
 -- the part that is passed
 passed : (c : After-symbols_at) →
@@ -37,10 +36,10 @@ passed : (c : After-symbols_at) →
 passed c =
     let at-loop = c in
     let args = at-loop.args in
-    part args.b args.n at-loop.loop-j.j _ _ at-loop.loop-j.invariant.0 c.symbols_at.ensures args.xs.now
+    part args.b args.n at-loop.loop-j.j _ _ c.per_byte-z.ensures c.symbols_at.ensures args.xs.now
 
 pub loop-j-init : goal.loop-j-init
-loop-j-init c = (c.per_byte-z.ensures, c.packed_length-k.ensures, search rules, refl, fill_none _ _)
+loop-j-init c = (refl, fill_none _ _)
 
 pub overflow_mul-at : goal.overflow_mul-at
 overflow_mul-at c = omega (arith, begins c)
@@ -58,11 +57,8 @@ loop-j-preserved c =
     let inv = at-loop.loop-j.invariant in
     let byte : c.pack_byte.result ≡ byte_of args.b (take args.n args.xs.now) at-loop.loop-j.j =
     c.pack_byte.ensures ∙ ap (pack_byte args.b) (passed (goal.at.loop-j-preserved c).After-symbols_at) in (
-      inv.0,
-      inv.1,
-      omega arith,
-      length-set at-loop.loop-j.out at-loop.loop-j.j c.pack_byte.result ∙ inv.3,
-      ap₂ (λ (l : List ℕ) (v : ℕ). set l at-loop.loop-j.j v) inv.4 byte
+      length-set at-loop.loop-j.out at-loop.loop-j.j c.pack_byte.result ∙ inv.0,
+      ap₂ (λ (l : List ℕ) (v : ℕ). set l at-loop.loop-j.j v) inv.1 byte
           ∙ fill_more (byte_of args.b (take args.n args.xs.now)) at-loop.loop-j.j args.out.now 0 (omega arith),
     )
 
@@ -73,7 +69,7 @@ returns c =
     let all : c.loop-j.j ≡ packed_length args.b args.n = omega arith in
     let symbols = take args.n args.xs.now in
     let written = sym (packed args.b args.n symbols (length-take-le args.n args.xs.now (omega arith))) in
-    inv.4 ∙ ap (λ (l : List ℕ). onto l args.out.now) (ap (λ (k : ℕ). map (byte_of args.b symbols) (upto k)) all ∙ written)
+    inv.1 ∙ ap (λ (l : List ℕ). onto l args.out.now) (ap (λ (k : ℕ). map (byte_of args.b symbols) (upto k)) all ∙ written)
 
 pub pack_byte-requires-clause-xs_len_bound : goal.pack_byte-requires-clause-xs_len_bound
 pack_byte-requires-clause-xs_len_bound c = let start = c in let ys = take start.args.n start.args.xs.now in rw (passed (goal.at.pack_byte-requires-clause-xs_len_bound c).After-symbols_at) (symbols-few start.args.b ys _)
