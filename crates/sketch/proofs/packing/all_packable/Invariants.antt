@@ -1,6 +1,5 @@
 use mathlib.Core.Path.{◌≡◌}
-use Prim.Native.Nat.{◌-◌, ◌≤◌}
-use lib.ListN.{length}
+use Prim.Native.Nat.{◌-◌}
 use Rattle.meaning.specs.Lists.{all, from}
 use Rattle.meaning.specs.Sketch.{packed_length, all_packable}
 use Rattle.sketch.proofs.Packed.{packable_at}

@@ -1,6 +1,5 @@
 use mathlib.Core.List.{map}
 use mathlib.Core.Path.{◌≡◌}
-use Prim.Native.Nat.{◌-◌, ◌≤◌}
 use lib.ListN.{length, take}
 use Rattle.meaning.specs.Lists.{onto, upto}
 use Rattle.sketch.proofs.Packed.{byte_of}

@@ -1,9 +1,8 @@
 use mathlib.Core.List.{map}
 use mathlib.Core.Path.{◌≡◌}
-use Prim.Native.Nat.{◌+◌, ◌-◌, ◌*◌, ◌≤◌, ◌<◌}
+use Prim.Native.Nat.{◌+◌, ◌*◌, ◌<◌}
 use lib.ListN.{length}
 use Rattle.meaning.specs.Lists.{onto, upto}
-use Rattle.meaning.specs.Sketch.{per_byte}
 use Rattle.sketch.proofs.Packed.{symbol_of}
 use Rattle.sketch.proofs.packing.unpack_into.Given as goal
 

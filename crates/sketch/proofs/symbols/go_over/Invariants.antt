@@ -1,4 +1,4 @@
-use Prim.Native.Nat.{◌-◌, ◌≤◌}
+use Prim.Native.Nat.{◌≤◌}
 use lib.ListN.{length, take}
 use Rattle.sketch.specs.Pass.{GoneOver}
 use Rattle.sketch.proofs.symbols.go_over.Given as goal
