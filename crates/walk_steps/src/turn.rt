@@ -5,8 +5,8 @@ ghost use Rattle.walk_steps.specs.Walks.{given_of};
 ghost use Rattle.walk_steps.specs.Turn.{reached};
 ghost use Rattle.walk_steps.specs.Place.{turned};
 
-use crate::walk::Walk;
 use crate::place::Place;
+use crate::walk::Walk;
 use children::cursor::Next;
 use descent::Cursor;
 use layout::nodes::Kind;
@@ -31,7 +31,7 @@ pub enum Move {
 // To a child x that is within the radius, when so much of it is left: at a level of the query's bytes, and with a link after it.
 // With none left the query's own bytes lead on.
 fn reach(walk: &Walk<'_>, x: usize, level: usize, radius: u32, link: u32) -> Move
-    requires x_lt_cap { (x < walk.now.cap) × (level < 65) }
+    requires { (x < walk.now.cap) × (level < 65) }
     ensures { result ≡ reached (given_of walk.now) x level radius link }
 {
     let nodes = walk.nodes;
@@ -63,7 +63,7 @@ fn reach(walk: &Walk<'_>, x: usize, level: usize, radius: u32, link: u32) -> Mov
 // Takes one step for the query's bytes.
 #[tactic(auto, unfolding(crate::specs::Place::turned))]
 pub fn turn(walk: &Walk<'_>, place: Place) -> Move
-    requires depth_in_bounds { (place.depth < length walk.now.bytes.now) × (place.frame.cursor.last < node_words walk.now.cap) }
+    requires { (place.depth < length walk.now.bytes.now) × (place.frame.cursor.last < node_words walk.now.cap) }
     ensures { result ≡ turned (given_of walk.now) place }
 {
     if place.steps == 0 {
@@ -80,7 +80,7 @@ pub fn turn(walk: &Walk<'_>, place: Place) -> Move
             }
             let depth = place.depth;
             let v = (byte % 256) as u8 ^ walk.bytes[depth];
-            let d = distances::byte_distance(walk.table, walk.b, v);
+            let d = walk.distances.byte_distance(walk.b, v);
             if frame.radius < d {
                 return Move::Past { link };
             }
