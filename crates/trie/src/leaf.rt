@@ -61,8 +61,8 @@ pub fn child_leaf(nodes: &mut [u32], cap: usize, n: usize, byte: u32, free: u32)
 {
     let place = find_place(nodes, cap, n, byte);
     match place {
-        Place::Found(_, child) => Got::Node(child, free),
-        Place::Missing(slot) => fresh_leaf(nodes, cap, slot, byte, free),
+        Place::Found { child, .. } => Got::Node(child, free),
+        Place::Missing { slot } => fresh_leaf(nodes, cap, slot, byte, free),
         Place::Broken => Got::Broken,
     }
 }

@@ -32,8 +32,8 @@ fn step_to(nodes: &[u32], cap: usize, bytes: &[u8], n: usize, level: usize) -> S
         return Step::Broken;
     }
     match find_place(nodes, cap, n, bytes[level] as u32) {
-        Place::Found(s, child) => Step::Child(s, child),
-        Place::Missing(s) => Step::Gap(s),
+        Place::Found { slot, child } => Step::Child(slot, child),
+        Place::Missing { slot } => Step::Gap(slot),
         Place::Broken => Step::Broken,
     }
 }
