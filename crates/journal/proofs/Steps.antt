@@ -10,13 +10,14 @@ use lib.Seq.{drop-drop, take_all}
 use borrow.Author.Tests.{lt-ltb, le-ltb, eq-eqb, ne_eqb, ltb-true, eqb-true, eqb-false}
 use Rattle.meaning.specs.Rights.{join, leave, grant, revoke}
 use Rattle.meaning.specs.Journal.{opens, adds, drops, changes, searches, byte_at, word_at, entries, operand_bytes, taken, form_at, mark_at, next, command, ended, refused, command-to}
-use Rattle.journal.specs.Steps.{change_meant, meant, told, symbols_end, change_of, command_of, command_at, refusal_of, step_at, Stepped, reached_by}
+use Rattle.journal.specs.Steps.{meant, told, symbols_end, change_of, command_of, command_at, refusal_of, step_at, Stepped, reached_by}
 use Rattle.refusals.specs.declared.Refusal.{Refusal}
 use Rattle.refusals.specs.declared.Refusal.TheVariants.{UnknownCommand, MisplacedCommand, MissingOperands, BadSettings, ShortTable, NoOpening, OutOfRange, NoSuchPage, PageState, BadLength, BadSymbol, NoRoom, ShortOutput, Unsound, Blank}
 use Rattle.refusals.specs.Refusals.{number_of}
 use Rattle.refusals.proofs.Refusals.{not_zero}
 use Rattle.journal_form.proofs.Questions.{three, behind-there}
-use Rattle.journal.specs.declared.commands.Change.TheVariants.{Join, Leave, Grant, Revoke}
+use Rattle.rights.specs.Changes.{change_meant}
+use Rattle.rights.specs.declared.Change.TheVariants.{Join, Leave, Grant, Revoke}
 use Rattle.journal.specs.declared.commands.Command.{Command}
 use Rattle.journal.specs.declared.commands.Command.TheVariants.{Open, Add, Drop, Register, Search}
 use Rattle.journal.specs.declared.commands.Step.{Step}

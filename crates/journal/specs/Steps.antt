@@ -1,25 +1,17 @@
 -- What the code's answers say: each case of Command and Step as the paper has it, and the answer at an offset.
 use Rattle.std.specs.Prelude.{ℕ, ◌+◌, ◌≡◌, cond, List, ltb, eqb, length, take, drop}
-use Rattle.meaning.specs.Rights.{join, leave, grant, revoke}
-use Rattle.meaning.specs.Rights.{Change as PaperChange}
 use Rattle.meaning.specs.Journal.{opens, adds, drops, changes, searches, byte_at, word_at, taken, Next, ended, refused, command-to, form_at, next}
 use Rattle.meaning.specs.Journal.{Command as PaperCommand}
 use Rattle.refusals.specs.declared.Refusal.{Refusal}
 use Rattle.refusals.specs.declared.Refusal.TheVariants.{UnknownCommand, MisplacedCommand, MissingOperands}
 use Rattle.refusals.specs.Refusals.{number_of}
-use Rattle.journal.specs.declared.commands.Change.{Change}
-use Rattle.journal.specs.declared.commands.Change.TheVariants.{Join, Leave, Grant, Revoke}
+use Rattle.rights.specs.declared.Change.{Change}
+use Rattle.rights.specs.declared.Change.TheVariants.{Join, Leave, Grant, Revoke}
+use Rattle.rights.specs.Changes.{change_meant}
 use Rattle.journal.specs.declared.commands.Command.{Command}
 use Rattle.journal.specs.declared.commands.Command.TheVariants.{Open, Add, Drop, Register, Search}
 use Rattle.journal.specs.declared.commands.Step.{Step}
 use Rattle.journal.specs.declared.commands.Step.TheVariants.{Taken, Refused, End}
-
--- the change that the code's one stands for
-unfoldable pub change_meant : Change → PaperChange
-change_meant (Join r g) = join r g
-change_meant (Leave r g) = leave r g
-change_meant (Grant g c) = grant g c
-change_meant (Revoke g c) = revoke g c
 
 -- the command that the code's one stands for, its m symbols taken from the journal's bytes
 unfoldable pub meant : ℕ → List ℕ → Command → PaperCommand

@@ -5,15 +5,7 @@ ghost use Rattle.journal.specs.Steps.{change_of, command_at, Stepped, reached_by
 
 use journal_form::{form, operand_bytes};
 use refusals::Refusal;
-
-// A change of the register, with its two numbers.
-#[derive(Clone, Copy, Debug, PartialEq, Eq)]
-pub enum Change {
-    Join { reader: u32, group: u32 },
-    Leave { reader: u32, group: u32 },
-    Grant { group: u32, class: u32 },
-    Revoke { group: u32, class: u32 },
-}
+use rights::Change;
 
 // A command with its operands. Symbols are told by the offset where they begin in the journal's bytes.
 #[derive(Clone, Copy, Debug, PartialEq, Eq)]
