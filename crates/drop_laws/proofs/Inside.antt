@@ -1,4 +1,5 @@
 -- On any tables a removal writes words of the tries only: the tables keep their lengths, and the words outside stay.
+use Rattle.std.specs.Prelude.{Some, None}
 use Prim.Native.Nat.{ℕ, zero, suc, ◌+◌, ◌-◌, ◌≤◌, ◌<◌}
 use native.Mathlib.Omega.{arith}
 use mathlib.Core.Path.{◌≡◌, refl}
@@ -26,7 +27,6 @@ use Rattle.blocks.proofs.BlockBytes.{row-octets}
 use Rattle.blocks.proofs.Tables.{links-high}
 use Rattle.trie_remove.specs.declared.Taken.TheVariants.{Out}
 use Rattle.trie_remove.specs.declared.Taken.TheVariants as taken
-use Rattle.trie_remove.specs.declared.Removed.TheVariants.{Done, Broken}
 use Rattle.trie_remove.specs.Take.{Took, took, take_from, take_page}
 use Rattle.trie.specs.Model.{free_child}
 use Rattle.trie_remove.specs.Prune.{Freed, freed, prune_up, InTable}
@@ -170,8 +170,8 @@ module _ (s : Settings) (S : List ℕ) (p : ℕ) (enough : s.blocks ≤ s.nodes)
 
       go : (r : Gone) → InTries N P r → ((N' P' : List ℕ) (free' : ℕ) → InTries N' P' (remove_from s S p k (suc j) N' P' free')) →
           InTries N P (on_removed (λ N' P' free'. remove_from s S p k (suc j) N' P' free') r)
-      go (gone N' P' (Done free')) h ih = next N' P' h (remove_from s S p k (suc j) N' P' free') (ih N' P' free')
-      go (gone N' P' Broken) h ih = h
+      go (gone N' P' (Some free')) h ih = next N' P' h (remove_from s S p k (suc j) N' P' free') (ih N' P' free')
+      go (gone N' P' None) h ih = h
 
   pub all-within : (N P : List ℕ) (free : ℕ) → InTries N P (remove_all s S p N P free)
   unfolding remove_all
