@@ -18,8 +18,8 @@ use Rattle.layout.specs.declared.nodes.Kind.{Kind}
 use Rattle.layout.specs.declared.nodes.Kind.TheVariants as kind
 use Rattle.blocks.specs.declared.Level.{Level}
 use Rattle.blocks.specs.declared.Rows.{Rows}
-use Rattle.trie.specs.declared.leaf.Got.TheVariants.{Node, Full}
-use Rattle.trie.specs.declared.leaf.Got.TheVariants as got
+use Rattle.trie.specs.declared.Stop.TheVariants.{Full}
+use Rattle.trie.specs.declared.Stop.TheVariants as stop
 use Rattle.children.specs.declared.place.Place.{Place}
 use Rattle.children.specs.declared.place.Place.TheVariants.{Found, Missing, Broken}
 use Rattle.blocks.specs.Tables.{RowTable}
@@ -63,7 +63,7 @@ module _ (cap : ℕ) where
   fresh_kept N s b free ls = go (eqb free 0) refl (ltb cap free) refl
     where
       go : (t : Bool) → eqb free 0 ≡ t → (u : Bool) → ltb cap free ≡ u →
-          KeptM N (cond t (made N Full) (cond u (made N got.Broken) (made (link_leaf N cap s (free - 1) b) (Node (free - 1) (get_or N (free - 1) 0)))))
+          KeptM N (cond t (made N (Err Full)) (cond u (made N (Err stop.Broken)) (made (link_leaf N cap s (free - 1) b) (Ok (grown (free - 1) (get_or N (free - 1) 0))))))
       go true e u f = (within_none, omega arith)
       go false e true f = (within_none, omega arith)
       go false e false f =
@@ -85,9 +85,9 @@ module _ (cap : ℕ) where
     aim_kept root free l = go (descend_to N cap root Y) (descend-inside N cap Y octets root l)
       where
         fresh : (k : ℕ) (m : Made) → KeptM N m → KeptA N (aim_made k m)
-        fresh k (made N' (Node n free)) e = e
-        fresh k (made N' Full) e = e
-        fresh k (made N' got.Broken) e = e
+        fresh k (made N' (Ok (grown n free))) e = e
+        fresh k (made N' (Err Full)) e = e
+        fresh k (made N' (Err stop.Broken)) e = e
 
         go : (q : Reach) → ReachInside cap (length Y) q → KeptA N (aim_at N cap Y free q)
         go (Leaf n s k) i = (within_none, omega arith)
@@ -125,9 +125,9 @@ module _ (cap pcap base lo hi : ℕ) (low : lo ≤ base) (high : base + pcap ≤
       into N' c next e (pushed N'' P'' false) h = (within_both e h.0, h.1)
 
       go : (m : Made) → KeptM cap N m → Kept cap lo hi N P (put_into P cap base p m)
-      go (made N' (Node c next)) e = into N' c next e.0 (push_page N' P cap base c p) (push_kept N' P c p (omega (arith, e.1)) lp)
-      go (made N' Full) e = (e.0, within_none)
-      go (made N' got.Broken) e = (e.0, within_none)
+      go (made N' (Ok (grown c next))) e = into N' c next e.0 (push_page N' P cap base c p) (push_kept N' P c p (omega (arith, e.1)) lp)
+      go (made N' (Err Full)) e = (e.0, within_none)
+      go (made N' (Err stop.Broken)) e = (e.0, within_none)
 
   -- one change after another
   onto : (N P N' P' : List ℕ) → Within 0 (node_words cap) N N' → Within lo hi P P' → (a : After) → Kept cap lo hi N' P' a → Kept cap lo hi N P a
@@ -145,15 +145,15 @@ module _ (cap pcap base lo hi : ℕ) (low : lo ≤ base) (high : base + pcap ≤
       where
         go : (t : Bool) → eqb l 0 ≡ t → (u : Bool) → ltb pcap l ≡ u → (a : After) → (l - 1 < pcap → Kept cap lo hi N P a)
             → ((N' P' : List ℕ) (free' : ℕ) → Kept cap lo hi N' P' (split_from S v cap pcap base n N' P' (get_or P (base + (l - 1)) 0) free' f))
-            → Kept cap lo hi N P (cond t (after N P (Node n free)) (cond u (after N P got.Broken)
+            → Kept cap lo hi N P (cond t (after N P (Ok (grown n free))) (cond u (after N P (Err stop.Broken))
             (on_put (λ N' P' free'. split_from S v cap pcap base n N' P' (get_or P (base + (l - 1)) 0) free' f) a)))
         go true e u m a h ih = (within_none, within_none)
         go false e true m a h ih = (within_none, within_none)
-        go false e false m (after N' P' (Node c free')) h ih =
+        go false e false m (after N' P' (Ok (grown c free'))) h ih =
             let k = h (omega (arith, eqb-false l 0 e, ltb-false pcap l m)) in
             onto N P N' P' k.0 k.1 (split_from S v cap pcap base n N' P' (get_or P (base + (l - 1)) 0) free' f) (ih N' P' free')
-        go false e false m (after N' P' Full) h ih = h (omega (arith, eqb-false l 0 e, ltb-false pcap l m))
-        go false e false m (after N' P' got.Broken) h ih = h (omega (arith, eqb-false l 0 e, ltb-false pcap l m))
+        go false e false m (after N' P' (Err Full)) h ih = h (omega (arith, eqb-false l 0 e, ltb-false pcap l m))
+        go false e false m (after N' P' (Err stop.Broken)) h ih = h (omega (arith, eqb-false l 0 e, ltb-false pcap l m))
 
     module _ (τ : List ℕ) (r : Rows) (rows : RowTable pcap r S) where
       by-kept : (N P : List ℕ) (k n p free : ℕ) → n < cap → (q : Bool) → Kept cap lo hi N P (grow_by S τ r cap pcap base N P k n p free q)
@@ -210,9 +210,9 @@ module _ (s : Settings) (S x : List ℕ) (p : ℕ) (page : p < s.pages)
       go : (a : After) → Kept s.nodes (links_at s.pages) (pages_length s) N P a
           → ((N' P' : List ℕ) (free' : ℕ) → KeptAll N' P' (insert_from s S x p k (suc j) N' P' free'))
           → KeptAll N P (on_insert (λ N' P' free'. insert_from s S x p k (suc j) N' P' free') a)
-      go (after N' P' (Node n free')) h ih = more N' P' h (insert_from s S x p k (suc j) N' P' free') (ih N' P' free')
-      go (after N' P' Full) h ih = h
-      go (after N' P' got.Broken) h ih = h
+      go (after N' P' (Ok (grown n free'))) h ih = more N' P' h (insert_from s S x p k (suc j) N' P' free') (ih N' P' free')
+      go (after N' P' (Err Full)) h ih = h
+      go (after N' P' (Err stop.Broken)) h ih = h
 
   pub all-kept : s.blocks ≤ s.nodes → (N P : List ℕ) (free : ℕ) → KeptAll N P (insert_all s S x p N P free)
   unfolding insert_all
