@@ -1,10 +1,12 @@
 -- `add_page` keeps the promise of an add.
-use Rattle.std.specs.Prelude.{Option, Some, None}
+use Rattle.std.specs.Prelude.{Option, Some, None, Result, Ok, Err}
 use Prim.Native.Nat.{ℕ, ◌+◌, ◌*◌, ◌<◌}
 use native.Mathlib.Omega.{arith}
 use mathlib.Core.Path.{◌≡◌, refl, sym, ap, ◌∙◌, subst}
 use mathlib.Core.Bool.{Bool, true, false, cond}
 use mathlib.Core.Logic.{◌≢◌, inl, inr}
+use Rattle.trie.specs.declared.Stop.{Stop}
+use Rattle.trie.specs.declared.Stop.TheVariants.{Full, Broken}
 use mathlib.Core.List.{List, []}
 use lib.ListN.{get_or, set, take}
 use lib.Seq.{take-set-lt}
@@ -43,15 +45,18 @@ use Rattle.add_laws.proofs.KeepsAsked.{room12}
 use Rattle.add_laws.proofs.KeepsAdd.{filled-sound, never-stopped}
 
 -- ---- answers to question 12
-is-short : (t : Bool) → cond t (Ok tt) (Err Full) ≡ (Err Full) → t ≡ false
+abbrev room_by_test : Bool → Result (Unit {0}) Stop
+room_by_test t = cond t (Ok tt) (Err Full)
+
+is-short : (t : Bool) → room_by_test t ≡ Err Full → t ≡ false
 is-short true e = let w : ◌≡◌ {A = ℕ} 0 1 = cc in absurd (omega arith)
 is-short false e = refl
 
-is-enough : (t : Bool) → cond t (Ok tt) (Err Full) ≡ (Ok tt) → t ≡ true
+is-enough : (t : Bool) → room_by_test t ≡ Ok tt → t ≡ true
 is-enough true e = refl
 is-enough false e = let w : ◌≡◌ {A = ℕ} 0 1 = cc in absurd (omega arith)
 
-never-broken : (t : Bool) → cond t (Ok tt) (Err Full) ≡ (Err stop.Broken) → ⊥
+never-broken : (t : Bool) → room_by_test t ≡ Err Broken → ⊥
 never-broken true e = let w : ◌≡◌ {A = ℕ} 0 1 = cc in omega arith
 never-broken false e = let w : ◌≡◌ {A = ℕ} 0 1 = cc in omega arith
 
@@ -73,7 +78,7 @@ page-within s p c g l P =
     (within-set (set P p (1 + c)) (s.pages + p) g (omega arith) (signature-inside s l))
 
 -- ---- the answers of `room` and of `insert_all`
-abbrev room_found : Tables → List ℕ → (Result (Unit {0}) Stop)
+abbrev room_found : Tables → List ℕ → Result (Unit {0}) Stop
 room_found T x = room_of (given T) T.nodes T.pages T.sketches x (get_or T.settings free_at 0)
 
 abbrev all_inserted : Tables → ℕ → ℕ → List ℕ → Filled
@@ -101,7 +106,7 @@ module _ (T : Tables) (p c : ℕ) (x : List ℕ) where
     room_by : (F : List Tree) → Sound T F → room_found T x ≡ cond (room12 T p c x F) (Ok tt) (Err Full)
     room_by F s = room-right T F s (roomy (given T) T.nodes T.pages T.sketches ok.lent) p c x ok.fits.count ok.fits.range ok.dead
 
-    pub promise-short : room_found T x ≡ (Err Full) → AddPromise T p c x 12 T
+    pub promise-short : room_found T x ≡ Err Full → AddPromise T p c x 12 T
     promise-short e = record {
       early = λ g. absurd (g z);
       sound = λ F s. record {
@@ -116,7 +121,7 @@ module _ (T : Tables) (p c : ℕ) (x : List ℕ) where
       late = λ g. inr (inl refl);
     }
 
-    pub promise-broken : room_found T x ≡ (Err stop.Broken) → AddPromise T p c x 14 T
+    pub promise-broken : room_found T x ≡ Err Broken → AddPromise T p c x 14 T
     promise-broken e = record {
       early = λ g. absurd (g z);
       sound = λ F s. absurd (never-broken (room12 T p c x F) (sym (room_by F s) ∙ e));
@@ -193,7 +198,7 @@ module _ (T : Tables) (p c : ℕ) (x : List ℕ) where
   abbrev Keeps : Outcome → Type 0
   Keeps (outcome n T') = AddPromise T p c x n T'
 
-  put_keeps : (z : number T [] (add p c x) ≡ 0) → room_found T x ≡ (Ok tt) → Keeps (put_page T p c x)
+  put_keeps : (z : number T [] (add p c x) ≡ 0) → room_found T x ≡ Ok tt → Keeps (put_page T p c x)
   unfolding put_page
   put_keeps z e = go (all_inserted T p c x) refl
     where
@@ -205,10 +210,10 @@ module _ (T : Tables) (p c : ℕ) (x : List ℕ) where
   unfolding place_page
   place-keeps z = go (room_found T x) refl
     where
-      go : (q : (Result (Unit {0}) Stop)) → room_found T x ≡ q → Keeps (on_room T p c x q)
-      go (Ok tt) e = put_keeps z e
+      go : (q : Result (Unit {0}) Stop) → room_found T x ≡ q → Keeps (on_room T p c x q)
+      go (Ok u) e = put_keeps z e
       go (Err Full) e = promise-short z (passed T p c x [] z) e
-      go (Err stop.Broken) e = promise-broken z (passed T p c x [] z) e
+      go (Err Broken) e = promise-broken z (passed T p c x [] z) e
 
   add-keeps : Keeps (add_page T p c x)
   unfolding add_page

@@ -1,5 +1,5 @@
 -- On a sound store `room_of` answers question 12.
-use Rattle.std.specs.Prelude.{Some}
+use Rattle.std.specs.Prelude.{Some, Ok, Err}
 use Prim.Native.Nat.{ℕ, ◌+◌}
 use native.Mathlib.Omega.{arith}
 use mathlib.Core.Path.{◌≡◌, refl, sym, ap, ◌∙◌}
@@ -15,6 +15,7 @@ use Rattle.meaning.specs.Forest.{forest_after, total_nodes}
 use Rattle.layout.specs.Settings.{free_at}
 use Rattle.children.specs.Heap.{nil}
 use Rattle.children.proofs.Frame.{less}
+use Rattle.trie.specs.declared.Stop.TheVariants.{Full}
 use Rattle.trie.proofs.Spans.{free-span}
 use Rattle.trie_laws.specs.Block.{SoundBlock, EachFrom}
 use Rattle.trie_laws.specs.Needed.{sum_from}

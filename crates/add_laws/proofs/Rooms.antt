@@ -1,5 +1,5 @@
 -- The loop over the blocks that sums the nodes needed.
-use Rattle.std.specs.Prelude.{Option, Some, None}
+use Rattle.std.specs.Prelude.{Option, Some, None, Result, Err}
 use Prim.Native.Nat.{ℕ, suc, ◌+◌, ◌-◌, ◌≤◌, ◌<◌}
 use native.Mathlib.Omega.{arith}
 use native.Mathlib.Numerals.{add-one}
@@ -8,6 +8,8 @@ use mathlib.Core.List.{List}
 use Rattle.meaning.specs.Ledger.{Settings}
 use Rattle.meaning.specs.Forest.{bytes_of_sketch}
 use Rattle.layout.specs.Pages.{next_at}
+use Rattle.trie.specs.declared.Stop.{Stop}
+use Rattle.trie.specs.declared.Stop.TheVariants.{Broken}
 use Rattle.trie.specs.Model.{span_from}
 use Rattle.blocks.specs.RowBytes.{rows_of}
 use Rattle.leaf_bytes.specs.Bytes.{count_in}
@@ -46,10 +48,10 @@ needs-few s N P S x j r e n m =
 
 -- and whether so many are free
 module _ (s : Settings) (N P S x : List ℕ) (free : ℕ) (r : Option ℕ) (e : r ≡ all_needed s N P S x) where
-  pub room-counted : (n : ℕ) → r ≡ Some n → (q : (Result (Unit {0}) Stop)) → q ≡ span_from N s.nodes free n → q ≡ room_of s N P S x free
+  pub room-counted : (n : ℕ) → r ≡ Some n → (q : Result (Unit {0}) Stop) → q ≡ span_from N s.nodes free n → q ≡ room_of s N P S x free
   unfolding room_of
   room-counted n m q f = rw (← e, m) f
 
-  pub room-broken : r ≡ None → (Err stop.Broken) ≡ room_of s N P S x free
+  pub room-broken : r ≡ None → Err Broken ≡ room_of s N P S x free
   unfolding room_of
   room-broken m = rw (← e, m) refl

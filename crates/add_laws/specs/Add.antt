@@ -1,11 +1,13 @@
 -- What an add does with any tables: T are those at entry, p the page, c its class, x its sketch.
-use Rattle.std.specs.Prelude.{ℕ, List, get_or, set, Some, None}
+use Rattle.std.specs.Prelude.{ℕ, List, get_or, set, Some, None, Result, Ok, Err}
 use Rattle.meaning.specs.Ledger.{add}
 use Rattle.layout.specs.declared.Opening.{Opening}
 use Rattle.layout.specs.declared.Opening.TheVariants.{Shown, Refused}
 use Rattle.layout.specs.Settings.{free_at}
 use Rattle.layout.specs.Pages.{with_row, with_page}
 use Rattle.layout.specs.Signature.{signature}
+use Rattle.trie.specs.declared.Stop.{Stop}
+use Rattle.trie.specs.declared.Stop.TheVariants.{Full, Broken}
 use Rattle.promises.specs.Tables.{Tables, tables, given}
 use Rattle.promises.specs.Store.{Outcome, outcome}
 use Rattle.entry.specs.Admission.{admission}
@@ -34,10 +36,10 @@ module _ (T : Tables) (p c : ℕ) (x : List ℕ) where
   put_page = on_filled (insert_all (given T) row_added x p T.nodes T.pages (get_or T.settings free_at 0))
 
   -- 12 where the nodes do not suffice
-  abbrev pub on_room : (Result (Unit {0}) Stop) → Outcome
-  on_room (Ok tt) = put_page
+  abbrev pub on_room : Result (Unit {0}) Stop → Outcome
+  on_room (Ok u) = put_page
   on_room (Err Full) = outcome 12 T
-  on_room (Err stop.Broken) = outcome 14 T
+  on_room (Err Broken) = outcome 14 T
 
   unfoldable pub place_page : Outcome
   place_page = on_room (room_of (given T) T.nodes T.pages T.sketches x (get_or T.settings free_at 0))

@@ -1,10 +1,8 @@
 -- A page put into the trie of each block in turn. N is the node table, P the page table, S the sketch table, x the page's sketch.
-use Rattle.std.specs.Prelude.{ℕ, zero, suc, List, Option, Some, None}
+use Rattle.std.specs.Prelude.{ℕ, zero, suc, List, Option, Some, None, Ok, Err}
 use Rattle.meaning.specs.Ledger.{Settings}
 use Rattle.meaning.specs.Forest.{bytes_of_sketch}
 use Rattle.layout.specs.Pages.{next_at}
-use Rattle.trie.specs.declared.Stop.TheVariants.{Full}
-use Rattle.trie.specs.declared.Stop.TheVariants as stop
 use Rattle.trie_insert.specs.Pages.{After, after}
 use Rattle.trie_insert.specs.Insert.{insert_page}
 use Rattle.blocks.specs.RowBytes.{rows_of}
@@ -14,9 +12,8 @@ pub data Filled : Type 0 where
   filled : List ℕ → List ℕ → Option ℕ → Filled
 
 abbrev pub on_insert : (List ℕ → List ℕ → ℕ → Filled) → After → Filled
-on_insert go (after N P (Ok (grown n free))) = go N P free
-on_insert go (after N P (Err Full)) = filled N P None
-on_insert go (after N P (Err stop.Broken)) = filled N P None
+on_insert go (after N P (Ok g)) = go N P g.free
+on_insert go (after N P (Err e)) = filled N P None
 
 module _ (s : Settings) (S x : List ℕ) (p : ℕ) where
   -- block j

@@ -1,8 +1,10 @@
 -- How many nodes an add needs, and whether so many are free. N is the node table, P the page table, S the sketch table, x the sketch.
-use Rattle.std.specs.Prelude.{ℕ, zero, suc, ◌+◌, List, Option, Some, None}
+use Rattle.std.specs.Prelude.{ℕ, zero, suc, ◌+◌, List, Option, Some, None, Result, Err}
 use Rattle.meaning.specs.Ledger.{Settings}
 use Rattle.meaning.specs.Forest.{bytes_of_sketch}
 use Rattle.layout.specs.Pages.{next_at}
+use Rattle.trie.specs.declared.Stop.{Stop}
+use Rattle.trie.specs.declared.Stop.TheVariants.{Broken}
 use Rattle.trie.specs.Model.{span_from}
 use Rattle.blocks.specs.RowBytes.{rows_of}
 use Rattle.trie_room.specs.Needs.{nodes_needed}
@@ -16,9 +18,9 @@ unfoldable pub needed_from : (ℕ → Option ℕ) → ℕ → ℕ → ℕ → Op
 needed_from f a j zero = Some a
 needed_from f a j (suc k) = on_nodes (λ n. needed_from f (a + n) (suc j) k) (f j)
 
-abbrev pub where_free : (ℕ → (Result (Unit {0}) Stop)) → Option ℕ → (Result (Unit {0}) Stop)
+abbrev pub where_free : (ℕ → Result (Unit {0}) Stop) → Option ℕ → Result (Unit {0}) Stop
 where_free go (Some n) = go n
-where_free go None = (Err stop.Broken)
+where_free go None = Err Broken
 
 module _ (s : Settings) (N P S x : List ℕ) where
   -- the trie of block j
@@ -30,5 +32,5 @@ module _ (s : Settings) (N P S x : List ℕ) where
   all_needed = needed_from block_needs 0 0 s.blocks
 
   -- are so many free, from the free link on?
-  unfoldable pub room_of : ℕ → (Result (Unit {0}) Stop)
+  unfoldable pub room_of : ℕ → Result (Unit {0}) Stop
   room_of free = where_free (span_from N s.nodes free) all_needed
