@@ -1,5 +1,5 @@
 -- The steps of an add past 15, as the code takes them.
-use Rattle.std.specs.Prelude.{Option, Some, None}
+use Rattle.std.specs.Prelude.{Option, Some, None, Result, Ok, Err}
 use Prim.Native.Nat.{ℕ}
 use mathlib.Core.Path.{◌≡◌, sym, ap, ◌∙◌}
 use mathlib.Core.Bool.{true}
@@ -8,12 +8,12 @@ use lib.ListN.{get_or, set}
 use Rattle.meaning.specs.Sketch.{in_range}
 use Rattle.meaning.specs.Ledger.{add}
 use Rattle.layout.specs.declared.Header.{Header}
-use Rattle.layout.specs.declared.Opening.{Opening}
-use Rattle.layout.specs.declared.Opening.TheVariants.{Shown, Refused}
 use Rattle.layout.specs.Settings.{free_at}
 use Rattle.layout.specs.Header.{header_of, with_thresholds}
 use Rattle.layout.specs.Pages.{with_row, with_page}
 use Rattle.layout.specs.Signature.{signature}
+use Rattle.trie.specs.declared.Stop.{Stop}
+use Rattle.trie.specs.declared.Stop.TheVariants.{Full, Broken}
 use Rattle.promises.specs.Tables.{Tables, tables, given}
 use Rattle.promises.specs.Store.{outcome}
 use Rattle.blocks.specs.RowBytes.{reduced}
@@ -27,18 +27,18 @@ use Rattle.add_laws.proofs.Passed.{same-settings}
 module _ (T : Tables) (h : Header) (header : header_of (given T) ≡ h) (p c : ℕ) (x τ : List ℕ) (levels : τ ≡ (given T).thresholds)
     (free : ℕ) (link : free ≡ get_or T.settings free_at 0) where
   -- question 12
-  module _ (q : (Result (Unit {0}) Stop)) (e : q ≡ room_of (with_thresholds h τ) T.nodes T.pages T.sketches x free) where
+  module _ (q : Result (Unit {0}) Stop) (e : q ≡ room_of (with_thresholds h τ) T.nodes T.pages T.sketches x free) where
     answered : on_room T p c x q ≡ place_page T p c x
     unfolding place_page
     answered = ap (on_room T p c x) (rw (same-settings T h τ header levels, link) at e)
 
-    pub place_short : q ≡ (Err Full) → outcome 12 T ≡ place_page T p c x
+    pub place_short : q ≡ Err Full → outcome 12 T ≡ place_page T p c x
     place_short m = rw m at answered
 
-    pub place-broken : q ≡ (Err stop.Broken) → outcome 14 T ≡ place_page T p c x
+    pub place-broken : q ≡ Err Broken → outcome 14 T ≡ place_page T p c x
     place-broken m = rw m at answered
 
-    pub place-enough : q ≡ (Ok tt) → put_page T p c x ≡ place_page T p c x
+    pub place-enough : q ≡ Ok tt → put_page T p c x ≡ place_page T p c x
     place-enough m = rw m at answered
 
   -- the row is written, and the page is put into each trie
@@ -64,13 +64,13 @@ module _ (T : Tables) (h : Header) (header : header_of (given T) ≡ h) (p c : �
         rw (rowed, w, written) (rw m at inserted)
 
 -- 5 to 11 and 15
-module _ (T : Tables) (p c : ℕ) (x : List ℕ) (o : Opening) (e : o ≡ admission T (add p c x)) where
+module _ (T : Tables) (p c : ℕ) (x : List ℕ) (o : Result Header ℕ) (e : o ≡ admission T (add p c x)) where
   told : on_opening T p c x o ≡ add_page T p c x
   unfolding add_page
   told = ap (on_opening T p c x) e
 
-  pub add-refused : (n : ℕ) → o ≡ Refused n → outcome n T ≡ add_page T p c x
+  pub add-refused : (n : ℕ) → o ≡ Err n → outcome n T ≡ add_page T p c x
   add-refused n m = rw m at told
 
-  pub add-placed : (h : Header) → o ≡ Shown h → place_page T p c x ≡ add_page T p c x
+  pub add-placed : (h : Header) → o ≡ Ok h → place_page T p c x ≡ add_page T p c x
   add-placed h m = rw m at told

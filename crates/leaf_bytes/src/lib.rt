@@ -7,7 +7,6 @@ ghost use Rattle.blocks.specs.Tables.{SketchTable};
 ghost use Rattle.leaf_bytes.specs.Bytes.{distinct_bytes};
 
 use blocks::Level;
-use blocks::packed::page_byte;
 use layout::Block;
 
 // How many different bytes a new page's byte and those of the pages of a chain are at one level: so many children a leaf with
@@ -38,7 +37,7 @@ pub fn distinct_bytes(
             return None;
         }
         let p = link - 1;
-        let v = page_byte(sketches, level, block, p) as usize;
+        let v = level.page_byte(sketches, block, p) as usize;
         n += (!seen[v]) as usize;
         seen[v] = true;
         link = pages[block.base + p] as usize;

@@ -54,8 +54,8 @@ fn is_on_path(
 {
     let mut k = 0;
     while k < depth {
-        let level = blocks::packed::level_at(rows, k);
-        if blocks::packed::page_byte(sketches, level, block, p) as u8 != path[k] {
+        let level = rows.level_at(k);
+        if level.page_byte(sketches, block, p) as u8 != path[k] {
             return false;
         }
         k += 1;

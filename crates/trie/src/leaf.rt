@@ -7,7 +7,7 @@ ghost use Rattle.trie.specs.Model.{link_leaf, made, fresh_leaf, child_leaf, node
 use crate::Stop;
 use children::links::{put_in, take_out};
 use children::place::{Place, find_place};
-use layout::nodes::{next_free, set_empty, set_free};
+use layout::nodes::{State, next_free, set_free, set_state};
 
 // Node f as an empty leaf with a byte, linked into a slot before what the slot linked to.
 #[tactic(auto, unfolding(crate::specs::Model::link_leaf))]
@@ -18,7 +18,7 @@ fn link_leaf(nodes: &mut [u32], cap: usize, slot: usize, f: usize, byte: u32)
     requires byte_bound { byte < 256 }
     ensures { nodes.new ≡ link_leaf nodes.old cap slot f byte }
 {
-    set_empty(nodes, cap, f);
+    set_state(nodes, cap, f, State::Empty);
     put_in(nodes, cap, slot, f, byte);
 }
 

@@ -6,10 +6,9 @@ ghost use Rattle.trie_insert.specs.Pages.{after};
 ghost use Rattle.trie_insert.specs.Split.{split_from, too_long, split_leaf, grow_leaf};
 
 use crate::pages::{push_page, put_leaf};
-use blocks::packed::{level_at, page_byte};
 use blocks::{Level, Rows};
 use layout::Block;
-use layout::nodes::{page_count, set_inner};
+use layout::nodes::{State, page_count, set_state};
 use trie::Stop;
 use trie::leaf::Grown;
 
@@ -45,7 +44,7 @@ pub fn split_pages(
             return Err(Stop::Broken);
         }
         let next = pages[block.base + p] as usize;
-        let byte = page_byte(sketches, level, block, p);
+        let byte = level.page_byte(sketches, block, p);
         let grown = put_leaf(nodes, pages, block, n, byte, p, next_free)?;
         next_free = grown.free;
         link = next;
@@ -87,8 +86,8 @@ fn split_leaf(
     requires n_lt_nodes { n < block.nodes }
     ensures { after nodes.new pages.new result ≡ split_leaf sketches.now rows block.nodes block.pages block.base nodes.old pages.old k n first free }
 {
-    let level = level_at(rows, k);
-    set_inner(nodes, block.nodes, n);
+    let level = rows.level_at(k);
+    set_state(nodes, block.nodes, n, State::Inner);
     split_pages(nodes, pages, sketches, block, level, n, first, free)
 }
 
