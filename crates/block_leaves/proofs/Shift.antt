@@ -11,8 +11,8 @@ use borrow.Author.Tests.{eqb-false, lt-ltb, le-ltb, ltb-true, ltb-false}
 use Rattle.layout.specs.States.{kind_of}
 use Rattle.layout.specs.declared.nodes.Kind.{Kind}
 use Rattle.layout.specs.declared.nodes.Kind.TheVariants.{Free, Inner, Leaf}
-use Rattle.children.specs.declared.cursor.Seen.{Seen}
-use Rattle.children.specs.declared.cursor.Seen.TheVariants.{Child, Outside}
+use Rattle.std.specs.Prelude.{Option, Some, None}
+use Rattle.children.specs.declared.cursor.Child.{Child}
 use Rattle.children.specs.Cursors.{look_at, first_for}
 use Rattle.descent.specs.declared.Cursor.{Cursor}
 use Rattle.descent.specs.Cursor.{outside, ended, ahead, arrive_as, arrive, pass, advance, descended, drawn, leaf_of}
@@ -43,16 +43,16 @@ module _ (N : List ℕ) (cap : ℕ) (bytes ys : List ℕ) (base last : ℕ) (sam
           let inside : at ≤ last = omega (arith, ltb-false last at e) in
           rw (e, le-ltb (base + last) (base + at) (omega arith), same at inside) (alike-ahead (first_for N cap x (get_or ys at 0)) at inside)
 
-  alike-pass : (at : ℕ) → at ≤ last → (a : Seen) → Alike (pass N cap ys at last a) (pass N cap bytes (base + at) (base + last) a)
-  alike-pass at h Outside = alike-ended outside
-  alike-pass at h (Child x byte link) = rw (same at h, add_assoc base at 1) (go (ltb byte (get_or ys at 0)) (ltb (get_or ys at 0) byte))
+  alike-pass : (at : ℕ) → at ≤ last → (a : Option Child) → Alike (pass N cap ys at last a) (pass N cap bytes (base + at) (base + last) a)
+  alike-pass at h None = alike-ended outside
+  alike-pass at h (Some c) = rw (same at h, add_assoc base at 1) (go (ltb c.byte (get_or ys at 0)) (ltb (get_or ys at 0) c.byte))
     where
       go : (before behind : Bool)
-          → Alike (cond before (ahead link at last) (cond behind (ended 0) (arrive N cap ys x (at + 1) last)))
-          (cond before (ahead link (base + at) (base + last)) (cond behind (ended 0) (arrive N cap bytes x (base + (at + 1)) (base + last))))
-      go true behind = alike-ahead link at h
+          → Alike (cond before (ahead c.link at last) (cond behind (ended 0) (arrive N cap ys c.node (at + 1) last)))
+          (cond before (ahead c.link (base + at) (base + last)) (cond behind (ended 0) (arrive N cap bytes c.node (base + (at + 1)) (base + last))))
+      go true behind = alike-ahead c.link at h
       go false true = alike-ended 0
-      go false false = alike-arrive x (at + 1)
+      go false false = alike-arrive c.node (at + 1)
 
   alike-advance : (c d : Cursor) → Alike c d → Alike (advance N cap ys c) (advance N cap bytes d)
   unfolding advance

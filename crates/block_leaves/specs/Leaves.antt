@@ -1,11 +1,10 @@
 -- The leaf in the trie of each block that a query's own bytes lead to. N is the node table, x the query.
-use Rattle.std.specs.Prelude.{ℕ, zero, suc, ◌+◌, ◌-◌, ◌*◌, ◌<◌, ◌≡◌, List, length, get_or}
+use Rattle.std.specs.Prelude.{ℕ, zero, suc, ◌+◌, ◌-◌, ◌*◌, ◌<◌, ◌≡◌, List, length, get_or, Some}
 use Rattle.meaning.specs.Sketch.{packed_length, block_length}
 use Rattle.meaning.specs.Forest.{bytes_of_sketch}
 use Rattle.layout.specs.declared.Header.{Header}
 use Rattle.layout.specs.Header.{bare}
 use Rattle.descent.specs.declared.Cursor.{Cursor}
-use Rattle.descent.specs.declared.Left.TheVariants.{Some}
 use Rattle.descent.specs.Cursor.{ended, arrive, descended, drawn, left_of, leaf_of}
 use Rattle.block_leaves.specs.declared.Ends.{Ends}
 

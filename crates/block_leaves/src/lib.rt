@@ -7,14 +7,14 @@ ghost use Rattle.layout.specs.Nodes.{node_words};
 ghost use Rattle.layout.specs.Limits.{HeaderLimits};
 ghost use Rattle.block_leaves.specs.Leaves.{Packed, Started, Leaves};
 
-use descent::{Cursor, Left};
+use descent::{Cursor, Descents};
 use layout::Header;
 
-// For each block the link of the first page of its leaf, and what is left of the nodes that may be read.
-#[derive(Clone, Copy)]
+// For each block the link of the first page of its leaf, and what is left of the nodes that may be read: none where they were spent.
+#[derive(Clone, Copy, Debug, PartialEq, Eq)]
 pub struct Ends {
     pub firsts: [u32; 8],
-    pub left: Left,
+    pub left: Option<u32>,
 }
 
 // Packs each block of a sketch, block j from byte 64 × j on.
@@ -26,11 +26,9 @@ fn pack_blocks(h: Header, sketch: &[u8], out: &mut [u8])
     ensures { Packed h sketch.now out.new }
 {
     let b = h.b as u32;
-    let mut j = 0;
-    while j < h.q {
+    for j in 0..h.q {
         let start = 64 * j;
         sketch::blocks::pack_block(b, h.m, h.q, j, sketch, &mut out[start..]);
-        j += 1;
     }
 }
 
@@ -43,13 +41,11 @@ fn start_all(nodes: &[u32], h: Header, bytes: &[u8]) -> [Cursor; 16]
 {
     let b = h.b as u32;
     let mut cursors = [descent::ended(0); 16];
-    let mut j = 0;
-    while j < h.q {
+    for j in 0..h.q {
         let n = sketch::limits::packed_length(b, sketch::blocks::block_length(h.m, h.q, j));
         let first = 64 * j;
         let last = first + n - 1;
         cursors[j] = descent::arrive(nodes, h.nodes, bytes, j, first as u32, last as u32);
-        j += 1;
     }
     cursors
 }
@@ -67,16 +63,10 @@ pub fn leaves(nodes: &[u32], h: Header, sketch: &[u8], budget: u32) -> Ends
     pack_blocks(h, sketch, &mut bytes);
     let started = start_all(nodes, h, &bytes);
     let found = descent::descend(nodes, h.nodes, &bytes, started, h.q, budget);
-    let cursors = found.cursors;
-    let left = found.left;
+    let Descents { cursors, left } = found;
     let mut firsts = [0u32; 8];
-    let mut j = 0;
-    while j < h.q {
+    for j in 0..h.q {
         firsts[j] = descent::leaf_of(cursors[j]);
-        j += 1;
     }
-    Ends {
-        firsts: firsts,
-        left: left,
-    }
+    Ends { firsts, left }
 }

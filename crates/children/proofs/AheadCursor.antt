@@ -8,10 +8,9 @@ use lib.Dec.{eqb}
 use lib.ListN.{get_or}
 use Rattle.layout.specs.Nodes.{link_of, head_at, most_nodes}
 use Rattle.children.specs.declared.cursor.Cursor.{Cursor}
-use Rattle.children.specs.declared.cursor.Seen.TheVariants as seen
 use Rattle.children.specs.declared.cursor.Next.TheVariants.{Child, Chain, End}
 use Rattle.children.specs.Heap.{Holds}
-use Rattle.children.specs.Cursors.{all_of, look_at, next_of}
+use Rattle.children.specs.Cursors.{all_of, seen, look_at, next_of}
 use Rattle.children.specs.Phys.{Phys, Kids, no_kid, kid, root, first_in, cells, kid_cells, Sound, SoundK}
 use Rattle.trie_laws.proofs.Lists.{holds, fails, truth}
 use Rattle.children.proofs.Kids.{link-below, head-held}
@@ -89,9 +88,9 @@ module _ (cap pcap base : ℕ) (small : cap ≤ most_nodes) (N P : List ℕ) whe
       | fails q ↦
           let some : c.link ≡ 0 → ⊥ = eqb-false c.link 0 q in
           let k = ahead-kid cap pcap base N P a.ahead some in
-          let saw : look_at N cap c.link ≡ seen.Child (root t) b k.next =
+          let saw : look_at N cap c.link ≡ seen (root t) b k.next =
           ap (look_at N cap) k.at ∙ look-there cap small N (root t) b k.next k.inside k.word k.short in
-          to_kid k.next k.at (sym (step-along N cap c some (look_at N cap c.link) refl (seen.Child (root t) b k.next) saw))
+          to_kid k.next k.at (sym (step-along N cap c some (look_at N cap c.link) refl (seen (root t) b k.next) saw))
           k.tree k.sound
           (record { node = a.node; chain = a.chain; low = suc b; eight = a.eight; at = a.at; last = a.last; ahead = k.onward })
     ]

@@ -8,10 +8,10 @@ use mathlib.Core.List.{List}
 use borrow.Author.Tests.{lt-ltb, le-ltb, ltb-false, eq-eqb, ne_eqb, eqb-false}
 use lib.ListN.{get_or}
 use Rattle.layout.specs.Nodes.{link_of, byte_of, head_at}
-use Rattle.children.specs.Cursors.{all_of, look_at, next_by, next_of, first_for}
+use Rattle.std.specs.Prelude.{Option, Some, None}
+use Rattle.children.specs.Cursors.{all_of, seen, look_at, next_by, next_of, first_for}
 use Rattle.children.specs.declared.cursor.Cursor.{Cursor}
-use Rattle.children.specs.declared.cursor.Seen.{Seen}
-use Rattle.children.specs.declared.cursor.Seen.TheVariants as look
+use Rattle.children.specs.declared.cursor.Child.{Child as Kid}
 use Rattle.children.specs.declared.cursor.Next.{Next}
 use Rattle.children.specs.declared.cursor.Next.TheVariants.{Child, Chain, End, Broken}
 
@@ -25,16 +25,16 @@ unfolding first_for
 first-is N cap x byte at link e f = rw (f, e) refl
 
 module _ (N : List ℕ) (cap link : ℕ) (some : 0 < link) where
-  pub look-outside : cap ≤ link - 1 → look.Outside ≡ look_at N cap link
+  pub look-outside : cap ≤ link - 1 → None ≡ look_at N cap link
   unfolding look_at
   look-outside l = rw (lt-ltb cap link (omega arith)) refl
 
-  pub look-child : link - 1 < cap → (byte next : ℕ) → byte ≡ byte_of (get_or N (link - 1) 0) → next ≡ link_of (get_or N (link - 1) 0) → look.Child (link - 1) byte next ≡ look_at N cap link
+  pub look-child : link - 1 < cap → (byte next : ℕ) → byte ≡ byte_of (get_or N (link - 1) 0) → next ≡ link_of (get_or N (link - 1) 0) → seen (link - 1) byte next ≡ look_at N cap link
   unfolding look_at
   look-child l byte next e f = rw (le-ltb cap link (omega arith), e, f) refl
 
 module _ (N : List ℕ) (cap : ℕ) (c : Cursor) where
-  pub step-along : (c.link ≡ 0 → ⊥) → (found : Seen) → found ≡ look_at N cap c.link → (a : Seen) → found ≡ a → next_by a ≡ next_of N cap c
+  pub step-along : (c.link ≡ 0 → ⊥) → (found : Option Kid) → found ≡ look_at N cap c.link → (a : Option Kid) → found ≡ a → next_by a ≡ next_of N cap c
   unfolding next_of
   step-along some found e a q = rw (ne_eqb c.link 0 some) (ap next_by (sym q ∙ e))
 
@@ -48,20 +48,20 @@ module _ (N : List ℕ) (cap : ℕ) (c : Cursor) where
     step-chain l link e = rw (eq-eqb c.link 0 done, lt-ltb c.at c.last l, e) refl
 
 -- ---- what is found lies in the table
-abbrev Seated : ℕ → Seen → Type 0
-Seated cap (look.Child x byte link) = x < cap
-Seated cap look.Outside = Unit {0}
+abbrev Seated : ℕ → Option Kid → Type 0
+Seated cap (Some c) = c.node < cap
+Seated cap None = Unit {0}
 
 look-seated : (N : List ℕ) (cap link : ℕ) → 0 < link → Seated cap (look_at N cap link)
 unfolding look_at
 look-seated N cap link some = go (ltb cap link) refl
   where
-    go : (q : Bool) → ltb cap link ≡ q → Seated cap (cond q look.Outside (look.Child (link - 1) (byte_of (get_or N (link - 1) 0)) (link_of (get_or N (link - 1) 0))))
+    go : (q : Bool) → ltb cap link ≡ q → Seated cap (cond q None (seen (link - 1) (byte_of (get_or N (link - 1) 0)) (link_of (get_or N (link - 1) 0))))
     go true e = tt
     go false e = omega (arith, ltb-false cap link e)
 
 module _ (N : List ℕ) (cap x byte link : ℕ) where
-  pub look-below : (at : ℕ) → 0 < at → (found : Seen) → found ≡ look_at N cap at → found ≡ look.Child x byte link → x < cap
+  pub look-below : (at : ℕ) → 0 < at → (found : Option Kid) → found ≡ look_at N cap at → found ≡ seen x byte link → x < cap
   look-below at some found e q = subst (Seated cap) (sym e ∙ q) (look-seated N cap at some)
 
   abbrev Led : Next → Type 0
@@ -70,9 +70,9 @@ module _ (N : List ℕ) (cap x byte link : ℕ) where
   Led End = Unit {0}
   Led Broken = Unit {0}
 
-  led-by : (a : Seen) → Seated cap a → Led (next_by a)
-  led-by (look.Child y u l) h = h
-  led-by look.Outside h = tt
+  led-by : (a : Option Kid) → Seated cap a → Led (next_by a)
+  led-by (Some c) h = h
+  led-by None h = tt
 
   next-led : (c : Cursor) → Led (next_of N cap c)
   unfolding next_of

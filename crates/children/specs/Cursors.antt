@@ -1,10 +1,9 @@
 -- The children of a node one after the other, as the words lead. N is the node table, of cap nodes.
-use Rattle.std.specs.Prelude.{ℕ, ◌+◌, ◌-◌, ◌/◌, cond, List, ltb, eqb}
+use Rattle.std.specs.Prelude.{ℕ, ◌+◌, ◌-◌, ◌/◌, cond, List, ltb, eqb, Option, Some, None}
 use Rattle.layout.specs.Nodes.{head_at}
 use Rattle.children.specs.Places.{link_at, byte_in}
 use Rattle.children.specs.declared.cursor.Cursor.{Cursor}
-use Rattle.children.specs.declared.cursor.Seen.{Seen}
-use Rattle.children.specs.declared.cursor.Seen.TheVariants as look
+use Rattle.children.specs.declared.cursor.Child.{Child as Kid}
 use Rattle.children.specs.declared.cursor.Next.{Next}
 use Rattle.children.specs.declared.cursor.Next.TheVariants.{Child, Chain, End, Broken}
 
@@ -12,13 +11,17 @@ use Rattle.children.specs.declared.cursor.Next.TheVariants.{Child, Chain, End, B
 unfoldable pub all_of : List ℕ → ℕ → ℕ → Cursor
 all_of N cap x = record { at = head_at cap x 0; last = head_at cap x 7; link = link_at N (head_at cap x 0) }
 
--- the child at a link
-unfoldable pub look_at : List ℕ → ℕ → ℕ → Seen
-look_at N cap link = cond (ltb cap link) look.Outside (look.Child (link - 1) (byte_in N (link - 1)) (link_at N (link - 1)))
+-- child x of a byte, with a link after it
+abbrev pub seen : ℕ → ℕ → ℕ → Option Kid
+seen x byte link = Some (record { node = x; byte = byte; link = link })
 
-abbrev pub next_by : Seen → Next
-next_by (look.Child x byte link) = Child x byte link
-next_by look.Outside = Broken
+-- the child at a link
+unfoldable pub look_at : List ℕ → ℕ → ℕ → Option Kid
+look_at N cap link = cond (ltb cap link) None (seen (link - 1) (byte_in N (link - 1)) (link_at N (link - 1)))
+
+abbrev pub next_by : Option Kid → Next
+next_by (Some c) = Child c.node c.byte c.link
+next_by None = Broken
 
 -- the next step: along the chain, else to the next chain
 unfoldable pub next_of : List ℕ → ℕ → Cursor → Next

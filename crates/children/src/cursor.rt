@@ -7,27 +7,27 @@ ghost use Rattle.children.specs.Cursors.{all_of, look_at, next_of, first_for};
 use layout::nodes::{byte_of, head_at, link_of};
 
 // The children from `link` on in the chain whose head is at `at`, and those in the chains of the next heads, up to `last`.
-#[derive(Clone, Copy)]
+#[derive(Clone, Copy, Debug, PartialEq, Eq)]
 pub struct Cursor {
     pub at: u32,
     pub last: u32,
     pub link: u32,
 }
 
-// What a link leads to.
-#[derive(Clone, Copy)]
-pub enum Seen {
-    // a child: its number, its byte, and the link after it
-    Child(u32, u32, u32),
-    Outside,
+// A child that a link leads to: its number, its byte, and the link after it.
+#[derive(Clone, Copy, Debug, PartialEq, Eq)]
+pub struct Child {
+    pub node: u32,
+    pub byte: u32,
+    pub link: u32,
 }
 
-#[derive(Clone, Copy)]
+// An enum: four things can come next.
+#[derive(Clone, Copy, Debug, PartialEq, Eq)]
 pub enum Next {
-    // a child: its number, its byte, and the link after it
-    Child(u32, u32, u32),
+    Child { node: u32, byte: u32, link: u32 },
     // the next chain: where its head is, and its first link
-    Chain(u32, u32),
+    Chain { at: u32, link: u32 },
     // no child is left
     End,
     // a link that leads outside
@@ -50,19 +50,23 @@ pub fn all(nodes: &[u32], cap: usize, x: usize) -> Cursor
     }
 }
 
-// The child at a link.
+// The child at a link, or none: a link past the capacity leads to no node.
 #[tactic(auto, unfolding(crate::specs::Cursors::look_at))]
-pub fn look(nodes: &[u32], cap: usize, link: u32) -> Seen
+pub fn look(nodes: &[u32], cap: usize, link: u32) -> Option<Child>
     requires node_table { NodeTable cap nodes.now }
     requires link_nonzero { 0 < link }
     ensures { result ≡ look_at nodes.now cap link }
 {
     let x = link - 1;
     if x as usize >= cap {
-        return Seen::Outside;
+        return None;
     }
     let w = nodes[x as usize];
-    Seen::Child(x, byte_of(w), link_of(w))
+    Some(Child {
+        node: x,
+        byte: byte_of(w),
+        link: link_of(w),
+    })
 }
 
 // The next step: along the chain, else to the next chain.
@@ -74,15 +78,18 @@ pub fn step(nodes: &[u32], cap: usize, c: Cursor) -> Next
 {
     if c.link != 0 {
         return match look(nodes, cap, c.link) {
-            Seen::Child(x, byte, link) => Next::Child(x, byte, link),
-            Seen::Outside => Next::Broken,
+            Some(Child { node, byte, link }) => Next::Child { node, byte, link },
+            None => Next::Broken,
         };
     }
     if c.at >= c.last {
         return Next::End;
     }
     let at = c.at + 1;
-    Next::Chain(at, link_of(nodes[at as usize]))
+    Next::Chain {
+        at,
+        link: link_of(nodes[at as usize]),
+    }
 }
 
 // The link to the first child of node x in the chain of a byte.

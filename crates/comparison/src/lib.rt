@@ -10,13 +10,6 @@ ghost use Rattle.comparison.specs.Verdicts.{verdict_of};
 use sketch::limits::{packed_length, per_byte};
 use sketch::packing::symbols_at;
 
-// Whether a distance is within a radius; if so, the distance.
-#[derive(Clone, Copy)]
-pub enum Verdict {
-    Within(u32),
-    Beyond,
-}
-
 // How the symbols of a sketch lie in the bytes of its packing: z in each, the rest in the last.
 #[derive(Clone, Copy)]
 pub struct Shape {
@@ -34,15 +27,15 @@ pub fn shape_of(b: u32, n: usize) -> Shape
     let bytes = packed_length(b, n);
     Shape {
         z: per_byte(b),
-        bytes: bytes,
+        bytes,
         last: symbols_at(b, n, bytes - 1),
     }
 }
 
 // The bytes of the packing in turn, and the groups of each; left at the first place where the distance passes the radius.
-// `left` is what the radius still allows.
+// `left` is what the radius still allows. A distance within the radius is given; one beyond it is none.
 #[tactic(auto, unfolding(crate::specs::Verdicts::verdict_of, meaning::specs::Sketch::distance))]
-pub fn compare(shape: Shape, row: &[u8], query: &[u8], radius: u32) -> Verdict
+pub fn compare(shape: Shape, row: &[u8], query: &[u8], radius: u32) -> Option<u32>
     requires shaped { Shaped shape (length row.now) }
     requires row_len { length row.now ≡ length query.now }
     ensures { result ≡ verdict_of (distance row.now query.now) radius }
@@ -52,7 +45,7 @@ pub fn compare(shape: Shape, row: &[u8], query: &[u8], radius: u32) -> Verdict
     let mut k = 0;
     'bytes: loop {
         if k == shape.bytes {
-            break 'bytes Verdict::Within(radius - left);
+            break 'bytes Some(radius - left);
         }
         k += 1;
         let mut groups = if k == shape.bytes {
@@ -63,7 +56,7 @@ pub fn compare(shape: Shape, row: &[u8], query: &[u8], radius: u32) -> Verdict
         while groups > 0 {
             let differs = (row[i] != query[i]) as u32;
             if left < differs {
-                break 'bytes Verdict::Beyond;
+                break 'bytes None;
             }
             left -= differs;
             i += 1;

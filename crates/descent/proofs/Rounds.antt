@@ -12,7 +12,7 @@ use borrow.Author.Tests.{eqb-true, lt-ltb, le-ltb}
 use lib.ListN.{length, get_or, set, take, length-set}
 use lib.Seq.{get_or-set_same, get_or-set_other, take-suc}
 use Rattle.descent.specs.declared.Cursor.{Cursor}
-use Rattle.descent.specs.declared.Left.TheVariants.{Some, Broken}
+use Rattle.std.specs.Prelude.{Some, None}
 use Rattle.descent.specs.Cursor.{Inside, AllInside, ended, going, advance, descended, drawn, drawn_all, left_of, Descended}
 use Rattle.meaning.proofs.Each.{each-put}
 use Rattle.descent.proofs.Steps.{inside-advance, descended-next, descended-done, drawn-ended, drawn-more, drawn-one-more}
@@ -212,7 +212,7 @@ module _ (nodes : List ℕ) (cap : ℕ) (bytes : List ℕ) (n : ℕ) where
           ∙ drawn-parts p.rounds (cap - p.count) n (omega arith)
 
       -- the budget does not last
-      pub paid-short : left < more → Descended nodes cap bytes start n budget record { cursors = now; left = Broken }
+      pub paid-short : left < more → Descended nodes cap bytes start n budget record { cursors = now; left = None }
       unfolding left_of
       paid-short short = record { left = sym (rw (lt-ltb budget (drawn_all nodes cap bytes (take n start)) over) refl); each = λ k e i l. cc }
         where

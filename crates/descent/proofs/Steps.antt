@@ -11,9 +11,9 @@ use borrow.Author.Tests.{eq-eqb, ne_eqb, lt-ltb, le-ltb, ltb-false, eqb-true}
 use Rattle.layout.specs.States.{kind_of}
 use Rattle.layout.specs.declared.nodes.Kind.{Kind}
 use Rattle.layout.specs.declared.nodes.Kind.TheVariants.{Free, Inner, Leaf}
-use Rattle.children.specs.declared.cursor.Seen.{Seen}
-use Rattle.children.specs.declared.cursor.Seen.TheVariants.{Child, Outside}
-use Rattle.children.specs.Cursors.{look_at, first_for}
+use Rattle.std.specs.Prelude.{Option, Some, None}
+use Rattle.children.specs.declared.cursor.Child.{Child}
+use Rattle.children.specs.Cursors.{seen, look_at, first_for}
 use Rattle.descent.specs.declared.Cursor.{Cursor}
 use Rattle.descent.specs.Cursor.{Inside, ended, outside, ahead, arrive_as, arrive, pass, advance, descended, drawn, drawn_all}
 
@@ -53,15 +53,15 @@ module _ (nodes : List ℕ) (cap : ℕ) (bytes : List ℕ) where
       go Inner false e = rw e (record { at = omega (arith, ltb-false last at e); last = h })
       go (Leaf first) short e = inside-ended first (omega arith)
 
-  inside-pass : (at last : ℕ) (a : Seen) → at < length bytes → last < length bytes → Inside bytes (pass nodes cap bytes at last a)
-  inside-pass at last (Child x byte link) g h = go (ltb byte (get_or bytes at 0)) (ltb (get_or bytes at 0) byte)
+  inside-pass : (at last : ℕ) (a : Option Child) → at < length bytes → last < length bytes → Inside bytes (pass nodes cap bytes at last a)
+  inside-pass at last (Some c) g h = go (ltb c.byte (get_or bytes at 0)) (ltb (get_or bytes at 0) c.byte)
     where
       go : (before behind : Bool)
-          → Inside bytes (cond before (ahead link at last) (cond behind (ended 0) (arrive nodes cap bytes x (at + 1) last)))
+          → Inside bytes (cond before (ahead c.link at last) (cond behind (ended 0) (arrive nodes cap bytes c.node (at + 1) last)))
       go true behind = record { at = g; last = h }
       go false true = inside-ended 0 (omega arith)
-      go false false = inside-arrive x (at + 1) last h
-  inside-pass at last Outside g h = inside-ended outside (omega arith)
+      go false false = inside-arrive c.node (at + 1) last h
+  inside-pass at last None g h = inside-ended outside (omega arith)
 
   pub inside-advance : (c : Cursor) → Inside bytes c → Inside bytes (advance nodes cap bytes c)
   unfolding advance
@@ -84,27 +84,27 @@ module _ (nodes : List ℕ) (cap : ℕ) (bytes : List ℕ) where
 
   -- ---- what goes on
 
-  module _ (c : Cursor) (going : c.link ≡ 0 → ⊥) (found : Seen) (e : found ≡ look_at nodes cap c.link) where
-    advance-by : (a : Seen) → found ≡ a → pass nodes cap bytes c.at c.last a ≡ advance nodes cap bytes c
+  module _ (c : Cursor) (going : c.link ≡ 0 → ⊥) (found : Option Child) (e : found ≡ look_at nodes cap c.link) where
+    advance-by : (a : Option Child) → found ≡ a → pass nodes cap bytes c.at c.last a ≡ advance nodes cap bytes c
     unfolding advance
     advance-by a q = rw (ne_eqb c.link 0 going) (ap (pass nodes cap bytes c.at c.last) (sym q ∙ e))
 
-    pub advance-outside : found ≡ Outside → ended outside ≡ advance nodes cap bytes c
-    advance-outside q = advance-by Outside q
+    pub advance-outside : found ≡ None → ended outside ≡ advance nodes cap bytes c
+    advance-outside q = advance-by None q
 
     -- past a child, or down to it
-    module _ (x byte link : ℕ) (q : found ≡ Child x byte link) where
+    module _ (x byte link : ℕ) (q : found ≡ seen x byte link) where
       pub advance-along : byte < get_or bytes c.at 0 → ahead link c.at c.last ≡ advance nodes cap bytes c
-      advance-along h = rw (lt-ltb byte (get_or bytes c.at 0) h) at (advance-by (Child x byte link) q)
+      advance-along h = rw (lt-ltb byte (get_or bytes c.at 0) h) at (advance-by (seen x byte link) q)
 
       pub advance-past : get_or bytes c.at 0 < byte → ended 0 ≡ advance nodes cap bytes c
       advance-past h =
-          rw (le-ltb byte (get_or bytes c.at 0) (omega arith), lt-ltb (get_or bytes c.at 0) byte h) at (advance-by (Child x byte link) q)
+          rw (le-ltb byte (get_or bytes c.at 0) (omega arith), lt-ltb (get_or bytes c.at 0) byte h) at (advance-by (seen x byte link) q)
 
       pub advance-down : get_or bytes c.at 0 ≤ byte → byte ≤ get_or bytes c.at 0
           → arrive nodes cap bytes x (c.at + 1) c.last ≡ advance nodes cap bytes c
       advance-down l h =
-          rw (le-ltb byte (get_or bytes c.at 0) l, le-ltb (get_or bytes c.at 0) byte h) at (advance-by (Child x byte link) q)
+          rw (le-ltb byte (get_or bytes c.at 0) l, le-ltb (get_or bytes c.at 0) byte h) at (advance-by (seen x byte link) q)
 
   -- ---- more steps
 

@@ -1,15 +1,12 @@
 -- Exact descents: the leaf of a trie that the bytes of a block lead to, a step at a time.
-use Rattle.std.specs.Prelude.{ℕ, zero, suc, ◌+◌, ◌-◌, ◌<◌, ◌≤◌, ◌≡◌, cond, List, [], ◌∷◌, ltb, eqb, length, get_or, take}
+use Rattle.std.specs.Prelude.{ℕ, zero, suc, ◌+◌, ◌-◌, ◌<◌, ◌≤◌, ◌≡◌, cond, List, [], ◌∷◌, ltb, eqb, length, get_or, take, Option, Some, None}
 use Rattle.layout.specs.States.{kind_of}
 use Rattle.layout.specs.Tables.{NodeTable}
 use Rattle.layout.specs.declared.nodes.Kind.{Kind}
 use Rattle.layout.specs.declared.nodes.Kind.TheVariants.{Free, Inner, Leaf}
-use Rattle.children.specs.declared.cursor.Seen.{Seen}
-use Rattle.children.specs.declared.cursor.Seen.TheVariants.{Child, Outside}
+use Rattle.children.specs.declared.cursor.Child.{Child}
 use Rattle.children.specs.Cursors.{look_at, first_for}
 use Rattle.descent.specs.declared.Cursor.{Cursor}
-use Rattle.descent.specs.declared.Left.{Left}
-use Rattle.descent.specs.declared.Left.TheVariants.{Some, Broken}
 use Rattle.descent.specs.declared.Descents.{Descents}
 
 -- the node table is long enough for its capacity, and the bytes are at most those of eight blocks
@@ -56,11 +53,11 @@ module _ (nodes : List ℕ) (cap : ℕ) (bytes : List ℕ) where
   arrive x at last = arrive_as x at last (kind_of nodes cap x)
 
   -- along a chain whose bytes rise, by what its link leads to
-  abbrev pub pass : ℕ → ℕ → Seen → Cursor
-  pass at last (Child x byte link) =
-      cond (ltb byte (get_or bytes at 0)) (ahead link at last)
-      (cond (ltb (get_or bytes at 0) byte) (ended 0) (arrive x (at + 1) last))
-  pass at last Outside = ended outside
+  abbrev pub pass : ℕ → ℕ → Option Child → Cursor
+  pass at last (Some c) =
+      cond (ltb c.byte (get_or bytes at 0)) (ahead c.link at last)
+      (cond (ltb (get_or bytes at 0) c.byte) (ended 0) (arrive c.node (at + 1) last))
+  pass at last None = ended outside
 
   -- one step; a descent that has ended stays
   unfoldable pub advance : Cursor → Cursor
@@ -82,8 +79,8 @@ module _ (nodes : List ℕ) (cap : ℕ) (bytes : List ℕ) where
   drawn_all (c ∷ cs) = drawn cap c + drawn_all cs
 
 -- what is left of a budget
-unfoldable pub left_of : ℕ → ℕ → Left
-left_of budget spent = cond (ltb budget spent) Broken (Some (budget - spent))
+unfoldable pub left_of : ℕ → ℕ → Option ℕ
+left_of budget spent = cond (ltb budget spent) None (Some (budget - spent))
 
 -- the first n descents within a budget of nodes: where it lasts, each has made as many steps as there are nodes
 pub record Descended (nodes : List ℕ) (cap : ℕ) (bytes : List ℕ) (before : List Cursor) (n budget : ℕ) (after : Descents) : Type 0 where

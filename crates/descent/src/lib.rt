@@ -5,12 +5,12 @@
 ghost use Rattle.std.specs.Prelude.{◌≡◌, ◌*◌, ◌<◌, ◌≤◌, length};
 ghost use Rattle.descent.specs.Cursor.{Fits, Inside, AllInside, ended, arrive, advance, going, Descended, leaf_of};
 
-use children::cursor::{Seen, first_for, look};
+use children::cursor::{Child, first_for, look};
 use layout::nodes::{Kind, kind_of};
 
 // Where a descent stands: ahead of the child at `link`, which must have the byte at `at`; the block's last byte is at `last`.
 // At link 0 it has ended: `first` is the link of the leaf's first page, or 0 where no leaf is reached.
-#[derive(Clone, Copy)]
+#[derive(Clone, Copy, Debug, PartialEq, Eq)]
 pub struct Cursor {
     pub link: u32,
     pub at: u32,
@@ -18,18 +18,11 @@ pub struct Cursor {
     pub first: u32,
 }
 
-// What is left of a budget; or it was spent, or a link led outside.
-#[derive(Clone, Copy)]
-pub enum Left {
-    Some(u32),
-    Broken,
-}
-
-// Descents that have ended, and what they leave of the nodes that may be read.
-#[derive(Clone, Copy)]
+// Descents that have ended, and what they leave of the nodes that may be read: none where the budget was spent.
+#[derive(Clone, Copy, Debug, PartialEq, Eq)]
 pub struct Descents {
     pub cursors: [Cursor; 16],
-    pub left: Left,
+    pub left: Option<u32>,
 }
 
 // A link past every page: what a descent gives that meets a link out of order.
@@ -43,7 +36,7 @@ pub fn ended(first: u32) -> Cursor
         link: 0,
         at: 0,
         last: 0,
-        first: first,
+        first,
     }
 }
 
@@ -63,8 +56,8 @@ pub fn arrive(nodes: &[u32], cap: usize, bytes: &[u8], x: usize, at: u32, last: 
             let byte = bytes[at as usize] as u32;
             Cursor {
                 link: first_for(nodes, cap, x, byte),
-                at: at,
-                last: last,
+                at,
+                last,
                 first: 0,
             }
         }
@@ -81,12 +74,12 @@ fn advance(nodes: &[u32], cap: usize, bytes: &[u8], c: Cursor) -> Cursor
         return c;
     }
     match look(nodes, cap, c.link) {
-        Seen::Outside => ended(OUTSIDE),
-        Seen::Child(x, byte, link) => {
+        None => ended(OUTSIDE),
+        Some(Child { node, byte, link }) => {
             let y = bytes[c.at as usize] as u32;
             if byte < y {
                 return Cursor {
-                    link: link,
+                    link,
                     at: c.at,
                     last: c.last,
                     first: 0,
@@ -95,7 +88,7 @@ fn advance(nodes: &[u32], cap: usize, bytes: &[u8], c: Cursor) -> Cursor
             if y < byte {
                 return ended(0);
             }
-            arrive(nodes, cap, bytes, x as usize, c.at + 1, c.last)
+            arrive(nodes, cap, bytes, node as usize, c.at + 1, c.last)
         }
     }
 }
@@ -107,10 +100,8 @@ fn going(cursors: [Cursor; 16], n: usize) -> u32
     ensures { result ≡ going cursors n }
 {
     let mut count = 0;
-    let mut i = 0;
-    while i < n {
+    for i in 0..n {
         count += (cursors[i].link != 0) as u32;
-        i += 1;
     }
     count
 }
@@ -132,26 +123,25 @@ pub fn descend(
     let mut cursors = start;
     let mut left = budget;
     let mut more = going(start, n);
+    // No `for`: there are as many rounds as the longest descent has steps.
     while more > 0 {
         if left < more {
             return Descents {
-                cursors: cursors,
-                left: Left::Broken,
+                cursors,
+                left: None,
             };
         }
         left -= more;
         more = 0;
-        let mut j = 0;
-        while j < n {
+        for j in 0..n {
             let c = advance(nodes, cap, bytes, cursors[j]);
             cursors[j] = c;
             more += (c.link != 0) as u32;
-            j += 1;
         }
     }
     Descents {
-        cursors: cursors,
-        left: Left::Some(left),
+        cursors,
+        left: Some(left),
     }
 }
 

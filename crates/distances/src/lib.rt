@@ -74,20 +74,29 @@ const BYTE_DISTANCES: [u8; 2048] = [
     1, 1, 1, 1, 1, 1, 1, 1, 1, 1, 1, 1, 1, 1, 1, 1, 1, 1, 1, 1, 1, 1, 1, 1, 1, 1, 1, 1, 1, 1, 1, 1,
 ];
 
-// The table as a value. It is made anew by each call: a search makes it once and lends it to each step.
-#[tactic(auto, unfolding(crate::specs::Table::distance_table, meaning::specs::Sketch::byte_distance, meaning::specs::Lists::upto, meaning::specs::Lists::from, meaning::specs::Sketch::group, meaning::specs::Sketch::per_byte))]
-pub fn distance_table() -> [u8; 2048]
-    ensures { result ≡ distance_table }
-{
-    BYTE_DISTANCES
+// The table as a value, with the fact that it is the table of byte distances. A search makes it once and lends it to each step.
+pub struct Distances {
+    table: [u8; 2048],
+    ghost is_table: { table ≡ distance_table },
 }
 
-// How many symbols of b bits differ in two packed bytes whose exclusive or is v.
-#[tactic(auto, unfolding(crate::specs::Table::distance_table, meaning::specs::Sketch::byte_distance))]
-pub fn byte_distance(table: &[u8; 2048], b: u32, v: u8) -> u32
-    requires table_value { table.now ≡ distance_table }
-    requires bits { Bits b }
-    ensures { result ≡ byte_distance b v }
-{
-    table[(b as usize - 1) * 256 + v as usize] as u32
+impl Distances {
+    // Every call makes the value anew.
+    #[tactic(auto, unfolding(crate::specs::Table::distance_table, meaning::specs::Sketch::byte_distance, meaning::specs::Lists::upto, meaning::specs::Lists::from, meaning::specs::Sketch::group, meaning::specs::Sketch::per_byte))]
+    pub fn new() -> Distances
+        ensures { result.table ≡ distance_table }
+    {
+        Distances {
+            table: BYTE_DISTANCES,
+        }
+    }
+
+    // How many symbols of b bits differ in two packed bytes whose exclusive or is v.
+    #[tactic(auto, unfolding(crate::specs::Table::distance_table, meaning::specs::Sketch::byte_distance))]
+    pub fn byte_distance(&self, b: u32, v: u8) -> u32
+        requires bits { Bits b }
+        ensures { result ≡ byte_distance b v }
+    {
+        self.table[(b as usize - 1) * 256 + v as usize] as u32
+    }
 }

@@ -1,4 +1,5 @@
 -- The test of a page, step by step, and that its words and its row lie in the tables.
+use Rattle.std.specs.Prelude.{Some, None}
 use mathlib.Core.Path.{◌≡◌, refl, sym}
 use mathlib.Core.Bool.{Bool, true, false, cond, ◌&&◌, and-false}
 use mathlib.Core.List.{List}
@@ -17,7 +18,6 @@ use Rattle.layout.specs.Lengths.{pages_length, sketches_length}
 use Rattle.layout.specs.Pages.{is_live, class_of, signature_at, row_of}
 use Rattle.layout.proofs.Rows.{row_inside, length-row}
 use Rattle.rights.specs.Open.{is_open}
-use Rattle.comparison.specs.declared.Verdict.TheVariants.{Within, Beyond}
 use Rattle.comparison.specs.Verdicts.{verdict_of}
 use Rattle.signature.proofs.Most.{signature-most}
 use Rattle.hits.specs.Hit.{Test, Fitting, far, is_hit, is_near, near_query, passes, verdict}
@@ -31,12 +31,12 @@ near-all h pages s radius p e =
 
 module _ (t : Test) (p : ℕ) (below : p < t.header.pages) where
   -- the page word says that the page is not live, or gives its class
-  pub dead : get_or t.pages p 0 ≡ 0 → Beyond ≡ verdict t p
+  pub dead : get_or t.pages p 0 ≡ 0 → None ≡ verdict t p
   unfolding verdict passes is_hit is_live
   dead e = rw (lt-ltb p t.header.pages below, e)
 
   module _ (live : get_or t.pages p 0 ≢ 0) where
-    pub closed : is_open t.classes (get_or t.pages p 0 - 1) ≡ false → Beyond ≡ verdict t p
+    pub closed : is_open t.classes (get_or t.pages p 0 - 1) ≡ false → None ≡ verdict t p
     unfolding verdict passes is_hit is_live class_of
     closed f = rw (lt-ltb p t.header.pages below, lt-ltb 0 (get_or t.pages p 0) (omega arith), f)
 
@@ -46,11 +46,11 @@ module _ (t : Test) (p : ℕ) (below : p < t.header.pages) where
     judged f e row g =
         rw (e, lt-ltb p t.header.pages below, lt-ltb 0 (get_or t.pages p 0) (omega arith), f, g) (go (leb (far t p) t.radius))
       where
-        go : (s : Bool) → cond s (Within (far t p)) Beyond ≡ cond (s && true) (Within (far t p)) Beyond
+        go : (s : Bool) → cond s (Some (far t p)) None ≡ cond (s && true) (Some (far t p)) None
         go true = refl
         go false = refl
 
-  pub hidden : near_query t p ≡ false → Beyond ≡ verdict t p
+  pub hidden : near_query t p ≡ false → None ≡ verdict t p
   unfolding verdict passes
   hidden e = rw (e, and-false (is_hit t p))
 
@@ -83,18 +83,18 @@ passes-near t p e =
     )
 
 -- what the verdict says
-pub verdict-within : (t : Test) (p d : ℕ) → verdict t p ≡ Within d → (passes t p ≡ true) × (d ≡ far t p)
+pub verdict-within : (t : Test) (p d : ℕ) → verdict t p ≡ Some d → (passes t p ≡ true) × (d ≡ far t p)
 unfolding verdict
 verdict-within t p d = go (passes t p)
   where
-    go : (s : Bool) → cond s (Within (far t p)) Beyond ≡ Within d → (s ≡ true) × (d ≡ far t p)
+    go : (s : Bool) → cond s (Some (far t p)) None ≡ Some d → (s ≡ true) × (d ≡ far t p)
     go true e = (refl, cc)
     go false e = let z : ◌≡◌ {A = ℕ} 0 1 = cc in absurd (omega arith)
 
-pub verdict-beyond : (t : Test) (p : ℕ) → verdict t p ≡ Beyond → passes t p ≡ false
+pub verdict-beyond : (t : Test) (p : ℕ) → verdict t p ≡ None → passes t p ≡ false
 unfolding verdict
 verdict-beyond t p = go (passes t p)
   where
-    go : (s : Bool) → cond s (Within (far t p)) Beyond ≡ Beyond → s ≡ false
+    go : (s : Bool) → cond s (Some (far t p)) None ≡ None → s ≡ false
     go true e = let z : ◌≡◌ {A = ℕ} 0 1 = cc in absurd (omega arith)
     go false e = refl

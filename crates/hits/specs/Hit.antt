@@ -1,5 +1,5 @@
 -- The test that a page must pass to be listed: live, of an open class, and within the radius of the query.
-use Rattle.std.specs.Prelude.{ℕ, ◌≤◌, ◌≡◌, Bool, cond, ◌&&◌, List, ltb, leb, length}
+use Rattle.std.specs.Prelude.{ℕ, ◌≤◌, ◌≡◌, Bool, cond, ◌&&◌, List, ltb, leb, length, Option, Some, None}
 use Rattle.meaning.specs.Sketch.{distance}
 use Rattle.layout.specs.declared.Header.{Header}
 use Rattle.layout.specs.Header.{header_of, bare}
@@ -9,8 +9,6 @@ use Rattle.layout.specs.Pages.{is_live, class_of, signature_at, row_of}
 use Rattle.layout.specs.Signature.{signature}
 use Rattle.rights.specs.declared.Classes.{Classes}
 use Rattle.rights.specs.Open.{is_open, entry_of}
-use Rattle.comparison.specs.declared.Verdict.{Verdict}
-use Rattle.comparison.specs.declared.Verdict.TheVariants.{Within, Beyond}
 use Rattle.promises.specs.Tables.{Tables, given}
 use Rattle.signature.specs.Distance.{signature_distance}
 
@@ -66,5 +64,5 @@ unfoldable pub passes : Test → ℕ → Bool
 passes t p = is_hit t p && near_query t p
 
 -- what it says: the distance of a page that passes
-unfoldable pub verdict : Test → ℕ → Verdict
-verdict t p = cond (passes t p) (Within (far t p)) Beyond
+unfoldable pub verdict : Test → ℕ → Option ℕ
+verdict t p = cond (passes t p) (Some (far t p)) None

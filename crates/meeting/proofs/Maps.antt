@@ -1,4 +1,5 @@
 -- What the maps say after pages are met: page by page, and together.
+use Rattle.std.specs.Prelude.{Some, None}
 use Prim.Native.Nat.{ℕ, ◌+◌, ◌*◌, ◌/◌, ◌<◌, ◌≤◌}
 use native.Mathlib.Omega.{arith}
 use native.Mathlib.Nat.{add-zero, zero-add}
@@ -15,7 +16,6 @@ use Rattle.words.proofs.Rising.{rising-same}
 use Rattle.marks.specs.Marks.{summary_of, Room, marked, fresh, list_of, Counts}
 use Rattle.marks.proofs.Marked.{marked-length, marked-behind, marked-flag, marked-count, marked-counts, marked-summarised}
 use Rattle.marks.proofs.Pages.{rising-over, rising-keep}
-use Rattle.comparison.specs.declared.Verdict.TheVariants.{Within, Beyond}
 use Rattle.hits.specs.Hit.{Test, far, passes, verdict}
 use Rattle.hits.proofs.Hit.{verdict-within, verdict-beyond}
 use Rattle.meeting.specs.Mets.{Kept, Met}
@@ -132,11 +132,11 @@ module _ (t : Test) (words : ℕ) (map : List ℕ) (p : ℕ) (inside : p / 32 < 
   pub turned-again : flag map 0 p ≡ true → Turned t words map p map counts 0
   turned-again e = record { met = again (passes t) words map p inside room e; new = sym (add-zero (length (list_of map words))); counted = c }
 
-  pub turned-out : verdict t p ≡ Beyond → Turned t words map p map counts 0
+  pub turned-out : verdict t p ≡ None → Turned t words map p map counts 0
   turned-out e =
       record { met = left_out (passes t) words map p inside room (verdict-beyond t p e); new = sym (add-zero (length (list_of map words))); counted = c }
 
-  module _ (d : ℕ) (within : verdict t p ≡ Within d) where
+  module _ (d : ℕ) (within : verdict t p ≡ Some d) where
     hit : (passes t p ≡ true) × (d ≡ far t p)
     hit = verdict-within t p d within
 

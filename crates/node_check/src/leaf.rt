@@ -51,8 +51,8 @@ fn is_on_path(
     ensures { result ≡ on_path sketches.now rows path.now depth p }
 {
     for k in 0..depth {
-        let level = blocks::packed::level_at(rows, k);
-        if blocks::packed::page_byte(sketches, level, block, p) as u8 != path[k] {
+        let level = rows.level_at(k);
+        if level.page_byte(sketches, block, p) as u8 != path[k] {
             return false;
         }
     }

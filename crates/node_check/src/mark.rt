@@ -25,6 +25,6 @@ pub fn mark_once(map: &mut [u32], window: Window, x: usize) -> bool
     if words::has(map, 0, n) {
         return false;
     }
-    words::set(map, 0, n);
+    words::set(map, 0, n, true);
     true
 }

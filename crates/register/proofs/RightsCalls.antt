@@ -1,4 +1,5 @@
 -- A change of the register: what `refusal` answers, and one law for each way out, over the change.
+use Rattle.std.specs.Prelude.{Ok, Err}
 use Prim.Native.Nat.{ℕ, ◌≤◌, ◌<◌}
 use native.Mathlib.Omega.{arith}
 use mathlib.Core.Path.{◌≡◌, refl, sym, ◌∙◌}
@@ -13,7 +14,6 @@ use Rattle.meaning.specs.Ledger.{change}
 use Rattle.meaning.specs.Questions.{asked}
 use Rattle.meaning.proofs.Lists.{and_first, and_second}
 use Rattle.layout.specs.declared.Header.{Header}
-use Rattle.layout.specs.declared.Opening.TheVariants.{Shown, Refused}
 use Rattle.layout.specs.Settings.{settings_length}
 use Rattle.layout.specs.Header.{opening_of, tables_first}
 use Rattle.layout.proofs.Openings.{shown-number, refused-number}
@@ -27,11 +27,11 @@ use Rattle.entry.proofs.Questions.{all_yes}
 
 -- ---- 5 and 6, by the answer of `opening`
 module _ (ws : List ℕ) (t : Bool) where
-  pub register-shown : (h : Header) → opening_of ws ≡ Shown h → register_number ws t ≡ cond t 0 7
+  pub register-shown : (h : Header) → opening_of ws ≡ Ok h → register_number ws t ≡ cond t 0 7
   unfolding register_number first_no
   register-shown h e = shown-number ws true (ask 7 t ∷ []) h e
 
-  pub register-refused : (n : ℕ) → opening_of ws ≡ Refused n → register_number ws t ≡ n
+  pub register-refused : (n : ℕ) → opening_of ws ≡ Err n → register_number ws t ≡ n
   unfolding register_number
   register-refused n e = refused-number ws true (ask 7 t ∷ []) n e
 

@@ -4,19 +4,18 @@
 
 ghost use Rattle.std.specs.Prelude.{◌≡◌, ◌≤◌, length};
 ghost use Rattle.sketch.specs.Settings.{Bits};
-ghost use Rattle.distances.specs.Table.{distance_table};
-ghost use Rattle.blocks.specs.RowBytes.{reduced};
+ghost use Rattle.sketch.specs.Reduced.{reduced};
 ghost use Rattle.layout.specs.Signature.{signature};
 ghost use Rattle.signature.specs.Distance.{signature_distance};
 
 use blocks::packed::row_byte;
-use distances::byte_distance;
+use distances::Distances;
 use sketch::limits::{packed_length, per_byte};
 use sketch::packing::symbols_at;
 
 // The signature of a row of symbols, each taken modulo 2^b, so that any row has one; symbols in range stay as they are.
 // From the last packed byte to the first: the word is rotated by a byte, and the byte goes into its lowest.
-#[tactic(auto, unfolding(layout::specs::Signature::signature, blocks::specs::RowBytes::reduced))]
+#[tactic(auto, unfolding(layout::specs::Signature::signature, sketch::specs::Reduced::reduced))]
 pub fn signature_of(b: u32, row: &[u8]) -> u32
     requires bits { Bits b }
     requires row_len_bound { length row.now ≤ 64 }
@@ -25,25 +24,22 @@ pub fn signature_of(b: u32, row: &[u8]) -> u32
     let n = row.len();
     let z = per_byte(b);
     let mut s: u32 = 0;
-    let mut k = packed_length(b, n);
-    while k > 0 {
-        k -= 1;
+    for k in (0..packed_length(b, n)).rev() {
         let count = symbols_at(b, n, k);
-        s = row_byte(b, row, k * z, count) ^ ((s << 8) | (s >> 24));
+        s = row_byte(b, row, k * z, count) ^ s.rotate_left(8);
     }
     s
 }
 
 // The distance of two signatures: four entries of the table of byte distances.
 #[tactic(auto, unfolding(crate::specs::Distance::signature_distance, meaning::specs::Lists::sum, meaning::specs::Lists::from, meaning::specs::Lists::upto, meaning::specs::Sketch::group))]
-pub fn signature_distance(table: &[u8; 2048], b: u32, s: u32, t: u32) -> u32
-    requires table_value { table.now ≡ distance_table }
+pub fn signature_distance(table: &Distances, b: u32, s: u32, t: u32) -> u32
     requires bits { Bits b }
     ensures { result ≡ signature_distance b s t }
 {
     let x = s ^ t;
-    byte_distance(table, b, (x % 256) as u8)
-        + byte_distance(table, b, (x / 256 % 256) as u8)
-        + byte_distance(table, b, (x / 65536 % 256) as u8)
-        + byte_distance(table, b, (x / 16777216 % 256) as u8)
+    table.byte_distance(b, (x % 256) as u8)
+        + table.byte_distance(b, (x / 256 % 256) as u8)
+        + table.byte_distance(b, (x / 65536 % 256) as u8)
+        + table.byte_distance(b, (x / 16777216 % 256) as u8)
 }

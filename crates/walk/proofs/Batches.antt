@@ -24,7 +24,7 @@ use Rattle.walk.proofs.Spend.{before-none}
 use Rattle.walk.proofs.Run.{from-by}
 
 -- ---- the ends of a batch
-module _ {w : Given} {stack : List ℕ} {all : Leaves} {steps : ℕ} {r : Batch} (g : Gives w stack all steps r) where
+module _ {w : Given} {stack : List Frame} {all : Leaves} {steps : ℕ} {r : Batch} (g : Gives w stack all steps r) where
   gives_as : (a : Rest) → r.rest ≡ a → all ≡ before (links_of r) (still w stack a)
   gives_as a e = sym g.same ∙ ap (λ x. before (links_of r) (still w stack x)) e
 
@@ -41,7 +41,7 @@ module _ {w : Given} {stack : List ℕ} {all : Leaves} {steps : ℕ} {r : Batch}
   gives-broken e = gives_as Broken e
 
 -- ---- the first
-gives-bare : (w : Given) (stack : List ℕ) (all : Leaves) (steps : ℕ) (a : Rest) → still w stack a ≡ all → Ready w stack steps a → Gives w stack all steps (bare a)
+gives-bare : (w : Given) (stack : List Frame) (all : Leaves) (steps : ℕ) (a : Rest) → still w stack a ≡ all → Ready w stack steps a → Gives w stack all steps (bare a)
 gives-bare w stack all steps a e h = record { few = omega arith; same = before-none (still w stack a) ∙ e; ready = h }
 
 module _ (w : Given) (root radius budget : ℕ) (some : 0 < radius) (is : Kind) (e : is ≡ kind_of w.nodes w.cap root) where

@@ -6,7 +6,7 @@ use mathlib.Core.Path.{◌≡◌, refl, sym, ap, ◌∙◌}
 use mathlib.Core.Bool.{Bool, true, false, cond}
 use mathlib.Core.List.{List, [], ◌∷◌, ◌++◌}
 use lib.Dec.{ltb, eqb}
-use lib.ListN.{length, set, take}
+use lib.ListN.{length, set, take, length-set}
 use borrow.Author.Tests.{eqb-true, eqb-false, lt-ltb, le-ltb}
 use Rattle.descent.specs.declared.Cursor.{Cursor}
 use Rattle.descent.specs.Cursor.{AllInside}
@@ -17,8 +17,8 @@ use Rattle.walk_steps.specs.declared.turn.Move.TheVariants.{Chain, Past, Leaf, D
 use Rattle.walk_steps.specs.Given.{Given, Fitting}
 use Rattle.walk_steps.specs.Turn.{entered, at_chain, at_link, found, reads}
 use Rattle.walk_steps.specs.Place.{with_nodes, on_chain, on_link, lowered, raised, turned}
-use Rattle.walk_steps.specs.Stack.{frame_at, frames, pushed, AllWithin}
-use Rattle.walk_steps.proofs.Stack.{pushed-length, frames-push, frames-length, frames-none, frames-take, entered-within}
+use Rattle.walk_steps.specs.Stack.{frame_at, frames, AllWithin}
+use Rattle.walk_steps.proofs.Stack.{frames-put, frames-length, frames-none, frames-take, entered-within}
 use Rattle.walk_steps.proofs.Turns.{Kept, kept_by}
 use Rattle.walk.specs.declared.batch.Rest.TheVariants as rest
 use Rattle.walk.specs.declared.batch.Batch.{Batch}
@@ -91,13 +91,13 @@ module _ (w : Given) where
   -- ---- between turns
   module _ (goal : Leaves) (most : ℕ) where
     -- n leaves wait, and each has cost a step at least
-    pub record Going (waiting : List Cursor) (n : ℕ) (p : Place) (stack : List ℕ) : Type 0 where
+    pub record Going (waiting : List Cursor) (n : ℕ) (p : Place) (stack : List Frame) : Type 0 where
       pub walk : behind (take n waiting) p.nodes p.steps p.frame (frames stack p.depth) ≡ goal
       pub stands : Standing w stack p
       pub waits : AllInside w.bytes waiting n
       pub spent : n + p.steps ≤ most
 
-    module _ (fits : Fitting w) {waiting : List Cursor} {n : ℕ} {p : Place} {stack : List ℕ} (g : Going waiting n p stack) where
+    module _ (fits : Fitting w) {waiting : List Cursor} {n : ℕ} {p : Place} {stack : List Frame} (g : Going waiting n p stack) where
       -- with fewer nodes left it stands as well
       stands-less : (k : ℕ) → k ≤ p.nodes → Standing w stack (with_nodes p k)
       stands-less k l = record {
@@ -171,21 +171,21 @@ module _ (w : Given) where
               spent = omega (arith, g.spent, held.1);
             }
 
-        pub going-down : (x radius link : ℕ) → answer ≡ Down x radius link → (q r : Place) (deeper : List ℕ) → q ≡ on_link p link
-            → deeper ≡ pushed stack q.depth q.frame → r ≡ lowered w.nodes w.cap q x radius → Going waiting n r deeper
-        going-down x radius link h q r deeper o d f =
+        pub going-down : (x radius link : ℕ) → answer ≡ Down x radius link → (q r : Place) → q ≡ on_link p link
+            → r ≡ lowered w.nodes w.cap q x radius → Going waiting n r (set stack q.depth q.frame)
+        going-down x radius link h q r o f =
             let held = kept (Down x radius link) h in
             let back : Frame = at_link p.frame link in
-            let put : frames (pushed stack p.depth back) (p.depth + 1) ≡ back ∷ frames stack p.depth =
-            frames-push stack p.depth back (omega (arith, g.stands.level, fits.bytes)) g.stands.room in
-            rw (f, d, o) record {
+            let put : frames (set stack p.depth back) (p.depth + 1) ≡ back ∷ frames stack p.depth =
+            frames-put stack p.depth back (omega (arith, g.stands.level, fits.bytes, g.stands.room)) in
+            rw (f, o) record {
               walk =
                   ap (behind (take n waiting) (p.nodes - 1) (p.steps - 1) (entered w.nodes w.cap x radius)) put
                   ∙ led (Down x radius link) h;
               stands = record {
                 here = entered-within w.nodes w.cap x radius held.2;
                 over = rw put (g.stands.here, g.stands.over);
-                room = pushed-length stack p.depth back ∙ g.stands.room;
+                room = length-set stack p.depth back ∙ g.stands.room;
                 level = held.3;
                 few = omega (arith, g.stands.few);
               };
@@ -227,7 +227,7 @@ module _ (w : Given) where
         going-broken h = record { few = omega arith; same = led Broken h; ready = tt }
 
   -- at the start none waits
-  pub going_start : (waiting : List Cursor) (p : Place) (stack : List ℕ) → length waiting ≡ 16 → Standing w stack p
+  pub going_start : (waiting : List Cursor) (p : Place) (stack : List Frame) → length waiting ≡ 16 → Standing w stack p
       → Going (from w stack p) p.steps waiting 0 p stack
   going_start waiting p stack long stands = record {
     walk = past-none w (λ k. run w p.steps k (state p.frame (frames stack p.depth))) p.nodes;

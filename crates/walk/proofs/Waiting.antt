@@ -10,7 +10,8 @@ use lib.ListN.{length, get_or, set, take, length-set}
 use borrow.Author.Tests.{ltb-false}
 use lib.Seq.{take-suc, take-suc-set}
 use Rattle.descent.specs.declared.Cursor.{Cursor}
-use Rattle.descent.specs.declared.Left.TheVariants as left
+use Rattle.std.specs.Prelude.{Some, None}
+use Rattle.walk_steps.specs.declared.frame.Frame.{Frame}
 use Rattle.descent.specs.Cursor.{Inside, AllInside, ended, drawn_all, left_of}
 use Rattle.meaning.proofs.Each.{each-put}
 use Rattle.descent.proofs.Steps.{drawn-one-more}
@@ -76,12 +77,12 @@ module _ (w : Given) where
       ∙ sym (map-append (leaf_from w) (take n cs) (get_or cs n (ended 0) ∷ []))
       ∙ ap links_by (sym (take-suc cs n (ended 0) (omega arith)))
 
-  module _ (stack : List ℕ) (p : Place) (cs : List Cursor) (n : ℕ) (inside : AllInside w.bytes cs n) (r : Batch) (s : Settled w cs n p r) where
+  module _ (stack : List Frame) (p : Place) (cs : List Cursor) (n : ℕ) (inside : AllInside w.bytes cs n) (r : Batch) (s : Settled w cs n p r) where
     -- what follows them
     abbrev pub following : ℕ → Leaves
     following k = cond (ltb n 16) (leaves [] k) (from w stack (with_nodes p k))
 
-    same-still : (k : ℕ) → still w stack (rest_of n p (left.Some k)) ≡ following k
+    same-still : (k : ℕ) → still w stack (rest_of n p (Some k)) ≡ following k
     same-still k = go (ltb n 16)
       where
         go : (q : Bool) → still w stack (cond q (Done k) (More (with_nodes p k))) ≡ cond q (leaves [] k) (from w stack (with_nodes p k))
@@ -96,12 +97,12 @@ module _ (w : Given) where
         spent = drawn_by w (take n cs)
 
         go : (q : Bool) → ltb p.nodes spent ≡ q
-            → before (links_of r) (still w stack (rest_of n p (cond q left.Broken (left.Some (p.nodes - spent)))))
+            → before (links_of r) (still w stack (rest_of n p (cond q None (Some (p.nodes - spent)))))
             ≡ cond q broken (before (links_by (take n cs)) (following (p.nodes - spent)))
         go true e = refl
         go false e =
-            ap (λ m. before (take m r.links) (still w stack (rest_of n p (left.Some (p.nodes - spent))))) s.count
-            ∙ ap (λ ls. before ls (still w stack (rest_of n p (left.Some (p.nodes - spent)))))
+            ap (λ m. before (take m r.links) (still w stack (rest_of n p (Some (p.nodes - spent))))) s.count
+            ∙ ap (λ ls. before ls (still w stack (rest_of n p (Some (p.nodes - spent)))))
             (linked r.links cs n (omega (arith, s.long, inside.few)) (omega (arith, inside.long, inside.few))
             (s.each (p.nodes - spent) (rw e refl)))
             ∙ ap (before (links_by (take n cs))) (same-still (p.nodes - spent))
@@ -119,7 +120,7 @@ module _ (w : Given) where
         going true e = tt
         going false e = (h (p.nodes - spent) (omega arith), l (ltb-false n 16 e))
 
-        go : (short : Bool) → Ready w stack steps (rest_of n p (cond short left.Broken (left.Some (p.nodes - spent))))
+        go : (short : Bool) → Ready w stack steps (rest_of n p (cond short None (Some (p.nodes - spent))))
         go true = tt
         go false = going (ltb n 16) refl
 

@@ -1,6 +1,7 @@
 -- A walk in batches: what one gives, and what it leaves of the walk.
 use Rattle.std.specs.Prelude.{ℕ, suc, ◌<◌, ◌≤◌, ◌≡◌, List, [], length, take, replicate}
 use Rattle.layout.specs.Nodes.{steps_for}
+use Rattle.walk_steps.specs.declared.frame.Frame.{Frame}
 use Rattle.walk_steps.specs.declared.place.Place.{Place}
 use Rattle.walk_steps.specs.Given.{Given}
 use Rattle.walk_steps.specs.Stack.{frames, Within, AllWithin}
@@ -18,7 +19,7 @@ bare rest = record { links = replicate 16 0; n = 0; rest = rest }
 abbrev pub links_of : Batch → List ℕ
 links_of r = take r.n r.links
 
-module _ (w : Given) (stack : List ℕ) where
+module _ (w : Given) (stack : List Frame) where
   -- what a walk gives from a place on
   abbrev pub from : Place → Leaves
   from p = run w p.steps p.nodes (state p.frame (frames stack p.depth))
@@ -33,7 +34,7 @@ module _ (w : Given) (stack : List ℕ) where
   pub record Standing (p : Place) : Type 0 where
     pub here : Within w.cap p.frame
     pub over : AllWithin w.cap (frames stack p.depth)
-    pub room : length stack ≡ 256
+    pub room : length stack ≡ 64
     pub level : p.depth < length w.bytes
     pub few : p.nodes < w.cap
 
@@ -51,4 +52,4 @@ module _ (w : Given) (stack : List ℕ) where
 
 -- the first batch, with any stack
 abbrev pub Begins : Given → Leaves → Batch → Type 0
-Begins w all r = (stack : List ℕ) → length stack ≡ 256 → Gives w stack all (suc (steps_for w.cap)) r
+Begins w all r = (stack : List Frame) → length stack ≡ 64 → Gives w stack all (suc (steps_for w.cap)) r

@@ -1,31 +1,32 @@
 // The leaves of a walk in batches. A walk ends on any tables: each node that it reads draws on a budget, and each step on another.
 ghost use Rattle.std.specs.Prelude.{◌≡◌, ◌<◌, ◌≤◌};
-ghost use Rattle.distances.specs.Table.{distance_table};
 ghost use Rattle.descent.specs.Cursor.{AllInside};
-ghost use Rattle.walk_steps.specs.Given.{within, Fitting};
+ghost use Rattle.walk_steps.specs.Walks.{given_of};
 ghost use Rattle.walk.specs.Walk.{walk_from};
 ghost use Rattle.walk.specs.Waiting.{AllLeaves, rest_of, Settled};
 ghost use Rattle.walk.specs.Batch.{bare, from, Standing, Gives, Begins};
 
-use descent::{Cursor, Left};
+use descent::{Cursor, Descents};
 use layout::nodes::Kind;
-use walk_steps::place::{Place, lower, on_chain, on_link, raise};
+use walk_steps::frame;
+use walk_steps::frame::Frame;
+use walk_steps::place::Place;
 use walk_steps::turn::{Move, turn};
-use walk_steps::{Scope, frame};
+use walk_steps::walk::Walk;
 
-// What is left of a walk.
-#[derive(Clone, Copy)]
+// What is left of a walk. An enum: it goes on, it is over, or it cannot go on.
+#[derive(Clone, Copy, Debug, PartialEq, Eq)]
 pub enum Rest {
     // it goes on from a place
-    More(Place),
+    More { place: Place },
     // it is over, with so many of the nodes left
-    Done(u32),
+    Done { nodes: u32 },
     // a link is not in order, or a budget did not last
     Broken,
 }
 
 // The next n leaves, each by the link to its first page, and what is left of the walk.
-#[derive(Clone, Copy)]
+#[derive(Clone, Copy, Debug, PartialEq, Eq)]
 pub struct Batch {
     pub links: [u32; 16],
     pub n: usize,
@@ -38,50 +39,41 @@ fn leaves_of(cursors: [Cursor; 16], n: usize) -> [u32; 16]
     ensures { AllLeaves cursors n result }
 {
     let mut links = [0u32; 16];
-    let mut i = 0;
-    while i < n {
+    for i in 0..n {
         links[i] = descent::leaf_of(cursors[i]);
-        i += 1;
     }
     links
 }
 
 // What is left of a walk at a place, when the descents of n leaves have left so much. Fewer than 16 wait at the end of a walk alone.
-fn rest_of(left: Left, n: usize, place: Place) -> Rest
+fn rest_of(left: Option<u32>, n: usize, place: Place) -> Rest
     ensures { result ≡ rest_of n place left }
 {
-    let Left::Some(nodes) = left else {
+    let Some(nodes) = left else {
         return Rest::Broken;
     };
     if n < 16 {
-        return Rest::Done(nodes);
+        return Rest::Done { nodes };
     }
-    let frame = place.frame;
-    Rest::More(Place {
-        depth: place.depth,
-        frame,
-        nodes,
-        steps: place.steps,
-    })
+    Rest::More {
+        place: Place { nodes, ..place },
+    }
 }
 
 // The batch of n leaves that wait at a place: their descents go on together.
-fn settle(
-    nodes: &[u32],
-    bytes: &[u8],
-    scope: Scope,
-    waiting: [Cursor; 16],
-    n: usize,
-    place: Place,
-) -> Batch
-    requires fitting { Fitting (within nodes.now bytes.now scope) }
-    requires all_inside { AllInside bytes.now waiting n }
-    requires nodes_lt_cap { place.nodes < scope.cap }
-    ensures { Settled (within nodes.now bytes.now scope) waiting n place result }
+fn settle(walk: &Walk<'_>, waiting: [Cursor; 16], n: usize, place: Place) -> Batch
+    requires all_inside { AllInside walk.now.bytes.now waiting n }
+    requires nodes_lt_cap { place.nodes < walk.now.cap }
+    ensures { Settled (given_of walk.now) waiting n place result }
 {
-    let found = descent::descend(nodes, scope.cap, bytes, waiting, n, place.nodes);
-    let cursors = found.cursors;
-    let left = found.left;
+    let Descents { cursors, left } = descent::descend(
+        walk.nodes,
+        walk.cap,
+        walk.bytes,
+        waiting,
+        n,
+        place.nodes,
+    );
     Batch {
         links: leaves_of(cursors, n),
         n,
@@ -101,19 +93,12 @@ fn bare(rest: Rest) -> Batch
 }
 
 // At the root of a trie, with a budget of nodes to read behind it. The radius is not 0.
-pub fn begin(
-    nodes: &[u32],
-    bytes: &[u8],
-    scope: Scope,
-    root: usize,
-    radius: u32,
-    budget: u32,
-) -> Batch
-    requires fitting { Fitting (within nodes.now bytes.now scope) }
-    requires root_lt_cap { (root < scope.cap) × (budget < scope.cap) × (0 < radius) }
-    ensures { Begins (within nodes.now bytes.now scope) (walk_from (within nodes.now bytes.now scope) root radius budget) result }
+pub fn begin(walk: &Walk<'_>, root: usize, radius: u32, budget: u32) -> Batch
+    requires { (root < walk.now.cap) × (budget < walk.now.cap) × (0 < radius) }
+    ensures { Begins (given_of walk.now) (walk_from (given_of walk.now) root radius budget) result }
 {
-    match layout::nodes::kind_of(nodes, scope.cap, root) {
+    let nodes = walk.nodes;
+    match layout::nodes::kind_of(nodes, walk.cap, root) {
         Kind::Free => bare(Rest::Broken),
         Kind::Leaf(first) => {
             let mut links = [0u32; 16];
@@ -121,61 +106,55 @@ pub fn begin(
             Batch {
                 links,
                 n: 1,
-                rest: Rest::Done(budget),
+                rest: Rest::Done { nodes: budget },
             }
         }
-        Kind::Inner => bare(Rest::More(Place {
-            depth: 0,
-            frame: frame::enter(nodes, scope.cap, root, radius),
-            nodes: budget,
-            steps: (layout::nodes::STEPS * (scope.cap + 1)) as u32,
-        })),
+        Kind::Inner => bare(Rest::More {
+            place: Place {
+                depth: 0,
+                frame: frame::enter(nodes, walk.cap, root, radius),
+                nodes: budget,
+                steps: (layout::nodes::STEPS * (walk.cap + 1)) as u32,
+            },
+        }),
     }
 }
 
 // Goes on from a place until 16 leaves wait or the walk is over. The frames of the nodes above lie in the stack.
-pub fn next(
-    table: &[u8; 2048],
-    nodes: &[u32],
-    bytes: &[u8],
-    scope: Scope,
-    stack: &mut [u32; 256],
-    start: Place,
-) -> Batch
-    requires table_value { table.now ≡ distance_table }
-    requires fitting { Fitting (within nodes.now bytes.now scope) }
-    requires standing { Standing (within nodes.now bytes.now scope) stack.old start }
-    ensures { Gives (within nodes.now bytes.now scope) stack.new (from (within nodes.now bytes.now scope) stack.old start) start.steps result }
+pub fn next(walk: &Walk<'_>, stack: &mut [Frame; 64], start: Place) -> Batch
+    requires { Standing (given_of walk.now) stack.old start }
+    ensures { Gives (given_of walk.now) stack.new (from (given_of walk.now) stack.old start) start.steps result }
 {
     let mut place = start;
     let mut waiting = [descent::ended(0); 16];
     let mut n = 0;
+    // No `for`: n counts leaves, not turns.
     while n < 16 {
-        match turn(table, nodes, bytes, scope, place) {
-            Move::Chain(at, link) => {
-                place = on_chain(place, at, link);
+        match turn(walk, place) {
+            Move::Chain { at, link } => {
+                place = place.on_chain(at, link);
             }
-            Move::Past(link) => {
-                place = on_link(place, link);
+            Move::Past { link } => {
+                place = place.on_link(link);
             }
-            Move::Leaf(c, link) => {
-                place = on_link(place, link);
-                waiting[n] = c;
+            Move::Leaf { descent, link } => {
+                place = place.on_link(link);
+                waiting[n] = descent;
                 n += 1;
             }
-            Move::Down(x, radius, link) => {
-                let above = on_link(place, link);
-                frame::push(stack, above.depth, above.frame);
-                place = lower(nodes, scope.cap, above, x, radius);
+            Move::Down { node, radius, link } => {
+                let above = place.on_link(link);
+                stack[above.depth] = above.frame;
+                place = above.lower(walk.nodes, walk.cap, node, radius);
             }
             Move::Up => {
                 if place.depth == 0 {
-                    return settle(nodes, bytes, scope, waiting, n, place);
+                    return settle(walk, waiting, n, place);
                 }
-                place = raise(stack, place);
+                place = place.raise(stack);
             }
             Move::Broken => return bare(Rest::Broken),
         }
     }
-    settle(nodes, bytes, scope, waiting, n, place)
+    settle(walk, waiting, n, place)
 }

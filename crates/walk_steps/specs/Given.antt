@@ -4,7 +4,6 @@ use Rattle.sketch.specs.Settings.{Bits}
 use Rattle.layout.specs.Tables.{NodeTable}
 use Rattle.descent.specs.declared.Cursor.{Cursor}
 use Rattle.descent.specs.Cursor.{arrive, descended, drawn, leaf_of}
-use Rattle.walk_steps.specs.declared.Scope.{Scope}
 
 -- the node table, its capacity, b, the query's bytes
 pub record Given : Type 0 where
@@ -15,9 +14,6 @@ pub record Given : Type 0 where
 
 abbrev pub given : List ℕ → ℕ → ℕ → List ℕ → Given
 given nodes cap b bytes = record { nodes = nodes; cap = cap; b = b; bytes = bytes }
-
-abbrev pub within : List ℕ → List ℕ → Scope → Given
-within nodes bytes s = given nodes s.cap s.b bytes
 
 -- the table is long enough, and the bytes are those of a block
 pub record Fitting (w : Given) : Type 0 where

@@ -1,4 +1,5 @@
 pub mod Given
+pub mod Walks
 pub mod Turn
 pub mod Stack
 pub mod Place

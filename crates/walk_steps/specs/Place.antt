@@ -28,7 +28,7 @@ abbrev pub lowered : List ℕ → ℕ → Place → ℕ → ℕ → Place
 lowered nodes cap p x radius = placed (p.depth + 1) (entered nodes cap x radius) p.nodes p.steps
 
 -- back in the node above
-abbrev pub raised : List ℕ → Place → Place
+abbrev pub raised : List Frame → Place → Place
 raised stack p = placed (p.depth - 1) (frame_at stack (p.depth - 1)) p.nodes (p.steps - 1)
 
 -- the next step, where there are a step and the node that it reads

@@ -1,16 +1,41 @@
-// The children of an inner node that a walk has still to go through. Those of the nodes above lie in a stack, four words a level.
+// The children of an inner node that a walk has still to go through.
 ghost use Rattle.std.specs.Prelude.{◌≡◌, ◌<◌};
 ghost use Rattle.layout.specs.Tables.{NodeTable};
-ghost use Rattle.walk_steps.specs.Turn.{entered};
-ghost use Rattle.walk_steps.specs.Stack.{frame_at, pushed};
+ghost use Rattle.walk_steps.specs.Turn.{entered, at_chain};
 
 use children::cursor::Cursor;
 
 // The children at a cursor, each to be within the radius.
-#[derive(Clone, Copy)]
+#[derive(Clone, Copy, Debug, PartialEq, Eq)]
 pub struct Frame {
     pub cursor: Cursor,
     pub radius: u32,
+}
+
+impl Frame {
+    // What a stack holds where no frame was put.
+    pub const NONE: Frame = Frame {
+        cursor: Cursor {
+            at: 0,
+            last: 0,
+            link: 0,
+        },
+        radius: 0,
+    };
+
+    // From a link on, in the chain of the node whose head is at `at`.
+    pub fn at_chain(self, at: u32, link: u32) -> Frame
+        ensures { result ≡ at_chain self at link }
+    {
+        Frame {
+            cursor: Cursor {
+                at,
+                link,
+                ..self.cursor
+            },
+            ..self
+        }
+    }
 }
 
 // All children of node x.
@@ -22,34 +47,5 @@ pub fn enter(nodes: &[u32], cap: usize, x: usize, radius: u32) -> Frame
     Frame {
         cursor: children::cursor::all(nodes, cap, x),
         radius,
-    }
-}
-
-// Puts a frame into the stack at a level.
-#[tactic(auto, unfolding(crate::specs::Stack::pushed))]
-pub fn push(stack: &mut [u32; 256], level: usize, frame: Frame)
-    requires { level < 64 }
-    ensures { stack.new ≡ pushed stack.old level frame }
-{
-    let i = 4 * level;
-    stack[i] = frame.cursor.at;
-    stack[i + 1] = frame.cursor.last;
-    stack[i + 2] = frame.cursor.link;
-    stack[i + 3] = frame.radius;
-}
-
-// The frame of a level.
-pub fn frame_at(stack: &[u32; 256], level: usize) -> Frame
-    requires { level < 64 }
-    ensures { result ≡ frame_at stack.now level }
-{
-    let i = 4 * level;
-    Frame {
-        cursor: Cursor {
-            at: stack[i],
-            last: stack[i + 1],
-            link: stack[i + 2],
-        },
-        radius: stack[i + 3],
     }
 }

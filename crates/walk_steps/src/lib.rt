@@ -4,10 +4,4 @@
 pub mod frame;
 pub mod place;
 pub mod turn;
-
-// What a walk goes by: the capacity for nodes, and the bits of a symbol.
-#[derive(Clone, Copy)]
-pub struct Scope {
-    pub cap: usize,
-    pub b: u32,
-}
+pub mod walk;

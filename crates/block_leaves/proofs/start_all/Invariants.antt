@@ -1,9 +1,5 @@
-use Prim.Native.Nat.{◌-◌}
 use Rattle.block_leaves.proofs.Blocks.{StartedTo}
 use Rattle.block_leaves.proofs.start_all.Given as goal
 
 abbrev pub invariant-loop-j : goal.invariant-loop-j
 invariant-loop-j l = StartedTo l.h l.nodes l.bytes l.cursors l.j
-
-abbrev pub decreases-loop-j : goal.decreases-loop-j
-decreases-loop-j l = l.h.q - l.j

@@ -10,27 +10,24 @@ pub returns-then-left-more : goal.returns-then-left-more
 returns-then-left-more c = paid-short _ _ _ _ c.loop-more.invariant c.requires.all_inside c.requires.budget_lt_cap c.if-left-more.true
 
 pub loop-j-init : goal.loop-j-init
-loop-j-init c = (omega arith, round-start _ _ _ _ _)
+loop-j-init c = round-start _ _ _ _ _
 
 pub loop-more-preserved : goal.loop-more-preserved
 loop-more-preserved c =
     let round = c.loop-more in
     let at = c.loop-j in
-    paid-next _ _ _ _ round.invariant at.invariant.1 (omega (arith, at.invariant.0, c.loop-j-test.false)) (omega (arith, c.loop-more-test.true)) (omega (arith, c.if-left-more.false))
+    paid-next _ _ _ _ round.invariant at.invariant (omega (arith, at.auto.j-end, c.loop-j-test.false)) (omega (arith, c.loop-more-test.true)) (omega (arith, c.if-left-more.false))
 
 pub overflow_add-more : goal.overflow_add-more
 overflow_add-more c =
     let at = c.loop-j in
     let d = c.advance-c.result in
-    record { fits = omega (arith, at.invariant.0, at.invariant.1.on, going-most at.cursors at.j, c.requires.all_inside.few, goes-byte d, goes-most d) }
+    record { fits = omega (arith, at.auto.j-end, at.invariant.on, going-most at.cursors at.j, c.requires.all_inside.few, goes-byte d, goes-most d) }
 
 pub loop-j-preserved : goal.loop-j-preserved
 loop-j-preserved c =
-    let at = c in
-    let start = c in (
-      omega (arith, c.loop-j-test.true),
-      round-next _ _ _ _ at.loop-j.invariant.1 (omega (arith, c.loop-more.invariant.rounds.long, start.requires.all_inside.long, start.requires.all_inside.few)) _ c.advance-c.ensures,
-    )
+    let start = c.requires.all_inside in
+    round-next _ _ _ _ c.loop-j.invariant (omega (arith, c.loop-j-test.true, c.loop-more.invariant.rounds.long, start.long, start.few)) _ c.advance-c.ensures
 
 pub returns : goal.returns
 returns c = paid-over _ _ _ _ c.loop-more.invariant c.requires.all_inside c.requires.budget_lt_cap (omega (arith, c.loop-more-test.false))

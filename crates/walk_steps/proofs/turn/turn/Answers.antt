@@ -22,5 +22,5 @@ returns-in-Broken c = turned-broken _ _ c.if-place-eq0.false _ c.step.ensures c.
 pub returns-else-frame-d : goal.returns-else-frame-d
 returns-else-frame-d c = turned-reached _ _ c.if-place-eq0.false _ c.step.ensures _ _ _ c.in-Child.is c.if-place-eq0-2.false _ c.byte_distance-d.ensures c.if-frame-d.false _ c.reach.ensures
 
-pub reach-requires-clause-x_lt_cap : goal.reach-requires-clause-x_lt_cap
-reach-requires-clause-x_lt_cap c = let pre = c.requires in (next-below _ _ _ _ _ _ _ c.step.ensures c.in-Child.is, omega (arith, pre.fitting.bytes, pre.depth_in_bounds.0))
+pub reach-requires : goal.reach-requires
+reach-requires c = (next-below _ _ _ _ _ _ _ c.step.ensures c.in-Child.is, omega (arith, c.args.walk.now.fitting.bytes, c.requires.0))

@@ -1,4 +1,4 @@
--- The function `byte_distance` is the definition `byte_distance`: the entry of `distance_table` at b's row and v.
+-- The method `byte_distance` is the definition `byte_distance`: the entry of `distance_table` at b's row and v.
 use mathlib.Core.Path.{◌≡◌, ap₂, ◌∙◌}
 use Prim.Native.Nat.{ℕ, ◌+◌, ◌*◌, ◌-◌, ◌/◌, ◌%◌, ◌<◌}
 use native.Mathlib.Omega.{arith}
@@ -7,8 +7,7 @@ use Rattle.meaning.specs.Sketch.{byte_distance}
 use Rattle.meaning.proofs.Lists.{upto-at}
 use Rattle.sketch.specs.Settings.{Bits}
 use Rattle.distances.specs.Table.{distance_table}
-use Rattle.distances.proofs.byte_distance.Goals as goal
-use Rattle.distances.proofs.byte_distance.Goals.{After-result-1}
+use Rattle.distances.proofs.Distances.byte_distance.Goals as goal
 
 entry : (b v : ℕ) → Bits b → v < 256 → get_or distance_table ((b - 1) * 256 + v) 0 ≡ byte_distance b v
 unfolding distance_table
@@ -19,9 +18,7 @@ entry b v h hv =
     upto-at (λ (i : ℕ). byte_distance (i / 256 + 1) (i % 256)) 2048 k 0 (omega arith)
     ∙ ap₂ byte_distance row place
 
-found : (c : After-result-1)
-    → get_or c.args.table.now ((c.args.b - 1) * 256 + c.args.v) 0 ≡ byte_distance c.args.b c.args.v
-found c = rw c.requires.table_value (entry c.args.b c.args.v c.requires.bits (omega arith))
-
 pub returns : goal.returns
-returns c = found c
+returns c =
+    rw c.args.self.now.is_table
+    (entry c.args.b c.args.v c.requires.bits (omega arith))
