@@ -20,7 +20,7 @@ use refusals::Refusal;
 // The pages, the free chain and the tries, with the first free link. The map is for marks.
 #[tactic(auto, unfolding(layout::specs::Lengths::nodes_length, crate::specs::Store::test_store))]
 fn test_store(view: View<'_>, map: &mut [u32], h: Header, free: u32) -> bool
-    requires lent { Lent h view.entry.nodes.now view.entry.pages.now view.entry.sketches.now }
+    requires lent { Lent h view.nodes.now view.pages.now view.sketches.now }
     requires map_len_bound { length map.old ≤ 2048 }
     ensures { passed map.new result ≡ test_store (bare h) view.entry.nodes.now view.entry.pages.now view.entry.sketches.now free (length map.old) map.old }
 {
