@@ -1,0 +1,18 @@
+// What the pages of a search are tested by.
+ghost use Rattle.hits.specs.Hit.{Fitting};
+ghost use Rattle.hits.specs.Probes.{Prepared, test_by};
+
+use crate::Probe;
+use distances::Distances;
+
+// The tables that the pages lie in, the query, and what is worked out of it once.
+#[derive(Clone, Copy, Drop)]
+pub struct Trial<'a> {
+    pub distances: &'a Distances,
+    pub pages: &'a [u32],
+    pub sketches: &'a [u8],
+    pub query: &'a [u8],
+    pub probe: Probe,
+    pub ghost fitting: { Fitting (test_by pages.now sketches.now query.now probe) },
+    pub ghost prepared: { Prepared query.now probe },
+}
