@@ -1,4 +1,5 @@
 -- Once the tries are walked: what the search answers by the pages met, and by the map of those that passed.
+use Rattle.std.specs.Prelude.{Option, Some}
 use Prim.Native.Nat.{ℕ, ◌*◌, ◌≤◌, ◌<◌}
 use native.Mathlib.Omega.{arith}
 use mathlib.Core.Path.{◌≡◌, refl, sym, ap, ◌∙◌}
@@ -20,8 +21,6 @@ use Rattle.hits.specs.Probes.{test_by}
 use Rattle.hits.proofs.Filter.{passes-below}
 use Rattle.hits.proofs.Hit.{passes-near}
 use Rattle.meeting.specs.declared.Tally.{Tally}
-use Rattle.meeting.specs.declared.Tallies.{Tallies}
-use Rattle.meeting.specs.declared.Tallies.TheVariants.{Some}
 use Rattle.meeting.specs.Meets.{Meets, met, broken}
 use Rattle.meeting.specs.declared.Scope.{Scope}
 use Rattle.meeting.specs.Mets.{Tallied, Meeting, Ready}
@@ -49,7 +48,7 @@ answers-listed m t out ps k n count after e l = record {
 }
 
 -- the walks ended
-module _ {t : Test} {words : ℕ} {m : Meets} {map after counts : List ℕ} {a : Tallies} (r : Meeting t words m map after counts a) (n : Tally) (e : a ≡ Some n) where
+module _ {t : Test} {words : ℕ} {m : Meets} {map after counts : List ℕ} {a : Option Tally} (r : Meeting t words m map after counts a) (n : Tally) (e : a ≡ Some n) where
   found-summary : Summarised map words → Summarised after words
   found-summary = (r.some n e).2.summarised
 
@@ -89,7 +88,7 @@ module _ {t : Test} {words : ℕ} {m : Meets} {map after counts : List ℕ} {a :
 
 -- what was found can be listed
 module _ {pages sketches query map after counts : List ℕ} {s : Scope} (ready : Ready pages sketches query map s) where
-  pub found-listable : {m : Meets} {a : Tallies} (r : Meeting (test_by pages sketches query s.probe) s.words m map after counts a) (n : Tally) (e : a ≡ Some n)
+  pub found-listable : {m : Meets} {a : Option Tally} (r : Meeting (test_by pages sketches query s.probe) s.words m map after counts a) (n : Tally) (e : a ≡ Some n)
       → list_of map s.words ≡ [] → Summarised map s.words → Listable sketches query after counts s
   found-listable r n e none summary = record {
     room = kept-room r.kept ready.room;

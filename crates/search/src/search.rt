@@ -46,7 +46,7 @@ fn find(
         &mut counts,
         scope,
     );
-    let Tallies::Some(tally) = met else {
+    let Some(tally) = met else {
         marks::clear_marks(map, words);
         return Found {
             number: 14,
