@@ -1,4 +1,6 @@
 -- `add_page` keeps the promise of an add.
+use Rattle.std.specs.Prelude.{Result, Ok, Err}
+use Rattle.layout.specs.declared.Header.{Header}
 use Prim.Native.Nat.{ℕ, ◌+◌, ◌*◌, ◌<◌}
 use native.Mathlib.Omega.{arith}
 use mathlib.Core.Path.{◌≡◌, refl, sym, ap, ◌∙◌, subst}
@@ -9,8 +11,6 @@ use lib.ListN.{get_or, set, take}
 use lib.Seq.{take-set-lt}
 use Rattle.meaning.specs.Trie.{Tree}
 use Rattle.meaning.specs.Ledger.{Settings, add}
-use Rattle.layout.specs.declared.Opening.{Opening}
-use Rattle.layout.specs.declared.Opening.TheVariants.{Shown, Refused}
 use Rattle.layout.specs.Settings.{free_at}
 use Rattle.layout.specs.Header.{header_of}
 use Rattle.layout.specs.Lengths.{nodes_length, pages_length, sketches_length}
@@ -219,9 +219,9 @@ module _ (T : Tables) (p c : ℕ) (x : List ℕ) where
   unfolding add_page
   add-keeps = go (admission T (add p c x)) refl
     where
-      go : (o : Opening) → admission T (add p c x) ≡ o → Keeps (on_opening T p c x o)
-      go (Shown h) e = place-keeps (told-shown T p c x h e).0
-      go (Refused n) e = let r = admission-refused T (add p c x) n e in promise-early n r.0 r.1
+      go : (o : Result Header ℕ) → admission T (add p c x) ≡ o → Keeps (on_opening T p c x o)
+      go (Ok h) e = place-keeps (told-shown T p c x h e).0
+      go (Err n) e = let r = admission-refused T (add p c x) n e in promise-early n r.0 r.1
 
   -- the two parts of the contract
   pub add-promise : (n : ℕ) (T' : Tables) → outcome n T' ≡ add_page T p c x → AddPromise T p c x n T' × (outcome n T' ≡ add_page T p c x)

@@ -1,4 +1,5 @@
 -- What the questions of an add tell where none says no, and what 12 adds to those ahead of it.
+use Rattle.std.specs.Prelude.{Ok}
 use Prim.Native.Nat.{ℕ, ◌+◌, ◌*◌, ◌≤◌, ◌<◌}
 use native.Mathlib.Omega.{arith}
 use mathlib.Core.Path.{◌≡◌, refl, sym, ap, ◌∙◌}
@@ -11,7 +12,6 @@ use lib.ListN.{length}
 use Rattle.meaning.specs.Trie.{Tree}
 use Rattle.meaning.specs.Ledger.{add}
 use Rattle.layout.specs.declared.Header.{Header}
-use Rattle.layout.specs.declared.Opening.TheVariants.{Shown}
 use Rattle.layout.specs.Settings.{settings_length}
 use Rattle.layout.specs.Header.{header_of, with_thresholds, bare}
 use Rattle.layout.specs.Lengths.{sketches_length}
@@ -56,7 +56,7 @@ module _ (T : Tables) (p c : ℕ) (x : List ℕ) where
       }
 
   -- what `admit` tells
-  pub told-shown : (h : Header) → admission T (add p c x) ≡ Shown h → (number T [] (add p c x) ≡ 0) × passes h
+  pub told-shown : (h : Header) → admission T (add p c x) ≡ Ok h → (number T [] (add p c x) ≡ 0) × passes h
   told-shown h e = let t = admission-shown T (add p c x) h e in (t.0, rw t.1 at (passed [] t.0))
 
   -- 12 is asked last

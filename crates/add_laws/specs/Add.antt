@@ -1,8 +1,7 @@
 -- What an add does with any tables: T are those at entry, p the page, c its class, x its sketch.
-use Rattle.std.specs.Prelude.{ℕ, List, get_or, set}
+use Rattle.layout.specs.declared.Header.{Header}
+use Rattle.std.specs.Prelude.{ℕ, List, get_or, set, Result, Ok, Err}
 use Rattle.meaning.specs.Ledger.{add}
-use Rattle.layout.specs.declared.Opening.{Opening}
-use Rattle.layout.specs.declared.Opening.TheVariants.{Shown, Refused}
 use Rattle.layout.specs.Settings.{free_at}
 use Rattle.layout.specs.Pages.{with_row, with_page}
 use Rattle.layout.specs.Signature.{signature}
@@ -48,9 +47,9 @@ module _ (T : Tables) (p c : ℕ) (x : List ℕ) where
   place_page = on_room (room_of (given T) T.nodes T.pages T.sketches x (get_or T.settings free_at 0))
 
   -- 5 to 11 and 15
-  abbrev pub on_opening : Opening → Outcome
-  on_opening (Shown h) = place_page
-  on_opening (Refused n) = outcome n T
+  abbrev pub on_opening : Result Header ℕ → Outcome
+  on_opening (Ok h) = place_page
+  on_opening (Err n) = outcome n T
 
   unfoldable pub add_page : Outcome
   add_page = on_opening (admission T (add p c x))

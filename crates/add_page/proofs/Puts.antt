@@ -1,4 +1,5 @@
 -- The steps of an add past 15, as the code takes them.
+use Rattle.std.specs.Prelude.{Result, Ok, Err}
 use Prim.Native.Nat.{ℕ}
 use mathlib.Core.Path.{◌≡◌, sym, ap, ◌∙◌}
 use mathlib.Core.Bool.{true}
@@ -7,8 +8,6 @@ use lib.ListN.{get_or, set}
 use Rattle.meaning.specs.Sketch.{in_range}
 use Rattle.meaning.specs.Ledger.{add}
 use Rattle.layout.specs.declared.Header.{Header}
-use Rattle.layout.specs.declared.Opening.{Opening}
-use Rattle.layout.specs.declared.Opening.TheVariants.{Shown, Refused}
 use Rattle.layout.specs.Settings.{free_at}
 use Rattle.layout.specs.Header.{header_of, with_thresholds}
 use Rattle.layout.specs.Pages.{with_row, with_page}
@@ -69,13 +68,13 @@ module _ (T : Tables) (h : Header) (header : header_of (given T) ≡ h) (p c : �
         rw (rowed, w, written) (rw m at inserted)
 
 -- 5 to 11 and 15
-module _ (T : Tables) (p c : ℕ) (x : List ℕ) (o : Opening) (e : o ≡ admission T (add p c x)) where
+module _ (T : Tables) (p c : ℕ) (x : List ℕ) (o : Result Header ℕ) (e : o ≡ admission T (add p c x)) where
   told : on_opening T p c x o ≡ add_page T p c x
   unfolding add_page
   told = ap (on_opening T p c x) e
 
-  pub add-refused : (n : ℕ) → o ≡ Refused n → outcome n T ≡ add_page T p c x
+  pub add-refused : (n : ℕ) → o ≡ Err n → outcome n T ≡ add_page T p c x
   add-refused n m = rw m at told
 
-  pub add-placed : (h : Header) → o ≡ Shown h → place_page T p c x ≡ add_page T p c x
+  pub add-placed : (h : Header) → o ≡ Ok h → place_page T p c x ≡ add_page T p c x
   add-placed h m = rw m at told

@@ -1,4 +1,5 @@
 -- Questions 5 to 11 and 15 of an add, by the answers on the way.
+use Rattle.std.specs.Prelude.{Ok, Err}
 use Prim.Native.Nat.{ℕ, ◌≤◌, ◌<◌}
 use native.Mathlib.Omega.{arith}
 use mathlib.Core.Path.{◌≡◌, sym, ap, ◌∙◌}
@@ -11,7 +12,6 @@ use Rattle.meaning.specs.Refusal.{Question, ask, first_no}
 use Rattle.meaning.specs.Sketch.{in_range, blank}
 use Rattle.meaning.specs.Ledger.{add}
 use Rattle.layout.specs.declared.Header.{Header}
-use Rattle.layout.specs.declared.Opening.TheVariants.{Shown, Refused}
 use Rattle.layout.specs.Header.{header_of}
 use Rattle.promises.specs.Tables.{Tables, tables, given}
 use Rattle.entry.specs.Entry.{store_entry, page_asked}
@@ -31,17 +31,17 @@ module _ (ws nodes pages sketches : List ℕ) (p c : ℕ) (x : List ℕ) where
   abbrev past9 : Header → List Question
   past9 h = sketch_asked T p c x h (ask 12 true ∷ [])
 
-  pub admit-refused : (n : ℕ) → store_entry T ≡ Refused n → Refused n ≡ admission T (add p c x)
+  pub admit-refused : (n : ℕ) → store_entry T ≡ Err n → Err n ≡ admission T (add p c x)
   admit-refused n e = first-refused T (add p c x) (past6 (header_of (given T))) (number-none T p c x) n e
 
-  module _ (h : Header) (e : store_entry T ≡ Shown h) where
+  module _ (h : Header) (e : store_entry T ≡ Ok h) where
     by-header : first_no (past6 (header_of (given T))) ≡ first_no (past6 h)
     by-header = ap (λ (g : Header). first_no (past6 g)) (same-header T h e)
 
-    refused-by : (n : ℕ) → first_no (past6 h) ≡ n → n ≢ 0 → Refused n ≡ admission T (add p c x)
+    refused-by : (n : ℕ) → first_no (past6 h) ≡ n → n ≢ 0 → Err n ≡ admission T (add p c x)
     refused-by n f d = then-refused T (add p c x) (past6 (header_of (given T))) (number-none T p c x) h e n (by-header ∙ f) d
 
-    pub admit-7 : 64 ≤ c → Refused 7 ≡ admission T (add p c x)
+    pub admit-7 : 64 ≤ c → Err 7 ≡ admission T (add p c x)
     unfolding first_no
     admit-7 l = refused-by 7 (rw (le-ltb c 64 l)) (omega arith)
 
@@ -50,7 +50,7 @@ module _ (ws nodes pages sketches : List ℕ) (p c : ℕ) (x : List ℕ) where
       unfolding first_no
       at-page = rw (lt-ltb c 64 l)
 
-      pub admit-page : n ≢ 0 → Refused n ≡ admission T (add p c x)
+      pub admit-page : n ≢ 0 → Err n ≡ admission T (add p c x)
       admit-page d =
           refused-by n (at-page ∙ stop-first (page_asked h.pages pages p false) (past9 h) (λ z. d (asked ∙ z)) ∙ sym asked) d
 
@@ -59,21 +59,21 @@ module _ (ws nodes pages sketches : List ℕ) (p c : ℕ) (x : List ℕ) where
         unfolding page_asked
         at-sketch = at-page ∙ pass-first (page_asked h.pages pages p false) (past9 h) (omega arith) (sym asked ∙ z)
 
-        pub admit-10 : length x ≢ h.m → Refused 10 ≡ admission T (add p c x)
+        pub admit-10 : length x ≢ h.m → Err 10 ≡ admission T (add p c x)
         unfolding first_no
         admit-10 d = refused-by 10 (at-sketch ∙ rw (ne_eqb (length x) h.m d)) (omega arith)
 
         module _ (count : length x ≡ h.m) where
-          pub admit-11 : in_range h.b x ≡ false → Refused 11 ≡ admission T (add p c x)
+          pub admit-11 : in_range h.b x ≡ false → Err 11 ≡ admission T (add p c x)
           unfolding first_no
           admit-11 r = refused-by 11 (at-sketch ∙ rw (eq-eqb (length x) h.m count, r)) (omega arith)
 
           module _ (range : in_range h.b x ≡ true) where
-            pub admit-15 : blank x ≡ true → Refused 15 ≡ admission T (add p c x)
+            pub admit-15 : blank x ≡ true → Err 15 ≡ admission T (add p c x)
             unfolding first_no
             admit-15 r = refused-by 15 (at-sketch ∙ rw (eq-eqb (length x) h.m count, range, r)) (omega arith)
 
-            pub admit-all : blank x ≡ false → Shown h ≡ admission T (add p c x)
+            pub admit-all : blank x ≡ false → Ok h ≡ admission T (add p c x)
             unfolding first_no
             admit-all r =
                 then-shown T (add p c x) (past6 (header_of (given T))) (number-none T p c x) h e

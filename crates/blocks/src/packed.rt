@@ -11,9 +11,9 @@ ghost use Rattle.blocks.specs.RowBytes.{row_bytes};
 
 use crate::{Level, Rows, block_of, rows_of};
 use layout::{Block, Header};
+use sketch::packing::pack_byte;
 
 // The packed byte of `count` symbols of the sketch table from `at` on, each taken modulo 2^b, so that any table gives a byte.
-#[tactic(auto, unfolding(crate::specs::Packed::row_byte))]
 pub fn row_byte(b: u32, sketches: &[u8], at: usize, count: usize) -> u32
     requires b_bound { b ≤ 8 }
     requires count_bound { b * count ≤ 8 }
@@ -21,62 +21,39 @@ pub fn row_byte(b: u32, sketches: &[u8], at: usize, count: usize) -> u32
     ensures value { result ≡ row_byte b sketches.now at count }
     ensures small { result < 256 }
 {
-    let mask = (1u32 << b) - 1;
-    let mut v: u32 = 0;
-    let mut i = count;
-    while i > 0 {
-        i -= 1;
-        v = (v << b) + (sketches[at + i] as u32 & mask);
-    }
-    v
+    pack_byte(b, &sketches[at..at + count]) as u32
 }
 
-// The byte of a page at a level.
-#[tactic(auto, unfolding(crate::specs::Packed::page_byte))]
-pub fn page_byte(sketches: &[u8], level: Level, block: Block, p: usize) -> u32
-    requires sketch_table { SketchTable block.pages level sketches.now }
-    requires p_lt_pages { p < block.pages }
-    ensures value { result ≡ page_byte sketches.now level p }
-    ensures small { result < 256 }
-{
-    let at = p * level.symbols + level.from;
-    row_byte(level.bits, sketches, at, level.count)
+impl Level {
+    // The byte of a page at this level.
+    #[tactic(auto, unfolding(crate::specs::Packed::page_byte))]
+    pub fn page_byte(self, sketches: &[u8], block: Block, p: usize) -> u32
+        requires sketch_table { SketchTable block.pages self sketches.now }
+        requires p_lt_pages { p < block.pages }
+        ensures value { result ≡ page_byte sketches.now self p }
+        ensures small { result < 256 }
+    {
+        let at = p * self.symbols + self.from;
+        row_byte(self.bits, sketches, at, self.count)
+    }
 }
 
-// Level k of a block.
-#[tactic(auto, unfolding(crate::specs::Packed::level_at))]
-pub fn level_at(rows: Rows, k: usize) -> Level
-    requires k_bound { k < 64 }
-    requires per_bound { rows.per ≤ 8 }
-    requires length_bound { rows.start + rows.length ≤ rows.symbols }
-    ensures { result ≡ level_at rows k }
-{
-    let bits = rows.bits;
-    let symbols = rows.symbols;
-    let done = k * rows.per;
-    if rows.length <= done {
-        return Level {
-            bits,
-            symbols,
-            from: rows.start + rows.length,
-            count: 0,
-        };
-    }
-    let from = rows.start + done;
-    let left = rows.length - done;
-    if left < rows.per {
-        return Level {
-            bits,
-            symbols,
-            from,
-            count: left,
-        };
-    }
-    Level {
-        bits,
-        symbols,
-        from,
-        count: rows.per,
+impl Rows {
+    // Level k of the block: what is left of its symbols, at most a byte's.
+    #[tactic(auto, unfolding(crate::specs::Packed::level_at))]
+    pub fn level_at(self, k: usize) -> Level
+        requires k_bound { k < 64 }
+        requires per_bound { self.per ≤ 8 }
+        requires length_bound { self.start + self.length ≤ self.symbols }
+        ensures { result ≡ level_at self k }
+    {
+        let done = usize::min(k * self.per, self.length);
+        Level {
+            bits: self.bits,
+            symbols: self.symbols,
+            from: self.start + done,
+            count: usize::min(self.per, self.length - done),
+        }
     }
 }
 
@@ -93,12 +70,8 @@ pub fn row_bytes(bytes: &mut [u8; 64], h: Header, sketches: &[u8], p: usize, j: 
 {
     let block = block_of(h, j);
     let rows = rows_of(h, j);
-    let n = rows.bytes;
-    let mut k = 0;
-    while k < n {
-        let level = level_at(rows, k);
-        bytes[k] = page_byte(sketches, level, block, p) as u8;
-        k += 1;
+    for k in 0..rows.bytes {
+        bytes[k] = rows.level_at(k).page_byte(sketches, block, p) as u8;
     }
 }
 

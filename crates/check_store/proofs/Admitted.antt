@@ -1,4 +1,5 @@
 -- What 5 and 6, all the questions of a check, tell it.
+use Rattle.std.specs.Prelude.{Ok, Err}
 use Prim.Native.Nat.{ℕ, ◌≤◌}
 use native.Mathlib.Omega.{arith}
 use mathlib.Core.Path.{◌≡◌, refl, sym, ◌∙◌}
@@ -9,7 +10,6 @@ use Rattle.meaning.specs.Refusal.{first_no}
 use Rattle.meaning.specs.Ledger.{check, reading}
 use Rattle.meaning.specs.Questions.{asked}
 use Rattle.layout.specs.declared.Header.{Header}
-use Rattle.layout.specs.declared.Opening.TheVariants.{Shown, Refused}
 use Rattle.layout.specs.Header.{header_of, bare}
 use Rattle.layout.specs.Limits.{HeaderLimits}
 use Rattle.layout.specs.Lengths.{working_length}
@@ -39,7 +39,7 @@ module _ (T : Tables) where
   unfolding number entered shown56 long_settings long_for asked tables_asked
   asked-first = refl
 
-  pub admitted : (h : Header) → entry T ≡ Shown h → Admitted T h
+  pub admitted : (h : Header) → entry T ≡ Ok h → Admitted T h
   admitted h e =
       let o : Entered T h = entry-shown T h e in
       let same : SameLengths (given T) h = same-lengths (given T) h o.header in
@@ -57,7 +57,7 @@ module _ (T : Tables) where
     pub answers : n ≡ number T [] (reading check)
     pub some : number T [] (reading check) ≢ 0
 
-  pub rejected : (n : ℕ) → entry T ≡ Refused n → Rejected n
+  pub rejected : (n : ℕ) → entry T ≡ Err n → Rejected n
   rejected n e =
       let r = entry-refused T n e in
       let same : number T [] (reading check) ≡ n = asked-first ∙ r.0 in

@@ -1,4 +1,5 @@
 -- A check keeps its promise.
+use Rattle.std.specs.Prelude.{Ok, Err}
 use Prim.Native.Nat.{ℕ, zero, suc, ◌+◌, ◌-◌, ◌*◌, ◌≤◌}
 use native.Mathlib.Omega.{arith}
 use native.Mathlib.Nat.{zero-add}
@@ -15,7 +16,6 @@ use Rattle.meaning.specs.Ledger.{Settings}
 use Rattle.meaning.specs.Forest.{block_bytes}
 use Rattle.words.specs.Bits.{zeroed}
 use Rattle.layout.specs.declared.Header.{Header}
-use Rattle.layout.specs.declared.Opening.TheVariants.{Shown, Refused}
 use Rattle.layout.specs.Header.{header_of, bare}
 use Rattle.layout.specs.Lengths.{working_length}
 use Rattle.layout.specs.Settings.{free_at}
@@ -62,7 +62,7 @@ module _ (s : Settings) (N P S : List ℕ) (words : ℕ) where
 
 -- ---- refused
 module _ (T : Tables) where
-  pub check-refused : (n : ℕ) → entry T ≡ Refused n → CheckPromise T n false T.working
+  pub check-refused : (n : ℕ) → entry T ≡ Err n → CheckPromise T n false T.working
   unfolding working_left
   check-refused n e =
       let r = rejected T n e in record {
@@ -74,7 +74,7 @@ module _ (T : Tables) where
       }
 
   -- ---- carried out
-  module _ (h : Header) (e : entry T ≡ Shown h) (words : ℕ) (w : words ≡ map_words (bare h)) where
+  module _ (h : Header) (e : entry T ≡ Ok h) (words : ℕ) (w : words ≡ map_words (bare h)) where
     abbrev a : Admitted T h
     a = admitted T h e
 

@@ -40,6 +40,9 @@ module _ (N : List ℕ) (cap b s f : ℕ) (R : Place) (inv : place_from N cap b 
         pub place-go : byte_in N (child_at N s) < b → place_from N cap b (child_at N s) (f - 1) ≡ R
         place-go m = rw (ne_eqb _ _ e, le-ltb _ _ l, lt-ltb _ _ m) at place-step
 
+        pub place-on : (g : ℕ) → g ≡ f - 1 → byte_in N (child_at N s) < b → place_from N cap b (child_at N s) g ≡ R
+        place-on g q m = rw q (place-go m)
+
         module _ (m : b ≤ byte_in N (child_at N s)) where
           pub place_found : byte_in N (child_at N s) ≡ b → Found s (child_at N s) ≡ R
           place_found q = rw (ne_eqb _ _ e, le-ltb _ _ l, le-ltb _ _ m, eq-eqb _ _ q) at place-step

@@ -3,13 +3,13 @@ ghost use Rattle.std.specs.Prelude.{◌≡◌, ◌<◌};
 ghost use Rattle.layout.specs.Tables.{NodeTable};
 ghost use Rattle.children.specs.Places.{Inside, find_place};
 
-use layout::nodes::LINKS;
+use layout::nodes::{byte_of, head_at, link_of};
 
 // Where a byte belongs among a node's children: the slot that links to its child, with the child, or that is to.
-#[derive(Clone, Copy)]
+#[derive(Clone, Copy, Debug, PartialEq, Eq)]
 pub enum Place {
-    Found(usize, usize),
-    Missing(usize),
+    Found { slot: usize, child: usize },
+    Missing { slot: usize },
     Broken,
 }
 
@@ -22,29 +22,25 @@ pub fn find_place(nodes: &[u32], cap: usize, n: usize, byte: u32) -> Place
     ensures value { result ≡ find_place nodes.now cap n byte }
     ensures inside { Inside cap result }
 {
-    let mut slot = 2 * cap + 8 * n + (byte / 32) as usize;
-    let mut left: usize = 33;
-    loop {
-        if left == 0 {
-            return Place::Broken;
-        }
-        let link = (nodes[slot] % LINKS) as usize;
+    let mut slot = head_at(cap, n, (byte / 32) as usize);
+    for _ in 0..33usize {
+        let link = link_of(nodes[slot]) as usize;
         if link == 0 {
-            return Place::Missing(slot);
+            return Place::Missing { slot };
         }
         if cap < link {
             return Place::Broken;
         }
         let child = link - 1;
-        let b = nodes[child] / LINKS;
+        let b = byte_of(nodes[child]);
         if b < byte {
             slot = child;
-            left -= 1;
         } else {
             if b == byte {
-                return Place::Found(slot, child);
+                return Place::Found { slot, child };
             }
-            return Place::Missing(slot);
+            return Place::Missing { slot };
         }
     }
+    Place::Broken
 }

@@ -1,4 +1,6 @@
 -- `drop_page` keeps the promise of a drop.
+use Rattle.std.specs.Prelude.{Result, Ok, Err}
+use Rattle.layout.specs.declared.Header.{Header}
 use Prim.Native.Nat.{ℕ}
 use native.Mathlib.Omega.{arith}
 use mathlib.Core.Path.{◌≡◌, refl, sym, ap, ◌∙◌, subst}
@@ -10,8 +12,6 @@ use Rattle.meaning.specs.Ledger.{drop}
 use Rattle.meaning.specs.Forest.{forest_after}
 use Rattle.layout.specs.Pages.{links_at}
 use Rattle.layout.specs.Lengths.{pages_length}
-use Rattle.layout.specs.declared.Opening.{Opening}
-use Rattle.layout.specs.declared.Opening.TheVariants.{Shown, Refused}
 use Rattle.layout.specs.Settings.{free_at}
 use Rattle.trie_remove.specs.declared.Removed.{Removed}
 use Rattle.trie_remove.specs.declared.Removed.TheVariants.{Done, Broken}
@@ -120,9 +120,9 @@ module _ (T : Tables) (p : ℕ) where
       taken z (gone N P (Done free)) e = drop-done T p z N P (Done free) e free refl
       taken z (gone N P Broken) e = drop-broken T p z N P Broken e refl
 
-      go : (o : Opening) → admission T (drop p) ≡ o → Keeps (on_opening T p o)
-      go (Shown h) e = taken (admission-shown T (drop p) h e).0 (remove_all (given T) T.sketches p T.nodes T.pages (get_or T.settings free_at 0)) refl
-      go (Refused n) e = let t = admission-refused T (drop p) n e in drop-refused T p n t.0 t.1
+      go : (o : Result Header ℕ) → admission T (drop p) ≡ o → Keeps (on_opening T p o)
+      go (Ok h) e = taken (admission-shown T (drop p) h e).0 (remove_all (given T) T.sketches p T.nodes T.pages (get_or T.settings free_at 0)) refl
+      go (Err n) e = let t = admission-refused T (drop p) n e in drop-refused T p n t.0 t.1
 
   -- the two parts of the contract
   pub drop-promise : (n : ℕ) (T' : Tables) → outcome n T' ≡ drop_page T p → DropPromise T p n T' × (outcome n T' ≡ drop_page T p)

@@ -1,8 +1,7 @@
 -- What a drop does with any tables: T are those at entry, p the page.
-use Rattle.std.specs.Prelude.{ℕ, List, get_or, set}
+use Rattle.layout.specs.declared.Header.{Header}
+use Rattle.std.specs.Prelude.{ℕ, List, get_or, set, Result, Ok, Err}
 use Rattle.meaning.specs.Ledger.{drop}
-use Rattle.layout.specs.declared.Opening.{Opening}
-use Rattle.layout.specs.declared.Opening.TheVariants.{Shown, Refused}
 use Rattle.layout.specs.Settings.{free_at}
 use Rattle.layout.specs.Pages.{without_page}
 use Rattle.promises.specs.Tables.{Tables, given}
@@ -33,9 +32,9 @@ module _ (T : Tables) (p : ℕ) where
   on_gone (gone N P Broken) = outcome 14 (with_tries T N P)
 
   -- 5, 6, 8 and 9
-  abbrev pub on_opening : Opening → Outcome
-  on_opening (Shown h) = on_gone (remove_all (given T) T.sketches p T.nodes T.pages (get_or T.settings free_at 0))
-  on_opening (Refused n) = outcome n T
+  abbrev pub on_opening : Result Header ℕ → Outcome
+  on_opening (Ok h) = on_gone (remove_all (given T) T.sketches p T.nodes T.pages (get_or T.settings free_at 0))
+  on_opening (Err n) = outcome n T
 
   unfoldable pub drop_page : Outcome
   drop_page = on_opening (admission T (drop p))

@@ -1,4 +1,5 @@
 -- What `drop_page` knows past its questions, and its ways out.
+use Rattle.std.specs.Prelude.{Ok, Err}
 use Prim.Native.Nat.{ℕ, ◌<◌, ◌≤◌}
 use native.Mathlib.Omega.{arith}
 use mathlib.Core.Path.{◌≡◌, sym, ap, ◌∙◌}
@@ -6,7 +7,6 @@ use mathlib.Core.List.{List, []}
 use lib.ListN.{length, get_or, set}
 use Rattle.meaning.specs.Ledger.{drop}
 use Rattle.layout.specs.declared.Header.{Header}
-use Rattle.layout.specs.declared.Opening.TheVariants.{Shown, Refused}
 use Rattle.layout.specs.Header.{bare}
 use Rattle.layout.specs.Lengths.{pages_length}
 use Rattle.layout.specs.Tables.{Lent}
@@ -35,11 +35,11 @@ module _ (ws N P S : List ℕ) (p : ℕ) where
   abbrev Meets : ℕ → Tables → Type 0
   Meets n T' = DropPromise T p n T' × (outcome n T' ≡ drop_page T p)
 
-  pub refuses : (n : ℕ) → Refused n ≡ admission T (drop p) → Meets n T
+  pub refuses : (n : ℕ) → Err n ≡ admission T (drop p) → Meets n T
   unfolding drop_page
   refuses n e = drop-promise T p n T (ap (on_opening T p) e)
 
-  module _ (h : Header) (e : Shown h ≡ admission T (drop p)) where
+  module _ (h : Header) (e : Ok h ≡ admission T (drop p)) where
     passed : number T [] (drop p) ≡ 0
     passed = (admission-shown T (drop p) h (sym e)).0
 

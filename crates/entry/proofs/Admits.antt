@@ -1,4 +1,5 @@
 -- 5 and 6 of a call that takes the store: by the tests on the way, and what an opening that they show tells. 8 and 9 likewise.
+use Rattle.std.specs.Prelude.{Ok, Err}
 use Prim.Native.Nat.{ℕ, ◌+◌, ◌≤◌, ◌<◌}
 use native.Mathlib.Nat.{mul-le-mul_right}
 use native.Mathlib.Omega.{arith}
@@ -12,7 +13,6 @@ use lib.ListN.{length}
 use Rattle.meaning.specs.Refusal.{Question, first_no}
 use Rattle.meaning.specs.Ledger.{Call}
 use Rattle.layout.specs.declared.Header.{Header}
-use Rattle.layout.specs.declared.Opening.TheVariants.{Shown, Refused}
 use Rattle.layout.specs.Header.{opening_of, header_of, bare}
 use Rattle.layout.specs.Settings.{settings_length}
 use Rattle.layout.specs.Limits.{HeaderLimits}
@@ -37,22 +37,22 @@ module _ (ws nodes pages sketches : List ℕ) where
       leb (nodes_length (bare g)) (length nodes)
       && (leb (pages_length (bare g)) (length pages) && leb (sketches_length (bare g)) (length sketches))
 
-  pub store-refused : (n : ℕ) → opening_of ws ≡ Refused n → Refused n ≡ store_entry T
+  pub store-refused : (n : ℕ) → opening_of ws ≡ Err n → Err n ≡ store_entry T
   unfolding store_entry store_asked
   store-refused n e = tell-refused T (first_no (store_asked T)) n (refused-number ws _ _ n e) (λ z. omega (arith, refused-range ws n e))
 
-  module _ (h : Header) (e : opening_of ws ≡ Shown h) where
+  module _ (h : Header) (e : opening_of ws ≡ Ok h) where
     by-header : first_no (store_asked T) ≡ cond (is_long h) 0 6
     unfolding store_asked long_nodes long_pages nodes_length pages_length sketches_length first_no
     by-header =
         shown-number ws (long_nodes (given T) T && long_pages (given T) T) [] h e
         ∙ ap (λ g. cond (is_long g) 0 6) (shown ws h e).header
 
-    pub store-short : is_long h ≡ false → Refused 6 ≡ store_entry T
+    pub store-short : is_long h ≡ false → Err 6 ≡ store_entry T
     unfolding store_entry
     store-short a = tell-refused T (first_no (store_asked T)) 6 (by-header ∙ rw a) (omega arith)
 
-    pub store_long : is_long h ≡ true → Shown h ≡ store_entry T
+    pub store_long : is_long h ≡ true → Ok h ≡ store_entry T
     unfolding store_entry
     store_long a = tell-shown T (first_no (store_asked T)) h (shown ws h e).header (by-header ∙ rw a)
 
@@ -80,7 +80,7 @@ opened T z =
     }
 
 -- ---- an opening that they show
-module _ (T : Tables) (h : Header) (e : store_entry T ≡ Shown h) where
+module _ (T : Tables) (h : Header) (e : store_entry T ≡ Ok h) where
   pub shown-none : first_no (store_asked T) ≡ 0
   unfolding store_entry
   shown-none = (told-shown T (first_no (store_asked T)) h e).0
@@ -101,32 +101,32 @@ module _ (T : Tables) (h : Header) (e : store_entry T ≡ Shown h) where
 
 -- ---- what a call's admission tells
 module _ (T : Tables) (c : Call) where
-  pub admission-refused : (n : ℕ) → admission T c ≡ Refused n → (number T [] c ≡ n) × (n ≢ 0)
+  pub admission-refused : (n : ℕ) → admission T c ≡ Err n → (number T [] c ≡ n) × (n ≢ 0)
   unfolding admission
   admission-refused n e = told-refused T (number T [] c) n e
 
-  pub admission-shown : (h : Header) → admission T c ≡ Shown h → (number T [] c ≡ 0) × (header_of (given T) ≡ h)
+  pub admission-shown : (h : Header) → admission T c ≡ Ok h → (number T [] c ≡ 0) × (header_of (given T) ≡ h)
   unfolding admission
   admission-shown h e = told-shown T (number T [] c) h e
 
 -- ---- a call that is asked 5 and 6 of the store, then others
 module _ (T : Tables) (c : Call) (qs : List Question) (asks : number T [] c ≡ first_no (store_asked T ++ qs)) where
-  pub first-refused : (n : ℕ) → store_entry T ≡ Refused n → Refused n ≡ admission T c
+  pub first-refused : (n : ℕ) → store_entry T ≡ Err n → Err n ≡ admission T c
   unfolding store_entry admission
   first-refused n e =
       let r = told-refused T (first_no (store_asked T)) n e in
       tell-refused T (number T [] c) n (asks ∙ stop-first (store_asked T) qs (λ z. r.1 (sym r.0 ∙ z)) ∙ r.0) r.1
 
-  module _ (h : Header) (e : store_entry T ≡ Shown h) where
+  module _ (h : Header) (e : store_entry T ≡ Ok h) where
     asked-then : number T [] c ≡ first_no qs
     unfolding store_asked
     asked-then = asks ∙ pass-first (store_asked T) qs (omega arith) (shown-none T h e)
 
-    pub then-refused : (n : ℕ) → first_no qs ≡ n → n ≢ 0 → Refused n ≡ admission T c
+    pub then-refused : (n : ℕ) → first_no qs ≡ n → n ≢ 0 → Err n ≡ admission T c
     unfolding admission
     then-refused n f d = tell-refused T (number T [] c) n (asked-then ∙ f) d
 
-    pub then-shown : first_no qs ≡ 0 → Shown h ≡ admission T c
+    pub then-shown : first_no qs ≡ 0 → Ok h ≡ admission T c
     unfolding admission
     then-shown f = tell-shown T (number T [] c) h (same-header T h e) (asked-then ∙ f)
 

@@ -1,4 +1,5 @@
 -- 5 and 6 of a call that takes all the tables: by the tests on the way, and what an opening that they show tells.
+use Rattle.std.specs.Prelude.{Ok, Err}
 use Prim.Native.Nat.{ℕ, ◌≤◌}
 use native.Mathlib.Omega.{arith}
 use mathlib.Core.Path.{◌≡◌, refl, sym, ap, ◌∙◌}
@@ -12,7 +13,6 @@ use Rattle.meaning.specs.Refusal.{ask, first_no}
 use Rattle.meaning.specs.Ledger.{Settings}
 use Rattle.meaning.proofs.Lists.{and_first, and_second}
 use Rattle.layout.specs.declared.Header.{Header}
-use Rattle.layout.specs.declared.Opening.TheVariants.{Shown, Refused}
 use Rattle.layout.specs.Header.{header_of, bare}
 use Rattle.layout.specs.Limits.{HeaderLimits}
 use Rattle.layout.specs.Settings.{settings_length, shows_opening}
@@ -47,13 +47,13 @@ module _ (ws nodes pages sketches working : List ℕ) where
       go true true true false w = refl
       go true true true true w = refl
 
-  pub enter-refused : (n : ℕ) → store_entry store ≡ Refused n → Refused n ≡ entry T
+  pub enter-refused : (n : ℕ) → store_entry store ≡ Err n → Err n ≡ entry T
   unfolding store_entry entry
   enter-refused n e =
       let r = told-refused store (first_no (store_asked store)) n e in
       tell-refused T (first_no (tables_asked T)) n (asked-last ∙ rw (ne_eqb (first_no (store_asked store)) 0 (λ z. r.1 (sym r.0 ∙ z))) r.0) r.1
 
-  module _ (h : Header) (e : store_entry store ≡ Shown h) where
+  module _ (h : Header) (e : store_entry store ≡ Ok h) where
     abbrev working_is_long : Bool
     working_is_long = leb (working_length (bare h)) (length working)
 
@@ -63,16 +63,16 @@ module _ (ws nodes pages sketches working : List ℕ) where
         asked-last
         ∙ rw (shown-none store h e) (ap (λ (g : Header). cond (leb (working_length (bare g)) (length working)) 0 6) (same-header store h e))
 
-    pub enter-short : working_is_long ≡ false → Refused 6 ≡ entry T
+    pub enter-short : working_is_long ≡ false → Err 6 ≡ entry T
     unfolding entry
     enter-short a = tell-refused T (first_no (tables_asked T)) 6 (by-header ∙ rw a) (omega arith)
 
-    pub enter-all : working_is_long ≡ true → Shown h ≡ entry T
+    pub enter-all : working_is_long ≡ true → Ok h ≡ entry T
     unfolding entry
     enter-all a = tell-shown T (first_no (tables_asked T)) h (same-header store h e) (by-header ∙ rw a)
 
 -- ---- what the answer tells
-pub entry-refused : (T : Tables) (n : ℕ) → entry T ≡ Refused n → (first_no (tables_asked T) ≡ n) × (n ≢ 0)
+pub entry-refused : (T : Tables) (n : ℕ) → entry T ≡ Err n → (first_no (tables_asked T) ≡ n) × (n ≢ 0)
 unfolding entry
 entry-refused T n e = told-refused T (first_no (tables_asked T)) n e
 
@@ -106,7 +106,7 @@ module _ (T : Tables) where
         working-long = leb-true (working_length s) (length T.working) (search (and_first, and_second));
       }
 
-  pub entry-shown : (h : Header) → entry T ≡ Shown h → Entered T h
+  pub entry-shown : (h : Header) → entry T ≡ Ok h → Entered T h
   unfolding entry
   entry-shown h e =
       let t = told-shown T (first_no (tables_asked T)) h e in

@@ -1,29 +1,28 @@
 -- What a call is told by the questions on its tables, 5 and 6, and on a page, 8 and 9.
-use Rattle.std.specs.Prelude.{ℕ, Bool, cond, ◌&&◌, not, List, [], ◌∷◌, ltb, eqb}
+use Rattle.layout.specs.declared.Header.{Header}
+use Rattle.std.specs.Prelude.{ℕ, Bool, cond, ◌&&◌, not, List, [], ◌∷◌, ltb, eqb, Result, Ok, Err}
 use Rattle.meaning.specs.Refusal.{Question, ask, first_no}
-use Rattle.layout.specs.declared.Opening.{Opening}
-use Rattle.layout.specs.declared.Opening.TheVariants.{Shown, Refused}
 use Rattle.layout.specs.Header.{header_of, pick, tables_first}
 use Rattle.layout.specs.Pages.{is_live}
 use Rattle.promises.specs.Tables.{Tables, given}
 use Rattle.promises.specs.Answers.{long_nodes, long_pages, long_working}
 
 -- the opening, or the number of the first "no"
-abbrev pub told_by : Tables → ℕ → Opening
-told_by T n = pick (eqb n 0) (Shown (header_of (given T))) (Refused n)
+abbrev pub told_by : Tables → ℕ → Result Header ℕ
+told_by T n = pick (eqb n 0) (Ok (header_of (given T))) (Err n)
 
 -- 5 and 6 of a call that takes the store: they hang on the tables alone
 unfoldable pub store_asked : Tables → List Question
 store_asked T = tables_first T.settings (long_nodes (given T) T && long_pages (given T) T) []
 
-unfoldable pub store_entry : Tables → Opening
+unfoldable pub store_entry : Tables → Result Header ℕ
 store_entry T = told_by T (first_no (store_asked T))
 
 -- and of one that takes the working table besides
 unfoldable pub tables_asked : Tables → List Question
 tables_asked T = tables_first T.settings (long_nodes (given T) T && long_pages (given T) T && long_working (given T) T) []
 
-unfoldable pub entry : Tables → Opening
+unfoldable pub entry : Tables → Result Header ℕ
 entry T = told_by T (first_no (tables_asked T))
 
 -- 8 and 9: is page p below the capacity, and live where it is to be?

@@ -1,15 +1,18 @@
 // Questions 5 and 6: does the settings table show an opening, and is each table behind it long enough? 8 and 9: the page.
 #![tactic(auto)]
 
-ghost use Rattle.std.specs.Prelude.{◌≡◌, ◌&&◌, [], ◌≤◌, leb, length};
+ghost use Rattle.std.specs.Prelude.{◌≡◌, ◌&&◌, ◌≤◌, leb, length};
 ghost use Rattle.layout.specs.Header.{bare};
 ghost use Rattle.layout.specs.Limits.{HeaderLimits};
 ghost use Rattle.layout.specs.Lengths.{nodes_length, pages_length, sketches_length, working_length};
 ghost use Rattle.meaning.specs.Refusal.{first_no};
-ghost use Rattle.promises.specs.Tables.{tables};
+ghost use Rattle.lent.specs.Lists.{held, held_with};
+ghost use Rattle.refusals.specs.Refusals.{answer_number, numbered};
 ghost use Rattle.entry.specs.Entry.{store_entry, entry, page_asked};
 
-use layout::{Header, Opening};
+use layout::Header;
+use lent::View;
+use refusals::Refusal;
 
 #[tactic(auto, unfolding(layout::specs::Lengths::nodes_length))]
 pub fn long_nodes(h: Header, nodes: &[u32]) -> bool
@@ -38,60 +41,48 @@ pub fn long_working(h: Header, working: &[u32]) -> bool
 
 // The store: the nodes, the pages and their sketches.
 #[tactic(auto, unfolding(layout::specs::Lengths::nodes_length, layout::specs::Lengths::pages_length, layout::specs::Lengths::sketches_length))]
-fn long_store(h: Header, nodes: &[u32], pages: &[u32], sketches: &[u8]) -> bool
+pub fn long_store(h: Header, view: View<'_>) -> bool
     requires { HeaderLimits h }
-    ensures { result ≡ leb (nodes_length (bare h)) (length nodes.now) && (leb (pages_length (bare h)) (length pages.now) && leb (sketches_length (bare h)) (length sketches.now)) }
+    ensures { result ≡ leb (nodes_length (bare h)) (length view.entry.nodes.now) && (leb (pages_length (bare h)) (length view.entry.pages.now) && leb (sketches_length (bare h)) (length view.entry.sketches.now)) }
 {
-    long_nodes(h, nodes) & long_pages(h, pages, sketches)
+    long_nodes(h, view.nodes) & long_pages(h, view.pages, view.sketches)
 }
 
-// 5 and 6 of a call that takes the store: the opening, or the number of the first that says no.
+// 5 and 6 of a call that takes the store: the opening.
 #[tactic(auto, unfolding(crate::specs::Entry::store_entry))]
-pub fn admit(settings: &[u32], nodes: &[u32], pages: &[u32], sketches: &[u8]) -> Opening
-    ensures { result ≡ store_entry (tables settings.now nodes.now pages.now sketches.now []) }
+pub fn admit(view: View<'_>) -> Result<Header, Refusal>
+    ensures { numbered result ≡ store_entry (held view.entry) }
 {
-    let h = match settings::opening(settings) {
-        Opening::Refused(number) => return Opening::Refused(number),
-        Opening::Shown(h) => h,
-    };
-    if !long_store(h, nodes, pages, sketches) {
-        return Opening::Refused(6);
+    let h = settings::opening(view.settings)?;
+    if !long_store(h, view) {
+        return Err(Refusal::NoOpening);
     }
-    Opening::Shown(h)
+    Ok(h)
 }
 
-// 8 and 9: is the page below the capacity, and live where it is to be? The number of the first that says no, or 0.
+// 8 and 9: is the page below the capacity, and live where it is to be?
 #[tactic(auto, unfolding(meaning::specs::Refusal::first_no, crate::specs::Entry::page_asked))]
-pub fn ask_page(h: Header, pages: &[u32], page: u32, live: bool) -> u32
+pub fn ask_page(h: Header, pages: &[u32], page: u32, live: bool) -> Result<(), Refusal>
     requires { h.pages ≤ length pages.now }
-    ensures { result ≡ first_no (page_asked h.pages pages.now page live) }
+    ensures { answer_number result ≡ first_no (page_asked h.pages pages.now page live) }
 {
     if h.pages <= page as usize {
-        return 8;
+        return Err(Refusal::NoSuchPage);
     }
     if layout::pages::is_live(pages, page as usize) != live {
-        return 9;
+        return Err(Refusal::PageState);
     }
-    0
+    Ok(())
 }
 
-// 5 and 6 of a call that takes all the tables: the opening, or the number of the first that says no.
+// 5 and 6 of a call that takes all the tables: the opening.
 #[tactic(auto, unfolding(crate::specs::Entry::entry))]
-pub fn enter(
-    settings: &[u32],
-    nodes: &[u32],
-    pages: &[u32],
-    sketches: &[u8],
-    working: &[u32],
-) -> Opening
-    ensures { result ≡ entry (tables settings.now nodes.now pages.now sketches.now working.now) }
+pub fn enter(view: View<'_>, working: &[u32]) -> Result<Header, Refusal>
+    ensures { numbered result ≡ entry (held_with view.entry working.now) }
 {
-    let h = match admit(settings, nodes, pages, sketches) {
-        Opening::Refused(number) => return Opening::Refused(number),
-        Opening::Shown(h) => h,
-    };
+    let h = admit(view)?;
     if !long_working(h, working) {
-        return Opening::Refused(6);
+        return Err(Refusal::NoOpening);
     }
-    Opening::Shown(h)
+    Ok(h)
 }

@@ -1,4 +1,5 @@
 -- The answer to 5 and 6: what it tells a call.
+use Rattle.std.specs.Prelude.{Result, Ok, Err}
 use Prim.Native.Nat.{ℕ, ◌≤◌}
 use native.Mathlib.Omega.{arith}
 use mathlib.Core.Path.{◌≡◌, refl, sym}
@@ -11,8 +12,6 @@ use Rattle.meaning.specs.Refusal.{Question, ask, first_no}
 use Rattle.meaning.specs.Questions.{in_limits}
 use Rattle.meaning.proofs.Lists.{and_second}
 use Rattle.layout.specs.declared.Header.{Header}
-use Rattle.layout.specs.declared.Opening.{Opening}
-use Rattle.layout.specs.declared.Opening.TheVariants.{Shown, Refused}
 use Rattle.layout.specs.Settings.{mark, settings_length, settings_of, shows_opening}
 use Rattle.layout.specs.Header.{header_of, opening_of, pick, tables_first}
 use Rattle.layout.specs.Limits.{HeaderLimits, Bounds}
@@ -25,19 +24,19 @@ pub record Shows (ws : List ℕ) (h : Header) : Type 0 where
   pub limits : HeaderLimits h
   pub bounds : Bounds (settings_of ws)
 
-pub apart : (h : Header) (n : ℕ) → Refused n ≡ Shown h → ⊥
+pub apart : (h : Header) (n : ℕ) → Err n ≡ Ok h → ⊥
 apart h n e = let z : ◌≡◌ {A = ℕ} 0 1 = cc in omega arith
 
 -- the answer by its two tests
-answer : List ℕ → Bool → Bool → Opening
-answer ws long shows = pick long (pick shows (Shown (header_of (settings_of ws))) (Refused 6)) (Refused 5)
+answer : List ℕ → Bool → Bool → Result Header ℕ
+answer ws long shows = pick long (pick shows (Ok (header_of (settings_of ws))) (Err 6)) (Err 5)
 
 module _ (ws : List ℕ) where
-  pub shown : (h : Header) → opening_of ws ≡ Shown h → Shows ws h
+  pub shown : (h : Header) → opening_of ws ≡ Ok h → Shows ws h
   unfolding opening_of answer
   shown h e = go (leb settings_length (length ws)) refl (shows_opening ws) refl e
     where
-      go : (l : Bool) → leb settings_length (length ws) ≡ l → (t : Bool) → shows_opening ws ≡ t → answer ws l t ≡ Shown h → Shows ws h
+      go : (l : Bool) → leb settings_length (length ws) ≡ l → (t : Bool) → shows_opening ws ≡ t → answer ws l t ≡ Ok h → Shows ws h
       go true l true t e =
           let same : header_of (settings_of ws) ≡ h = cc in
           let b : Bounds (settings_of ws) = bounds (settings_of ws) (and_second (eqb (get_or ws 0 0) mark) (in_limits (settings_of ws)) (unfold shows_opening in t)) in
@@ -45,32 +44,32 @@ module _ (ws : List ℕ) where
       go true l false t e = absurd (apart h 6 e)
       go false l t u e = absurd (apart h 5 e)
 
-  pub shows : settings_length ≤ length ws → shows_opening ws ≡ true → opening_of ws ≡ Shown (header_of (settings_of ws))
+  pub shows : settings_length ≤ length ws → shows_opening ws ≡ true → opening_of ws ≡ Ok (header_of (settings_of ws))
   unfolding opening_of
   shows long e = rw (le-leb settings_length (length ws) long, e)
 
   -- 5 and 6 of a call, by the answer
   module _ (fit : Bool) (qs : List Question) where
-    pub shown-number : (h : Header) → opening_of ws ≡ Shown h → first_no (tables_first ws fit qs) ≡ cond fit (first_no qs) 6
+    pub shown-number : (h : Header) → opening_of ws ≡ Ok h → first_no (tables_first ws fit qs) ≡ cond fit (first_no qs) 6
     unfolding first_no
     shown-number h e =
         let s = shown h e in
         rw (le-leb settings_length (length ws) s.long, s.shows)
 
-    pub refused-number : (n : ℕ) → opening_of ws ≡ Refused n → first_no (tables_first ws fit qs) ≡ n
+    pub refused-number : (n : ℕ) → opening_of ws ≡ Err n → first_no (tables_first ws fit qs) ≡ n
     unfolding opening_of first_no answer
     refused-number n e = go (leb settings_length (length ws)) (shows_opening ws) e
       where
-        go : (l t : Bool) → answer ws l t ≡ Refused n → first_no (ask 5 l ∷ ask 6 (t && fit) ∷ qs) ≡ n
+        go : (l t : Bool) → answer ws l t ≡ Err n → first_no (ask 5 l ∷ ask 6 (t && fit) ∷ qs) ≡ n
         go true true e = absurd (apart (header_of (settings_of ws)) n (sym e))
         go true false e = cc
         go false t e = cc
 
-  pub refused-range : (n : ℕ) → opening_of ws ≡ Refused n → (5 ≤ n) × (n ≤ 6)
+  pub refused-range : (n : ℕ) → opening_of ws ≡ Err n → (5 ≤ n) × (n ≤ 6)
   unfolding opening_of answer
   refused-range n e = go (leb settings_length (length ws)) (shows_opening ws) e
     where
-      go : (l t : Bool) → answer ws l t ≡ Refused n → (5 ≤ n) × (n ≤ 6)
+      go : (l t : Bool) → answer ws l t ≡ Err n → (5 ≤ n) × (n ≤ 6)
       go true true e = absurd (apart (header_of (settings_of ws)) n (sym e))
       go true false e = let z : 6 ≡ n = cc in omega arith
       go false t e = let z : 5 ≡ n = cc in omega arith

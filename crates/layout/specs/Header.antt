@@ -1,11 +1,9 @@
 -- What a call reads off the settings table: the header of an opening, or the number of the question that fails.
-use Rattle.std.specs.Prelude.{ℕ, Bool, true, false, ◌&&◌, List, [], ◌∷◌, leb, length}
+use Rattle.std.specs.Prelude.{ℕ, Bool, true, false, ◌&&◌, List, [], ◌∷◌, leb, length, Result, Ok, Err}
 use Rattle.meaning.specs.Refusal.{Question, ask}
 use Rattle.meaning.specs.Ledger.{Settings, settings_given}
 use Rattle.layout.specs.Settings.{settings_length, settings_of, shows_opening}
 use Rattle.layout.specs.declared.Header.{Header}
-use Rattle.layout.specs.declared.Opening.{Opening}
-use Rattle.layout.specs.declared.Opening.TheVariants.{Shown, Refused}
 
 -- b, m, q and the capacities
 abbrev pub header_of : Settings → Header
@@ -20,16 +18,16 @@ abbrev pub bare : Header → Settings
 bare h = with_thresholds h []
 
 -- one of two answers, by a test
-abbrev pub pick : Bool → Opening → Opening → Opening
+abbrev pub pick : Bool → Result Header ℕ → Result Header ℕ → Result Header ℕ
 pick true a b = a
 pick false a b = b
 
 -- 5 and 6, as far as the settings table goes
-unfoldable pub opening_of : List ℕ → Opening
+unfoldable pub opening_of : List ℕ → Result Header ℕ
 opening_of ws =
     pick (leb settings_length (length ws))
-    (pick (shows_opening ws) (Shown (header_of (settings_of ws))) (Refused 6))
-    (Refused 5)
+    (pick (shows_opening ws) (Ok (header_of (settings_of ws))) (Err 6))
+    (Err 5)
 
 -- 5 and 6 ahead of the other questions, where `fit` says that each other table of the call is long enough
 abbrev pub tables_first : List ℕ → Bool → List Question → List Question

@@ -2,8 +2,16 @@
 use Rattle.std.specs.Prelude.{ℕ, ◌+◌, ◌-◌, ◌/◌, ◌%◌, cond, List, eqb, ltb, get_or, set}
 use Rattle.layout.specs.Nodes.{chain_at, state_at, free_state, inner_state, empty_state, count_base, state_with}
 use Rattle.layout.specs.Pages.{most_pages}
+use Rattle.layout.specs.declared.nodes.State.{State}
+use Rattle.layout.specs.declared.nodes.State.TheVariants.{Empty, Free as Unused, Inner as Within}
 use Rattle.layout.specs.declared.nodes.Kind.{Kind}
 use Rattle.layout.specs.declared.nodes.Kind.TheVariants.{Free, Inner, Leaf}
+
+-- the word of a state
+abbrev pub word_of : State → ℕ
+word_of Unused = free_state
+word_of Within = inner_state
+word_of Empty = empty_state
 
 -- the kind that a state stands for
 abbrev pub kind_by : ℕ → Kind
@@ -34,6 +42,10 @@ one_more count = cond (ltb count most_pages) (count + 1) most_pages
 
 abbrev pub one_less : ℕ → ℕ
 one_less count = count - 1
+
+-- leaf x with so many pages, the first at a link
+abbrev pub with_count : List ℕ → ℕ → ℕ → ℕ → ℕ → List ℕ
+with_count N cap x link count = set N (state_at cap x) (state_with count link)
 
 -- leaf x with one page more, and with one less but some, the first at a link then
 unfoldable pub longer : List ℕ → ℕ → ℕ → ℕ → List ℕ

@@ -37,11 +37,8 @@ pub fn map_words(h: Header) -> usize
     requires { HeaderLimits h }
     ensures { result ≡ map_words (bare h) }
 {
-    let eighth = (h.nodes + 7) / 8;
-    if h.pages < eighth {
-        return (eighth + 31) / 32;
-    }
-    (h.pages + 31) / 32
+    let eighth = h.nodes.div_ceil(8);
+    h.pages.max(eighth).div_ceil(32)
 }
 
 // The words of the second.
@@ -50,7 +47,7 @@ pub fn summary_words(h: Header) -> usize
     requires { HeaderLimits h }
     ensures { result ≡ summary_words (bare h) }
 {
-    (map_words(h) + 31) / 32
+    map_words(h).div_ceil(32)
 }
 
 #[tactic(auto, unfolding(crate::specs::Lengths::working_length))]

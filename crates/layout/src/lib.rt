@@ -5,6 +5,11 @@
 pub mod lengths;
 pub mod nodes;
 pub mod pages;
+pub mod settings;
+
+ghost use Rattle.std.specs.Prelude.{◌≡◌, []};
+ghost use Rattle.meaning.specs.Ledger.{settings_given};
+ghost use Rattle.layout.specs.Header.{header_of};
 
 // What a call goes by: b, m, q and the capacities.
 #[derive(Clone, Copy)]
@@ -16,11 +21,19 @@ pub struct Header {
     pub nodes: usize,
 }
 
-// What the settings table says: an opening, or the number of the question that fails, 5 or 6.
-#[derive(Clone, Copy)]
-pub enum Opening {
-    Shown(Header),
-    Refused(u32),
+impl Header {
+    // By the numbers of an opening as they are given, or as they stand in the settings table.
+    pub fn new(b: u32, m: u32, q: u32, page_capacity: u32, node_capacity: u32) -> Header
+        ensures { result ≡ header_of (settings_given b m q page_capacity node_capacity []) }
+    {
+        Header {
+            b: b as usize,
+            m: m as usize,
+            q: q as usize,
+            pages: page_capacity as usize,
+            nodes: node_capacity as usize,
+        }
+    }
 }
 
 // Where one block's trie lies: the capacities, and where the links of its pages begin in the page table.

@@ -1,9 +1,9 @@
 // The words of the node table: a link with a byte above it, where the words of a node stand, and what a node is by its state.
 ghost use Rattle.std.specs.Prelude.{◌≡◌, ◌≤◌, ◌<◌, set};
-ghost use Rattle.layout.specs.Nodes.{most_nodes, link_base, link_of, byte_of, chain_word, with_link, state_at, head_at, inner_state, empty_state};
+ghost use Rattle.layout.specs.Nodes.{most_nodes, link_base, link_of, byte_of, chain_word, with_link, state_at, head_at};
 ghost use Rattle.layout.specs.Pages.{most_pages};
 ghost use Rattle.layout.specs.Tables.{NodeTable};
-ghost use Rattle.layout.specs.States.{kind_of, first_of, count_of, one_more, one_less, longer, shorter, next_free, with_free};
+ghost use Rattle.layout.specs.States.{word_of, kind_of, first_of, count_of, one_more, longer, shorter, next_free, with_free, with_count};
 
 // The words of a node; of these the heads, which stand behind as many others.
 pub const WORDS: usize = 10;
@@ -18,14 +18,28 @@ pub const STEPS: usize = 10;
 // A chain word is a link and, times this, a byte.
 pub const LINKS: u32 = 524288;
 
-// The states of a node: free, inner, and that of a leaf without pages.
-const FREE: u32 = 0;
+// The states of a node that is not a leaf with pages: free, inner, and a leaf without.
+#[derive(Clone, Copy, Debug, PartialEq, Eq)]
+pub enum State {
+    Free,
+    Inner,
+    Empty,
+}
 
-const INNER: u32 = 65536;
+impl State {
+    // The word of the table that stands for it.
+    pub fn word(self) -> u32
+        ensures { result ≡ word_of self }
+    {
+        match self {
+            State::Free => 0,
+            State::Inner => 65536,
+            State::Empty => 131072,
+        }
+    }
+}
 
-const EMPTY: u32 = 131072;
-
-// That of another leaf is the link to its first page and, times this, the number of its pages. Both are below it.
+// The state of a leaf with pages is the link to the first and, times this, their number. Both are below it.
 const COUNTS: u32 = 65536;
 
 const MOST: u32 = 65535;
@@ -75,7 +89,7 @@ pub fn head_at(cap: usize, x: usize, g: usize) -> usize
     2 * cap + 8 * x + g
 }
 
-#[derive(Clone, Copy)]
+#[derive(Clone, Copy, Debug, PartialEq, Eq)]
 pub enum Kind {
     Free,
     Inner,
@@ -91,10 +105,10 @@ pub fn kind_of(nodes: &[u32], cap: usize, x: usize) -> Kind
     ensures { result ≡ kind_of nodes.now cap x }
 {
     let state = nodes[state_at(cap, x)];
-    if state == FREE {
+    if state == State::Free.word() {
         return Kind::Free;
     }
-    if state == INNER {
+    if state == State::Inner.word() {
         return Kind::Inner;
     }
     Kind::Leaf(state % COUNTS)
@@ -107,11 +121,10 @@ pub fn first_page(nodes: &[u32], cap: usize, x: usize) -> u32
     requires x_lt_cap { x < cap }
     ensures { result ≡ first_of (kind_of nodes.now cap x) }
 {
-    let kind = kind_of(nodes, cap, x);
-    match kind {
+    match kind_of(nodes, cap, x) {
+        Kind::Leaf(first) => first,
         Kind::Free => 0,
         Kind::Inner => 0,
-        Kind::Leaf(first) => first,
     }
 }
 
@@ -124,7 +137,7 @@ pub fn page_count(nodes: &[u32], cap: usize, x: usize) -> u32
     ensures inside { result ≤ most_pages }
 {
     let state = nodes[state_at(cap, x)];
-    if state == EMPTY {
+    if state == State::Empty.word() {
         return 0;
     }
     state / COUNTS
@@ -145,25 +158,17 @@ pub fn set_free(nodes: &mut [u32], cap: usize, x: usize, next: u32)
     requires x_lt_cap { x < cap }
     ensures { nodes.new ≡ with_free nodes.old cap x next }
 {
-    nodes[state_at(cap, x)] = FREE;
+    set_state(nodes, cap, x, State::Free);
     nodes[x] = next;
 }
 
-pub fn set_inner(nodes: &mut [u32], cap: usize, x: usize)
+// Node x has another state.
+pub fn set_state(nodes: &mut [u32], cap: usize, x: usize, state: State)
     requires node_table { NodeTable cap nodes.old }
     requires x_lt_cap { x < cap }
-    ensures { nodes.new ≡ set nodes.old (state_at cap x) inner_state }
+    ensures { nodes.new ≡ set nodes.old (state_at cap x) (word_of state) }
 {
-    nodes[state_at(cap, x)] = INNER;
-}
-
-// Node x is a leaf without pages.
-pub fn set_empty(nodes: &mut [u32], cap: usize, x: usize)
-    requires node_table { NodeTable cap nodes.old }
-    requires x_lt_cap { x < cap }
-    ensures { nodes.new ≡ set nodes.old (state_at cap x) empty_state }
-{
-    nodes[state_at(cap, x)] = EMPTY;
+    nodes[state_at(cap, x)] = state.word();
 }
 
 // A number with one page more; on damaged tables the greatest stays.
@@ -177,16 +182,15 @@ fn one_more(count: u32) -> u32
     MOST
 }
 
-// With one page less; on damaged tables 0 stays.
-fn one_less(count: u32) -> u32
-    requires { count ≤ most_pages }
-    ensures value { result ≡ one_less count }
-    ensures inside { result ≤ most_pages }
+// Leaf x has so many pages, and its first page is at a link.
+#[tactic(auto, unfolding(crate::specs::States::with_count))]
+fn set_leaf(nodes: &mut [u32], cap: usize, x: usize, first: u32, count: u32)
+    requires node_table { NodeTable cap nodes.old }
+    requires x_lt_cap { x < cap }
+    requires small { (first ≤ most_pages) × (count ≤ most_pages) }
+    ensures { nodes.new ≡ with_count nodes.old cap x first count }
 {
-    if count > 0 {
-        return count - 1;
-    }
-    0
+    nodes[state_at(cap, x)] = first + count * COUNTS;
 }
 
 // Leaf x has one page more, and its first page is at a link.
@@ -198,10 +202,11 @@ pub fn lengthen(nodes: &mut [u32], cap: usize, x: usize, first: u32)
     ensures { nodes.new ≡ longer nodes.old cap x first }
 {
     let count = one_more(page_count(nodes, cap, x));
-    nodes[state_at(cap, x)] = first + count * COUNTS;
+    set_leaf(nodes, cap, x, first, count);
 }
 
-// Leaf x has one page less, but some, and its first page is at a link.
+// Leaf x has one page less, but some, and its first page is at a link; on damaged tables 0 stays.
+// Not one function with `lengthen`: a flag would say what the two names say.
 #[tactic(auto, unfolding(crate::specs::States::shorter))]
 pub fn shorten(nodes: &mut [u32], cap: usize, x: usize, first: u32)
     requires node_table { NodeTable cap nodes.old }
@@ -209,6 +214,6 @@ pub fn shorten(nodes: &mut [u32], cap: usize, x: usize, first: u32)
     requires first_le_most_pages { first ≤ most_pages }
     ensures { nodes.new ≡ shorter nodes.old cap x first }
 {
-    let count = one_less(page_count(nodes, cap, x));
-    nodes[state_at(cap, x)] = first + count * COUNTS;
+    let count = page_count(nodes, cap, x).saturating_sub(1);
+    set_leaf(nodes, cap, x, first, count);
 }

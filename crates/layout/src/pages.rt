@@ -24,8 +24,7 @@ pub fn class_of(pages: &[u32], p: usize) -> u32
     requires { p < length pages.now }
     ensures { result ≡ class_of pages.now p }
 {
-    let word = page_word(pages, p);
-    if word > 0 { word - 1 } else { 0 }
+    page_word(pages, p).saturating_sub(1)
 }
 
 // The signature that is stored for page p, in a table of cap pages.
@@ -87,9 +86,5 @@ pub fn write_row(sketches: &mut [u8], m: usize, p: usize, x: &[u8])
     ensures { sketches.new ≡ with_row m sketches.old p x.now }
 {
     let start = p * m;
-    let mut i = 0;
-    while i < m {
-        sketches[start + i] = x[i];
-        i += 1;
-    }
+    sketches[start..start + m].copy_from_slice(x);
 }

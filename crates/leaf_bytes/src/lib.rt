@@ -7,7 +7,6 @@ ghost use Rattle.blocks.specs.Tables.{SketchTable};
 ghost use Rattle.leaf_bytes.specs.Bytes.{distinct_bytes};
 
 use blocks::Level;
-use blocks::packed::page_byte;
 use layout::Block;
 
 #[derive(Clone, Copy)]
@@ -45,7 +44,7 @@ pub fn distinct_bytes(
             return Needed::Broken;
         }
         let p = link - 1;
-        let v = page_byte(sketches, level, block, p) as usize;
+        let v = level.page_byte(sketches, block, p) as usize;
         n += (!seen[v]) as usize;
         seen[v] = true;
         link = pages[block.base + p] as usize;

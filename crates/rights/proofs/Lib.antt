@@ -1,4 +1,5 @@
 pub mod Any
+pub mod Ranges
 pub mod Register
 pub mod Open
 pub mod Renewed

@@ -2,3 +2,4 @@ pub mod Register
 pub mod Open
 pub mod Entries
 pub mod Holders
+pub mod Changes

@@ -4,6 +4,7 @@ ghost use Rattle.layout.specs.Settings.{settings_length};
 ghost use Rattle.rights.specs.Entries.{is_current, all_current};
 
 use crate::records;
+use layout::settings::READERS;
 
 // Is the reader's entry current?
 #[tactic(auto, unfolding(crate::specs::Entries::is_current))]
@@ -11,9 +12,7 @@ fn is_current(ws: &[u32], reader: usize) -> bool
     requires { (settings_length ≤ length ws.now) × (reader < 256) }
     ensures { result ≡ is_current ws.now reader }
 {
-    let entry = crate::entry(ws, reader);
-    let classes = records::open_classes(ws, reader);
-    (entry.low == classes.low) & (entry.high == classes.high)
+    crate::entry(ws, reader) == records::open_classes(ws, reader)
 }
 
 // Is no entry stale?
@@ -22,12 +21,10 @@ pub fn all_current(ws: &[u32]) -> bool
     requires { settings_length ≤ length ws.now }
     ensures { result ≡ all_current ws.now }
 {
-    let mut reader = 0;
-    while reader < 256 {
+    for reader in 0..READERS as usize {
         if !is_current(ws, reader) {
             return false;
         }
-        reader += 1;
     }
     true
 }

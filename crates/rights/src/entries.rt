@@ -5,6 +5,7 @@ ghost use Rattle.rights.specs.Entries.{renewed, class_renewed};
 ghost use Rattle.rights.specs.Holders.{member_renewed};
 
 use crate::records;
+use layout::settings::{ENTRIES, MEMBERS, READERS};
 
 // Writes the reader's entry as the records have it.
 #[tactic(auto, unfolding(crate::specs::Entries::renewed, layout::specs::Entries::with_entry))]
@@ -13,7 +14,7 @@ pub fn renew(ws: &mut [u32], reader: usize)
     ensures { ws.new ≡ renewed ws.old reader }
 {
     let classes = records::open_classes(ws, reader);
-    let at = crate::ENTRIES + 2 * reader;
+    let at = ENTRIES + 2 * reader;
     ws[at] = classes.low;
     ws[at + 1] = classes.high;
 }
@@ -24,13 +25,10 @@ fn renew_member(ws: &mut [u32], reader: usize, group: usize, class: usize, holde
     requires { (settings_length ≤ length ws.old) × (reader < 256) × (group < 32) × (class < 64) }
     ensures { ws.new ≡ member_renewed ws.old reader group class holders }
 {
-    if !words::has(ws, crate::MEMBERS, reader * 32 + group) {
-        return;
+    if words::has(ws, MEMBERS, reader * 32 + group) {
+        let on = ws[MEMBERS + reader] & holders != 0;
+        words::set(ws, ENTRIES, reader * 64 + class, on);
     }
-    if ws[crate::MEMBERS + reader] & holders == 0 {
-        return words::clear(ws, crate::ENTRIES, reader * 64 + class);
-    }
-    words::set(ws, crate::ENTRIES, reader * 64 + class)
 }
 
 // Writes the class as the records have it in the entries of the group's members.
@@ -40,9 +38,7 @@ pub fn renew_class(ws: &mut [u32], group: usize, class: usize)
     ensures { ws.new ≡ class_renewed ws.old group class 256 }
 {
     let holders = records::holders(ws, class);
-    let mut reader = 0;
-    while reader < 256 {
+    for reader in 0..READERS as usize {
         renew_member(ws, reader, group, class, holders);
-        reader += 1;
     }
 }

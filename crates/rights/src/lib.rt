@@ -3,68 +3,79 @@
 // The laws of the definitions that the contracts cite are in proofs/.
 #![tactic(auto)]
 
-ghost use Rattle.std.specs.Prelude.{◌≡◌, ◌≤◌, ◌<◌, length};
-ghost use Rattle.meaning.specs.Rights.{join, leave, grant, revoke};
+ghost use Rattle.std.specs.Prelude.{◌≡◌, ◌≤◌, ◌<◌, length, true};
+ghost use Rattle.meaning.specs.Rights.{change_in_range};
 ghost use Rattle.layout.specs.Settings.{settings_length};
-ghost use Rattle.rights.specs.Register.{opens};
+ghost use Rattle.rights.specs.Register.{opens, with_member, with_grant};
+ghost use Rattle.rights.specs.Changes.{change_meant};
 ghost use Rattle.rights.specs.Open.{entry_of, is_open};
-ghost use Rattle.rights.specs.Entries.{registered};
+ghost use Rattle.rights.specs.Entries.{registered, renewed, class_renewed};
 
 pub mod current;
 mod entries;
 mod records;
 
-// Where the memberships, the grants and the entries begin.
-const MEMBERS: usize = 70;
-
-const GRANTS: usize = 326;
-
-const ENTRIES: usize = 390;
+use layout::settings::{CLASSES, ENTRIES, GRANTS, GROUPS, MEMBERS, READERS};
 
 // A set of classes: 0 to 31 in the low word, 32 to 63 in the high.
-#[derive(Clone, Copy)]
+#[derive(Clone, Copy, PartialEq, Eq)]
 pub struct Classes {
     pub low: u32,
     pub high: u32,
 }
 
-// Makes the reader a member of the group.
-#[tactic(auto, unfolding(crate::specs::Entries::registered))]
-pub fn join(ws: &mut [u32], reader: usize, group: usize)
-    requires { (settings_length ≤ length ws.old) × (reader < 256) × (group < 32) }
-    ensures { ws.new ≡ registered (join reader group) ws.old }
+// A change of the records: a reader becomes a member of a group or is one no more, and a group is granted a class or has it no more.
+#[derive(Clone, Copy, Debug, PartialEq, Eq)]
+pub enum Change {
+    Join { reader: u32, group: u32 },
+    Leave { reader: u32, group: u32 },
+    Grant { group: u32, class: u32 },
+    Revoke { group: u32, class: u32 },
+}
+
+// Are the numbers of the change below their limits?
+#[tactic(auto, unfolding(crate::specs::Changes::change_meant))]
+pub fn is_in_range(change: Change) -> bool
+    ensures { result ≡ change_in_range (change_meant change) }
 {
-    words::set(ws, MEMBERS, reader * 32 + group);
+    match change {
+        Change::Join { reader, group } => (reader < READERS) & (group < GROUPS),
+        Change::Leave { reader, group } => (reader < READERS) & (group < GROUPS),
+        Change::Grant { group, class } => (group < GROUPS) & (class < CLASSES),
+        Change::Revoke { group, class } => (group < GROUPS) & (class < CLASSES),
+    }
+}
+
+// Makes a change whose numbers are in range.
+#[tactic(auto, unfolding(crate::specs::Changes::change_meant, crate::specs::Entries::registered), using(crate::proofs::Ranges::below))]
+pub fn make_change(ws: &mut [u32], change: Change)
+    requires long { settings_length ≤ length ws.old }
+    requires in_range { change_in_range (change_meant change) ≡ true }
+    ensures { ws.new ≡ registered (change_meant change) ws.old }
+{
+    match change {
+        Change::Join { reader, group } => set_member(ws, reader as usize, group as usize, true),
+        Change::Leave { reader, group } => set_member(ws, reader as usize, group as usize, false),
+        Change::Grant { group, class } => set_grant(ws, group as usize, class as usize, true),
+        Change::Revoke { group, class } => set_grant(ws, group as usize, class as usize, false),
+    }
+}
+
+// Makes the reader a member of the group, or takes him out of it.
+fn set_member(ws: &mut [u32], reader: usize, group: usize, on: bool)
+    requires { (settings_length ≤ length ws.old) × (reader < 256) × (group < 32) }
+    ensures { ws.new ≡ renewed (with_member ws.old reader group on) reader }
+{
+    words::set(ws, MEMBERS, reader * 32 + group, on);
     entries::renew(ws, reader);
 }
 
-// The reader is no member of the group any more.
-#[tactic(auto, unfolding(crate::specs::Entries::registered))]
-pub fn leave(ws: &mut [u32], reader: usize, group: usize)
-    requires { (settings_length ≤ length ws.old) × (reader < 256) × (group < 32) }
-    ensures { ws.new ≡ registered (leave reader group) ws.old }
-{
-    words::clear(ws, MEMBERS, reader * 32 + group);
-    entries::renew(ws, reader);
-}
-
-// Grants the class to the group.
-#[tactic(auto, unfolding(crate::specs::Entries::registered))]
-pub fn grant(ws: &mut [u32], group: usize, class: usize)
+// Grants the class to the group, or takes it from the group.
+fn set_grant(ws: &mut [u32], group: usize, class: usize, on: bool)
     requires { (settings_length ≤ length ws.old) × (group < 32) × (class < 64) }
-    ensures { ws.new ≡ registered (grant group class) ws.old }
+    ensures { ws.new ≡ class_renewed (with_grant ws.old group class on) group class 256 }
 {
-    words::set(ws, GRANTS, group * 64 + class);
-    entries::renew_class(ws, group, class);
-}
-
-// Takes the class from the group.
-#[tactic(auto, unfolding(crate::specs::Entries::registered))]
-pub fn revoke(ws: &mut [u32], group: usize, class: usize)
-    requires { (settings_length ≤ length ws.old) × (group < 32) × (class < 64) }
-    ensures { ws.new ≡ registered (revoke group class) ws.old }
-{
-    words::clear(ws, GRANTS, group * 64 + class);
+    words::set(ws, GRANTS, group * 64 + class, on);
     entries::renew_class(ws, group, class);
 }
 
@@ -86,7 +97,7 @@ pub fn entry(ws: &[u32], reader: usize) -> Classes
 pub fn is_open(k: Classes, class: u32) -> bool
     ensures { result ≡ is_open k class }
 {
-    if class >= 64 {
+    if class >= CLASSES {
         return false;
     }
     let word = if class < 32 { k.low } else { k.high };

@@ -5,6 +5,7 @@ ghost use Rattle.rights.specs.Open.{open_classes};
 ghost use Rattle.rights.specs.Holders.{holders};
 
 use crate::Classes;
+use layout::settings::{GRANTS, GROUPS, MEMBERS};
 
 // The classes granted to the groups that have the reader as a member.
 #[tactic(auto, unfolding(crate::specs::Open::open_classes, crate::specs::Open::with_group))]
@@ -12,19 +13,17 @@ pub fn open_classes(ws: &[u32], reader: usize) -> Classes
     requires { (settings_length ≤ length ws.now) × (reader < 256) }
     ensures { result ≡ open_classes ws.now reader }
 {
-    let mut groups = ws[crate::MEMBERS + reader];
+    // No `for`: the word has the groups that are left, and a turn for each of those alone.
+    let mut groups = ws[MEMBERS + reader];
     let mut low: u32 = 0;
     let mut high: u32 = 0;
     while groups != 0 {
-        let at = crate::GRANTS + 2 * (words::lowest_bit(groups) as usize);
-        low = low | ws[at];
-        high = high | ws[at + 1];
+        let at = GRANTS + 2 * (words::lowest_bit(groups) as usize);
+        low |= ws[at];
+        high |= ws[at + 1];
         groups = words::without_lowest(groups);
     }
-    Classes {
-        low: low,
-        high: high,
-    }
+    Classes { low, high }
 }
 
 // The groups that are granted the class, a bit for each.
@@ -34,12 +33,10 @@ pub fn holders(ws: &[u32], class: usize) -> u32
     ensures { result ≡ holders ws.now class 32 }
 {
     let mut groups: u32 = 0;
-    let mut group = 0;
-    while group < 32 {
-        if words::has(ws, crate::GRANTS, group * 64 + class) {
-            groups = groups | (1u32 << (group as u32));
+    for group in 0..GROUPS {
+        if words::has(ws, GRANTS, group as usize * 64 + class) {
+            groups |= 1u32 << group;
         }
-        group += 1;
     }
     groups
 }

@@ -1,4 +1,5 @@
 -- A search keeps its promise, by the way out.
+use Rattle.std.specs.Prelude.{Ok, Err}
 use Prim.Native.Nat.{ℕ, ◌+◌}
 use native.Mathlib.Omega.{arith}
 use native.Mathlib.Nat.{zero-add}
@@ -19,7 +20,6 @@ use Rattle.meaning.specs.Ledger.{search, reading}
 use Rattle.meaning.specs.Questions.{asked}
 use Rattle.words.specs.Bits.{zeroed}
 use Rattle.layout.specs.declared.Header.{Header}
-use Rattle.layout.specs.declared.Opening.TheVariants.{Shown, Refused}
 use Rattle.layout.specs.Settings.{settings_length, shows_opening}
 use Rattle.layout.specs.Header.{header_of, bare}
 use Rattle.layout.specs.Lengths.{working_length}
@@ -113,7 +113,7 @@ module _ (T : Tables) (reader radius : ℕ) (x : List ℕ) (before : Output) whe
   left_split after = refl
 
   -- 5 or 6
-  pub promise-tables : (n : ℕ) → entry T ≡ Refused n
+  pub promise-tables : (n : ℕ) → entry T ≡ Err n
       → SearchPromise T reader radius x before n 0 before T.working × AnsweredBy T reader radius x before n 0 before
   promise-tables n e =
       let r = entry-refused T n e in
@@ -129,7 +129,7 @@ module _ (T : Tables) (reader radius : ℕ) (x : List ℕ) (before : Output) whe
       )
 
   -- past 5 and 6 the needed part of the working table is cleared
-  module _ (h : Header) (e : entry T ≡ Shown h) where
+  module _ (h : Header) (e : entry T ≡ Ok h) where
     abbrev in_order : Entered T h
     in_order = entry-shown T h e
 

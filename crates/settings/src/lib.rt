@@ -7,34 +7,24 @@ ghost use Rattle.meaning.specs.Lists.{all};
 ghost use Rattle.layout.specs.Settings.{settings_length, settings_of, shows_opening, with_header, free_at};
 ghost use Rattle.layout.specs.Limits.{limits_of, HeaderLimits};
 ghost use Rattle.layout.specs.Header.{header_of, with_thresholds, opening_of};
+ghost use Rattle.refusals.specs.Refusals.{numbered};
 
-use layout::{Header, Opening};
+use layout::Header;
+use layout::settings::{FREE, LENGTH, LEVELS, MEMBERS, THRESHOLDS};
+use refusals::Refusal;
 
 const MARK: u32 = 0x56440004;
 
-// How many words the table needs.
-pub const LENGTH: usize = 903;
-
-// Where the thresholds and the register begin, and the free link.
-const THRESHOLDS: usize = 6;
-
-pub const MEMBERS: usize = 70;
-
-// The words of the register: a word for each of 256 readers, two for each of 32 groups, and two more for each reader.
-pub const REGISTER: usize = 832;
-
-const FREE: usize = 902;
-
 // Question 4 of an opening that is lent so many thresholds, each of 16 bits.
 #[tactic(auto, unfolding(layout::specs::Limits::limits_of, meaning::specs::SketchCalls::sketch_limits))]
-pub fn limits(b: u32, m: u32, q: u32, pages: u32, nodes: u32, thresholds: usize) -> bool
-    ensures { result ≡ limits_of b m q pages nodes thresholds }
+pub fn limits(h: Header, thresholds: usize) -> bool
+    ensures { result ≡ limits_of h.b h.m h.q h.pages h.nodes thresholds }
 {
-    ((0 < b) & (b <= 8) & ((0 < m) & (m <= 64)))
-        & ((0 < q) & (q <= 8) & (q <= m))
-        & ((0 < pages) & (pages < 65536))
-        & ((q <= nodes) & (nodes <= 262144))
-        & (thresholds == 64)
+    ((0 < h.b) & (h.b <= 8) & ((0 < h.m) & (h.m <= 64)))
+        & ((0 < h.q) & (h.q <= 8) & (h.q <= h.m))
+        & ((0 < h.pages) & (h.pages < 65536))
+        & ((h.q <= h.nodes) & (h.nodes <= 262144))
+        & (thresholds == LEVELS)
 }
 
 // Is each threshold in the table below 65,536? No branch: one pass joins their bits.
@@ -44,10 +34,8 @@ fn thresholds_fit(settings: &[u32]) -> bool
     ensures { result ≡ all (λ t. ltb t 65536) (settings_of settings.now).thresholds }
 {
     let mut seen: u32 = 0;
-    let mut k = 0;
-    while k < 64 {
-        seen = seen | settings[THRESHOLDS + k];
-        k += 1;
+    for t in thresholds(settings) {
+        seen |= *t;
     }
     seen < 65536
 }
@@ -58,16 +46,7 @@ fn shows_opening(settings: &[u32]) -> bool
     requires { settings_length ≤ length settings.now }
     ensures { result ≡ shows_opening settings.now }
 {
-    (settings[0] == MARK)
-        & limits(
-            settings[1],
-            settings[2],
-            settings[3],
-            settings[4],
-            settings[5],
-            64,
-        )
-        & thresholds_fit(settings)
+    (settings[0] == MARK) & limits(header(settings), LEVELS) & thresholds_fit(settings)
 }
 
 // The header of an opening: words 1 to 5.
@@ -76,27 +55,27 @@ fn header(settings: &[u32]) -> Header
     requires { settings_length ≤ length settings.now }
     ensures { result ≡ header_of (settings_of settings.now) }
 {
-    Header {
-        b: settings[1] as usize,
-        m: settings[2] as usize,
-        q: settings[3] as usize,
-        pages: settings[4] as usize,
-        nodes: settings[5] as usize,
-    }
+    Header::new(
+        settings[1],
+        settings[2],
+        settings[3],
+        settings[4],
+        settings[5],
+    )
 }
 
 // The opening that the table shows; else 5 where it is too short, and 6 where it shows none.
 #[tactic(auto, unfolding(layout::specs::Header::opening_of))]
-pub fn opening(settings: &[u32]) -> Opening
-    ensures { result ≡ opening_of settings.now }
+pub fn opening(settings: &[u32]) -> Result<Header, Refusal>
+    ensures { numbered result ≡ opening_of settings.now }
 {
     if settings.len() < LENGTH {
-        return Opening::Refused(5);
+        return Err(Refusal::ShortTable);
     }
     if !shows_opening(settings) {
-        return Opening::Refused(6);
+        return Err(Refusal::NoOpening);
     }
-    Opening::Shown(header(settings))
+    Ok(header(settings))
 }
 
 // The thresholds of all levels: a part of the table itself.
@@ -130,10 +109,8 @@ fn write_thresholds(settings: &mut [u32], thresholds: &[u16])
     requires thresholds_len { length thresholds.now ≡ 64 }
     ensures { settings.new ≡ paste settings.old 6 thresholds.now 64 }
 {
-    let mut k = 0;
-    while k < 64 {
+    for k in 0..LEVELS {
         settings[THRESHOLDS + k] = thresholds[k] as u32;
-        k += 1;
     }
 }
 

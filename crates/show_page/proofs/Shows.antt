@@ -1,4 +1,5 @@
 -- A show: its number by the tests on the way, and the place of its row.
+use Rattle.std.specs.Prelude.{Ok, Err}
 use Prim.Native.Nat.{ℕ, ◌+◌, ◌*◌, ◌^◌, ◌≤◌, ◌<◌}
 use native.Mathlib.Omega.{arith}
 use native.Mathlib.Nat.{mul-le-mul, lt_of_le_of_lt}
@@ -13,7 +14,6 @@ use Rattle.meaning.specs.Ledger.{show, reading}
 use Rattle.meaning.specs.Questions.{asked}
 use Rattle.meaning.proofs.Lists.{and_first, and_second}
 use Rattle.layout.specs.declared.Header.{Header}
-use Rattle.layout.specs.declared.Opening.TheVariants.{Shown, Refused}
 use Rattle.layout.specs.Settings.{settings_of, shows_opening}
 use Rattle.layout.specs.Header.{opening_of, tables_first, bare}
 use Rattle.layout.specs.Limits.{HeaderLimits}
@@ -66,11 +66,11 @@ module _ (ws pages sketches : List ℕ) (r p : ℕ) where
   unfolding number entered shown56 long_settings long_for
   asked-first = refl
 
-  pub row-refused : (n : ℕ) → opening_of ws ≡ Refused n → no_row n ≡ place_of T r p
+  pub row-refused : (n : ℕ) → opening_of ws ≡ Err n → no_row n ≡ place_of T r p
   row-refused n e =
       refused-place T r p n (asked-first ∙ refused-number ws _ _ n e) (λ z. omega (arith, refused-range ws n e))
 
-  module _ (h : Header) (e : opening_of ws ≡ Shown h) where
+  module _ (h : Header) (e : opening_of ws ≡ Ok h) where
     -- the number from 6 on
     from6 : Header → ℕ
     from6 g =

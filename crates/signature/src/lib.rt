@@ -4,7 +4,7 @@
 
 ghost use Rattle.std.specs.Prelude.{◌≡◌, ◌≤◌, length};
 ghost use Rattle.sketch.specs.Settings.{Bits};
-ghost use Rattle.blocks.specs.RowBytes.{reduced};
+ghost use Rattle.sketch.specs.Reduced.{reduced};
 ghost use Rattle.layout.specs.Signature.{signature};
 ghost use Rattle.signature.specs.Distance.{signature_distance};
 
@@ -15,7 +15,7 @@ use sketch::packing::symbols_at;
 
 // The signature of a row of symbols, each taken modulo 2^b, so that any row has one; symbols in range stay as they are.
 // From the last packed byte to the first: the word is rotated by a byte, and the byte goes into its lowest.
-#[tactic(auto, unfolding(layout::specs::Signature::signature, blocks::specs::RowBytes::reduced))]
+#[tactic(auto, unfolding(layout::specs::Signature::signature, sketch::specs::Reduced::reduced))]
 pub fn signature_of(b: u32, row: &[u8]) -> u32
     requires bits { Bits b }
     requires row_len_bound { length row.now ≤ 64 }
@@ -24,11 +24,9 @@ pub fn signature_of(b: u32, row: &[u8]) -> u32
     let n = row.len();
     let z = per_byte(b);
     let mut s: u32 = 0;
-    let mut k = packed_length(b, n);
-    while k > 0 {
-        k -= 1;
+    for k in (0..packed_length(b, n)).rev() {
         let count = symbols_at(b, n, k);
-        s = row_byte(b, row, k * z, count) ^ ((s << 8) | (s >> 24));
+        s = row_byte(b, row, k * z, count) ^ s.rotate_left(8);
     }
     s
 }

@@ -4,5 +4,6 @@ pub mod Lists
 pub mod Packed
 pub mod Passes
 pub mod Places
+pub mod Reduced
 pub mod Runs
 pub mod Width

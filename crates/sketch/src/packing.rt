@@ -1,7 +1,8 @@
 // Packing: z symbols into a byte, the first lowest; and back.
-ghost use Rattle.std.specs.Prelude.{◌≡◌, true, ◌<◌, ◌≤◌, length, take};
+ghost use Rattle.std.specs.Prelude.{◌≡◌, true, ◌*◌, ◌<◌, ◌≤◌, length, take};
 ghost use Rattle.meaning.specs.Lists.{onto};
 ghost use Rattle.meaning.specs.Sketch.{in_range, per_byte, packed_length, pack_byte, pack, group, symbols_at, packable, all_packable, unpack};
+ghost use Rattle.sketch.specs.Reduced.{reduced};
 ghost use Rattle.sketch.specs.Settings.{Bits};
 
 use crate::limits::{packed_length, per_byte};
@@ -19,19 +20,18 @@ pub fn symbols_at(b: u32, n: usize, k: usize) -> usize
     if left < z { left } else { z }
 }
 
-// One byte: its symbols from the last, the highest, to the first.
+// One byte: its symbols from the last, the highest, to the first, each taken modulo 2^b, so that any give a byte.
 #[tactic(auto, unfolding(meaning::specs::Sketch::pack_byte))]
 pub fn pack_byte(b: u32, xs: &[u8]) -> u8
-    requires bits { Bits b }
-    requires xs_len_bound { length xs.now ≤ per_byte b }
-    requires xs_value { in_range b xs.now ≡ true }
-    ensures { result ≡ pack_byte b xs.now }
+    requires b_bound { b ≤ 8 }
+    requires xs_len_bound { b * length xs.now ≤ 8 }
+    ensures reduced { result ≡ pack_byte b (reduced b xs.now) }
+    ensures in_range { in_range b xs.now ≡ true → result ≡ pack_byte b xs.now }
 {
+    let mask = (1u32 << b) - 1;
     let mut v: u32 = 0;
-    let mut i = xs.len();
-    while i > 0 {
-        i -= 1;
-        v = (v << b) + xs[i] as u32;
+    for i in (0..xs.len()).rev() {
+        v = (v << b) + (xs[i] as u32 & mask);
     }
     v as u8
 }
@@ -47,13 +47,10 @@ pub fn pack_into(b: u32, n: usize, xs: &[u8], out: &mut [u8])
     ensures { out.new ≡ onto (pack b (take n xs.now)) out.old }
 {
     let z = per_byte(b);
-    let k = packed_length(b, n);
-    let mut j = 0;
-    while j < k {
+    for j in 0..packed_length(b, n) {
         let at = j * z;
         let end = at + symbols_at(b, n, j);
         out[j] = pack_byte(b, &xs[at..end]);
-        j += 1;
     }
 }
 
@@ -80,10 +77,8 @@ pub fn unpack_into(b: u32, n: usize, bytes: &[u8], out: &mut [u8])
     let z = per_byte(b);
     let mut k = 0;
     let mut g = 0;
-    let mut i = 0;
-    while i < n {
+    for i in 0..n {
         out[i] = group_of(b, bytes[k], g);
-        i += 1;
         g += 1;
         if g == z {
             k += 1;
@@ -112,12 +107,10 @@ pub fn all_packable(b: u32, n: usize, bytes: &[u8]) -> bool
     requires bytes_len { length bytes.now ≡ packed_length b n }
     ensures { result ≡ all_packable b n bytes.now }
 {
-    let mut k = 0;
-    while k < bytes.len() {
+    for k in 0..bytes.len() {
         if !packable(b, n, k, bytes[k]) {
             return false;
         }
-        k += 1;
     }
     true
 }

@@ -11,10 +11,8 @@ pub fn in_range(b: u32, xs: &[u8]) -> bool
     ensures { result ≡ in_range b xs.now }
 {
     let mut bits: u8 = 0;
-    let mut i = 0;
-    while i < xs.len() {
-        bits |= xs[i];
-        i += 1;
+    for x in xs {
+        bits |= *x;
     }
     (bits as u32) < 1u32 << b
 }
@@ -24,14 +22,7 @@ pub fn in_range(b: u32, xs: &[u8]) -> bool
 pub fn blank(xs: &[u8]) -> bool
     ensures { result ≡ blank xs.now }
 {
-    let mut i = 0;
-    while i < xs.len() {
-        if xs[i] != 0 {
-            return false;
-        }
-        i += 1;
-    }
-    true
+    xs.iter().all(|x| *x == 0)
 }
 
 // What a pass over two sketches gives: the bits of all symbols, joined, and the number of places where the two differ.
@@ -49,11 +40,9 @@ pub fn go_over(xs: &[u8], ys: &[u8]) -> Pass
 {
     let mut bits: u8 = 0;
     let mut d: u8 = 0;
-    let mut i = 0;
-    while i < xs.len() {
-        bits |= xs[i] | ys[i];
-        d += (xs[i] != ys[i]) as u8;
-        i += 1;
+    for (x, y) in xs.iter().zip(ys) {
+        bits |= *x | *y;
+        d += (*x != *y) as u8;
     }
     Pass { bits, differing: d }
 }

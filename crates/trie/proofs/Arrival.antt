@@ -93,8 +93,8 @@ module _ (cap pcap base : ℕ) (small : cap ≤ most_nodes) (bytes_of : ℕ → 
     pub deep : depth bytes_of 0 p (tree t) ≡ k
 
   abbrev pub Arrives : Phys → Reach → Type 0
-  Arrives t (Leaf n s k) = AtLeaf t n s k
-  Arrives t (Gap n s k) = AtGap t n s k
+  Arrives t (Leaf at) = AtLeaf t at.node at.slot at.level
+  Arrives t (Gap at) = AtGap t at.node at.slot at.level
   Arrives t Broken = ⊥
 
   deep-end : (t : Phys) (k : ℕ) (u : Phys) → Way cap pcap base small bytes_of p t k u → has_below (byte_at bytes_of k p) (tree u) ≡ false → depth bytes_of 0 p (tree t) ≡ k

@@ -16,7 +16,7 @@ use Rattle.trie.specs.declared.path.Step.TheVariants.{Child}
 use Rattle.trie.specs.declared.path.Step.TheVariants as step
 use Rattle.trie.specs.declared.path.Reach.{Reach}
 use Rattle.trie.specs.declared.path.Reach.TheVariants.{Leaf, Gap, Broken}
-use Rattle.trie.specs.Descend.{step_by, step_to, follow, descend}
+use Rattle.trie.specs.Descend.{step_by, step_to, reached, follow, descend}
 
 module _ (N : List ℕ) (cap : ℕ) (Y : List ℕ) (n k : ℕ) (q : Kind) (e : q ≡ kind_of N cap n) where
   pub step-leaf : (first : ℕ) → q ≡ kind.Leaf first → step.Leaf ≡ step_to N cap Y n k
@@ -54,10 +54,10 @@ module _ (N : List ℕ) (cap : ℕ) (Y : List ℕ) (n s k : ℕ) (R : Reach) whe
   desc-at (suc f) h = (λ c s'. descend N cap Y c s' (k + 1) f, h)
 
   module _ (inv : descend N cap Y n s k (length Y - k) ≡ R) (r : Step) (e : r ≡ step_to N cap Y n k) where
-    pub desc-leaf : r ≡ step.Leaf → Leaf n s k ≡ R
+    pub desc-leaf : r ≡ step.Leaf → Leaf (reached n s k) ≡ R
     desc-leaf w = rw (← e, w) at (desc-at (length Y - k) inv).1
 
-    pub desc-gap : (s' : ℕ) → r ≡ step.Gap s' → Gap n s' k ≡ R
+    pub desc-gap : (s' : ℕ) → r ≡ step.Gap s' → Gap (reached n s' k) ≡ R
     desc-gap s' w = rw (← e, w) at (desc-at (length Y - k) inv).1
 
     pub desc-nowhere : r ≡ step.Broken → Broken ≡ R

@@ -1,14 +1,14 @@
 -- The first free node as an empty leaf for a byte that is missing: `link_leaf` keeps the state.
 use Prim.Native.Nat.{ℕ, ◌-◌, ◌<◌, ◌≤◌}
 use mathlib.Core.Path.{◌≡◌, refl, sym, subst}
+use Rattle.std.specs.Prelude.{Ok}
 use mathlib.Core.List.{List, [], ◌∷◌}
 use native.Mathlib.Omega.{arith}
 use lib.ListN.{length-set}
 use Rattle.layout.specs.Nodes.{state_at, free_state, inner_state, empty_state, most_nodes}
 use Rattle.layout.specs.States.{next_free}
-use Rattle.trie.specs.declared.leaf.Got.TheVariants.{Node}
 use Rattle.children.specs.Heap.{Cells, Heap, node, ◌⊕◌}
-use Rattle.trie.specs.Model.{link_leaf, fresh_leaf, made}
+use Rattle.trie.specs.Model.{link_leaf, fresh_leaf, made, grown}
 use Rattle.children.specs.Phys.{Phys, Kids, first, no_kids, free_cells, cells, kid_cells, State, leaf_p, inner_p}
 use Rattle.children.proofs.Frame.{Less, less, node-write, nodes-kept}
 use Rattle.trie.proofs.Steps.{fresh-made}
@@ -54,7 +54,7 @@ module _ (cap pcap base : ℕ) (small : cap ≤ most_nodes) where
           below = st.below.1;
         }
 
-    pub fresh-is : fresh_leaf N cap s.slot b free ≡ made (link_leaf N cap s.slot f b) (Node f (next_free N f))
+    pub fresh-is : fresh_leaf N cap s.slot b free ≡ made (link_leaf N cap s.slot f b) (Ok (grown f (next_free N f)))
     fresh-is =
         let e : free - 1 ≡ f = omega (arith, st.chain) in
         let l : f < cap = st.below.0 in

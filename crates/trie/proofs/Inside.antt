@@ -18,6 +18,7 @@ use Rattle.children.proofs.Places.{find-inside}
 use Rattle.trie.specs.declared.path.Step.{Step}
 use Rattle.trie.specs.declared.path.Step.TheVariants.{Child}
 use Rattle.trie.specs.declared.path.Step.TheVariants as step
+use Rattle.trie.specs.declared.path.Reached.{Reached}
 use Rattle.trie.specs.declared.path.Reach.{Reach}
 use Rattle.trie.specs.declared.path.Reach.TheVariants.{Leaf, Gap, Broken}
 use Rattle.trie.specs.Descend.{step_by, step_in, step_to, follow, descend, descend_to, StepInside, Inside}
@@ -86,26 +87,26 @@ module _ (cap len k : ℕ) (r : Step) (h : StepInside cap len k r) where
     pub gap_below : k < len
     gap_below = gap_step.1
 
-module _ (cap len : ℕ) (r : Reach) (n s k : ℕ) where
-  module _ (e : r ≡ Leaf n s k) (h : Inside cap len r) where
-    leaf-in : Inside cap len (Leaf n s k)
+module _ (cap len : ℕ) (r : Reach) (at : Reached) where
+  module _ (e : r ≡ Leaf at) (h : Inside cap len r) where
+    leaf-in : Inside cap len (Leaf at)
     leaf-in = rw e at h
 
-    pub leaf-node : n < cap
+    pub leaf-node : at.node < cap
     leaf-node = leaf-in.0
 
-    pub leaf-slot : s < node_words cap
+    pub leaf-slot : at.slot < node_words cap
     leaf-slot = leaf-in.1
 
-    pub leaf-level : k ≤ len
+    pub leaf-level : at.level ≤ len
     leaf-level = leaf-in.2
 
-  module _ (e : r ≡ Gap n s k) (h : Inside cap len r) where
-    gap-in : Inside cap len (Gap n s k)
+  module _ (e : r ≡ Gap at) (h : Inside cap len r) where
+    gap-in : Inside cap len (Gap at)
     gap-in = rw e at h
 
-    pub gap-slot : s < node_words cap
+    pub gap-slot : at.slot < node_words cap
     gap-slot = gap-in.1
 
-    pub gap-level : k < len
+    pub gap-level : at.level < len
     gap-level = gap-in.2

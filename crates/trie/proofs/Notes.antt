@@ -12,7 +12,8 @@ use Rattle.layout.specs.Nodes.{node_words}
 use Rattle.trie.specs.declared.path.Step.{Step}
 use Rattle.trie.specs.declared.path.Step.TheVariants.{Child}
 use Rattle.trie.specs.declared.path.Step.TheVariants as step
-use Rattle.trie.specs.Descend.{step_to, Passed, passed, further, passed_at, noted, Noted, StepInside}
+use Rattle.trie.specs.declared.path.Passed.{Passed}
+use Rattle.trie.specs.Descend.{step_to, passed, further, passed_at, noted, Noted, StepInside}
 use Rattle.trie.proofs.Inside.{step-inside}
 
 module _ (N : List ℕ) (cap root : ℕ) (Y : List ℕ) where
@@ -42,12 +43,9 @@ module _ (N : List ℕ) (cap root : ℕ) (Y : List ℕ) where
       go x i step.Broken h = i
 
 -- the next node noted
-pub note-on : (above slots : List ℕ) (way : ℕ → Passed) (k n s : ℕ) → Noted (noted above slots) way k → way k ≡ passed n s → k < length above → k < length slots →
-    Noted (noted (set above k n) (set slots k s)) way (k + 1)
-note-on above slots way k n s h e la ls j l =
+pub note-on : (path : List Passed) (way : ℕ → Passed) (k n s : ℕ) → Noted (noted path) way k → way k ≡ passed n s → k < length path →
+    Noted (noted (set path k (passed n s))) way (k + 1)
+note-on path way k n s h e l j m =
     by_cases (ℕ_discrete j k)
-    (λ q. rw q (ap (λ (m : ℕ). passed m (get_or (set slots k s) k 0)) (get_or-set_same above k n 0 la) ∙ ap (passed n) (get_or-set_same slots k s 0 ls) ∙ sym e))
-    (λ d.
-    ap (λ (m : ℕ). passed m (get_or (set slots k s) j 0)) (get_or-set_other above k j n 0 d)
-    ∙ ap (passed (get_or above j 0)) (get_or-set_other slots k j s 0 d)
-    ∙ h j (omega arith))
+    (λ q. rw q (get_or-set_same path k (passed n s) (passed 0 0) l ∙ sym e))
+    (λ d. get_or-set_other path k j (passed n s) (passed 0 0) d ∙ h j (omega arith))

@@ -8,8 +8,9 @@ use borrow.Author.Tests.{le-leb, lt-leb}
 use lib.Dec.{leb, leb-suc-suc}
 use native.Mathlib.Decide.{ℕ_discrete}
 use lib.ListN.{length, get_or}
-use Rattle.trie.specs.declared.span.Span.{Span}
-use Rattle.trie.specs.declared.span.Span.TheVariants.{Enough, Short}
+use Rattle.std.specs.Prelude.{Result, Ok, Err}
+use Rattle.trie.specs.declared.Stop.{Stop}
+use Rattle.trie.specs.declared.Stop.TheVariants.{Full}
 use Rattle.children.specs.Heap.{Cells, hit, page_claims, Holds}
 use Rattle.trie.specs.Model.{span_from}
 use Rattle.children.specs.Phys.{first, page_cells, free_cells, Below, State, leaf_p}
@@ -17,8 +18,8 @@ use Rattle.children.proofs.Frame.{hit_other, hit_same}
 use Rattle.trie.proofs.Steps.{span-out, span-end, span-next}
 
 -- ---- the free nodes
-abbrev pub span_of : ℕ → ℕ → Span
-span_of f n = cond (leb f n) Enough Short
+abbrev pub span_of : ℕ → ℕ → Result (Unit {0}) Stop
+span_of f n = cond (leb f n) (Ok tt) (Err Full)
 
 pub free-span : (N P : List ℕ) (cap : ℕ) (fs : List ℕ) (l n : ℕ) → Holds (free_cells cap fs) N P → Below cap fs → l ≡ first fs → span_from N cap l n ≡ span_of n (length fs)
 free-span N P cap fs l zero h b e = rw (le-leb 0 (length fs) (omega arith)) (sym (span-out N cap l 0 _ refl refl))

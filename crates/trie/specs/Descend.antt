@@ -10,6 +10,8 @@ use Rattle.children.specs.Places.{find_place}
 use Rattle.trie.specs.declared.path.Step.{Step}
 use Rattle.trie.specs.declared.path.Step.TheVariants.{Child}
 use Rattle.trie.specs.declared.path.Step.TheVariants as step
+use Rattle.trie.specs.declared.path.Passed.{Passed}
+use Rattle.trie.specs.declared.path.Reached.{Reached}
 use Rattle.trie.specs.declared.path.Reach.{Reach}
 use Rattle.trie.specs.declared.path.Reach.TheVariants.{Leaf, Gap, Broken}
 
@@ -29,11 +31,14 @@ step_in below kind.Inner = below
 unfoldable pub step_to : List ℕ → ℕ → List ℕ → ℕ → ℕ → Step
 step_to N cap Y n k = step_in (cond (ltb k (length Y)) (step_by (find_place N cap n (get_or Y k 0))) step.Broken) (kind_of N cap n)
 
+abbrev pub reached : ℕ → ℕ → ℕ → Reached
+reached n s k = record { node = n; slot = s; level = k }
+
 -- what it comes to at node n, which slot s links to: on to the child, or the answer
 abbrev pub follow : (ℕ → ℕ → Reach) → ℕ → ℕ → ℕ → Step → Reach
 follow go n s k (Child s' c) = go c s'
-follow go n s k step.Leaf = Leaf n s k
-follow go n s k (step.Gap s') = Gap n s' k
+follow go n s k step.Leaf = Leaf (reached n s k)
+follow go n s k (step.Gap s') = Gap (reached n s' k)
 follow go n s k step.Broken = Broken
 
 -- from there over at most f levels
@@ -45,10 +50,6 @@ unfoldable pub descend_to : List ℕ → ℕ → ℕ → List ℕ → Reach
 descend_to N cap root Y = descend N cap Y root 0 0 (length Y)
 
 -- a node passed on the way, and the slot that links to it
-pub record Passed : Type 0 where
-  pub node : ℕ
-  pub slot : ℕ
-
 abbrev pub passed : ℕ → ℕ → Passed
 passed n s = record { node = n; slot = s }
 
@@ -64,9 +65,9 @@ unfoldable pub passed_at : List ℕ → ℕ → ℕ → List ℕ → ℕ → Pas
 passed_at N cap root Y zero = passed root 0
 passed_at N cap root Y (suc k) = let x : Passed = passed_at N cap root Y k in further x (step_to N cap Y x.node k)
 
--- the node at level k of a path that is noted in two arrays: `above` has the nodes and `slots` the slots
-abbrev pub noted : List ℕ → List ℕ → ℕ → Passed
-noted above slots k = passed (get_or above k 0) (get_or slots k 0)
+-- the node at level k of a path that is noted in an array
+abbrev pub noted : List Passed → ℕ → Passed
+noted path k = get_or path k (passed 0 0)
 
 -- the path has the nodes of the way above level k
 abbrev pub Noted : (ℕ → Passed) → (ℕ → Passed) → ℕ → Type 0
@@ -74,8 +75,8 @@ Noted path way k = (j : ℕ) → j < k → path j ≡ way j
 
 -- the level of what was reached
 abbrev pub level_of : Reach → ℕ
-level_of (Leaf n s k) = k
-level_of (Gap n s k) = k
+level_of (Leaf at) = at.level
+level_of (Gap at) = at.level
 level_of Broken = 0
 
 -- numbers inside the tables and the bytes
@@ -86,6 +87,6 @@ StepInside cap len k (step.Gap s) = (s < node_words cap) × (k < len)
 StepInside cap len k step.Broken = Unit {0}
 
 abbrev pub Inside : ℕ → ℕ → Reach → Type 0
-Inside cap len (Leaf n s k) = (n < cap) × (s < node_words cap) × (k ≤ len)
-Inside cap len (Gap n s k) = (n < cap) × (s < node_words cap) × (k < len)
+Inside cap len (Leaf at) = (at.node < cap) × (at.slot < node_words cap) × (at.level ≤ len)
+Inside cap len (Gap at) = (at.node < cap) × (at.slot < node_words cap) × (at.level < len)
 Inside cap len Broken = Unit {0}

@@ -4,9 +4,10 @@ ghost use Rattle.layout.specs.Nodes.{node_words};
 ghost use Rattle.layout.specs.Tables.{NodeTable};
 ghost use Rattle.trie.specs.Model.{link_leaf, made, fresh_leaf, child_leaf, node_in, free_child};
 
+use crate::Stop;
 use children::links::{put_in, take_out};
 use children::place::{Place, find_place};
-use layout::nodes::{next_free, set_empty, set_free};
+use layout::nodes::{State, next_free, set_free, set_state};
 
 // Node f as an empty leaf with a byte, linked into a slot before what the slot linked to.
 #[tactic(auto, unfolding(crate::specs::Model::link_leaf))]
@@ -17,21 +18,26 @@ fn link_leaf(nodes: &mut [u32], cap: usize, slot: usize, f: usize, byte: u32)
     requires byte_bound { byte < 256 }
     ensures { nodes.new ≡ link_leaf nodes.old cap slot f byte }
 {
-    set_empty(nodes, cap, f);
+    set_state(nodes, cap, f, State::Empty);
     put_in(nodes, cap, slot, f, byte);
 }
 
-// A node that was found or made, or that a page was put into, with the first free link then; or why not.
-#[derive(Clone, Copy)]
-pub enum Got {
-    Node(usize, u32),
-    Full,
-    Broken,
+// A node that was found or made, or that a page was put into, with the first free link then.
+#[derive(Clone, Copy, Debug, PartialEq, Eq)]
+pub struct Grown {
+    pub node: usize,
+    pub free: u32,
 }
 
 // The first free node as an empty leaf with a byte, linked into a slot.
 #[tactic(auto, unfolding(crate::specs::Model::fresh_leaf))]
-pub fn fresh_leaf(nodes: &mut [u32], cap: usize, slot: usize, byte: u32, free: u32) -> Got
+pub fn fresh_leaf(
+    nodes: &mut [u32],
+    cap: usize,
+    slot: usize,
+    byte: u32,
+    free: u32,
+) -> Result<Grown, Stop>
     requires node_table { NodeTable cap nodes.old }
     requires slot_bound { slot < node_words cap }
     requires byte_bound { byte < 256 }
@@ -39,31 +45,39 @@ pub fn fresh_leaf(nodes: &mut [u32], cap: usize, slot: usize, byte: u32, free: u
     ensures inside { node_in result ≤ cap }
 {
     if free == 0 {
-        return Got::Full;
+        return Err(Stop::Full);
     }
     let f = (free as usize) - 1;
     if f >= cap {
-        return Got::Broken;
+        return Err(Stop::Broken);
     }
     let next = next_free(nodes, cap, f);
     link_leaf(nodes, cap, slot, f, byte);
-    Got::Node(f, next)
+    Ok(Grown {
+        node: f,
+        free: next,
+    })
 }
 
 // The child of a byte, which is made, an empty leaf, where it is missing.
 #[tactic(auto, unfolding(crate::specs::Model::child_leaf))]
-pub fn child_leaf(nodes: &mut [u32], cap: usize, n: usize, byte: u32, free: u32) -> Got
+pub fn child_leaf(
+    nodes: &mut [u32],
+    cap: usize,
+    n: usize,
+    byte: u32,
+    free: u32,
+) -> Result<Grown, Stop>
     requires node_table { NodeTable cap nodes.old }
     requires n_lt_cap { n < cap }
     requires byte_bound { byte < 256 }
     ensures result_after { made nodes.new result ≡ child_leaf nodes.old cap n byte free }
     ensures inside { node_in result ≤ cap }
 {
-    let place = find_place(nodes, cap, n, byte);
-    match place {
-        Place::Found(_, child) => Got::Node(child, free),
-        Place::Missing(slot) => fresh_leaf(nodes, cap, slot, byte, free),
-        Place::Broken => Got::Broken,
+    match find_place(nodes, cap, n, byte) {
+        Place::Found { child, .. } => Ok(Grown { node: child, free }),
+        Place::Missing { slot } => fresh_leaf(nodes, cap, slot, byte, free),
+        Place::Broken => Err(Stop::Broken),
     }
 }
 

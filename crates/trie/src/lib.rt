@@ -4,3 +4,10 @@
 pub mod leaf;
 pub mod path;
 pub mod span;
+
+// Why a trie can't grow: no node is free, or a link or a state is broken.
+#[derive(Clone, Copy, Debug, PartialEq, Eq)]
+pub enum Stop {
+    Full,
+    Broken,
+}

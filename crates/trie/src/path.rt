@@ -7,11 +7,11 @@ use children::place::{Place, find_place};
 use layout::nodes::{Kind, kind_of};
 
 // What a node has for its next byte: the slot of a child, and the child; nothing, since it is a leaf; no child, and the slot where it belongs.
-#[derive(Clone, Copy)]
+#[derive(Clone, Copy, Debug, PartialEq, Eq)]
 pub enum Step {
-    Child(usize, usize),
+    Child { slot: usize, child: usize },
     Leaf,
-    Gap(usize),
+    Gap { slot: usize },
     Broken,
 }
 
@@ -32,18 +32,25 @@ fn step_to(nodes: &[u32], cap: usize, bytes: &[u8], n: usize, level: usize) -> S
         return Step::Broken;
     }
     match find_place(nodes, cap, n, bytes[level] as u32) {
-        Place::Found(s, child) => Step::Child(s, child),
-        Place::Missing(s) => Step::Gap(s),
+        Place::Found { slot, child } => Step::Child { slot, child },
+        Place::Missing { slot } => Step::Gap { slot },
         Place::Broken => Step::Broken,
     }
 }
 
-// A node, a slot and the node's level: a leaf and the slot that links to it, 0 at the root; or an inner node without a child for the
-// next byte, and the slot where that child belongs.
-#[derive(Clone, Copy)]
+// The node where a way down ends, at a level. At a leaf the slot links to it, and is 0 at the root; at a gap the missing child belongs there.
+#[derive(Clone, Copy, Debug, PartialEq, Eq)]
+pub struct Reached {
+    pub node: usize,
+    pub slot: usize,
+    pub level: usize,
+}
+
+// A leaf; or an inner node without a child for the next byte.
+#[derive(Clone, Copy, Debug, PartialEq, Eq)]
 pub enum Reach {
-    Leaf(usize, usize, usize),
-    Gap(usize, usize, usize),
+    Leaf(Reached),
+    Gap(Reached),
     Broken,
 }
 
@@ -59,67 +66,83 @@ pub fn descend_to(nodes: &[u32], cap: usize, root: usize, bytes: &[u8]) -> Reach
     let mut slot = 0;
     let mut level = 0;
     loop {
-        let step = step_to(nodes, cap, bytes, n, level);
-        match step {
-            Step::Child(s, child) => {
+        match step_to(nodes, cap, bytes, n, level) {
+            Step::Child { slot: s, child } => {
                 n = child;
                 slot = s;
                 level += 1;
             }
             Step::Leaf => {
-                return Reach::Leaf(n, slot, level);
+                return Reach::Leaf(Reached {
+                    node: n,
+                    slot,
+                    level,
+                });
             }
-            Step::Gap(s) => {
-                return Reach::Gap(n, s, level);
+            Step::Gap { slot } => {
+                return Reach::Gap(Reached {
+                    node: n,
+                    slot,
+                    level,
+                });
             }
-            Step::Broken => {
-                return Reach::Broken;
-            }
+            Step::Broken => return Reach::Broken,
         }
     }
 }
 
-// The same way; each inner node passed is noted at its level, with the slot that links to it. (The prover is told that the arrays have
-// 64 places.)
+// A node that a way down passes, and the slot that links to it, 0 at the root.
+#[derive(Clone, Copy, Debug, PartialEq, Eq)]
+pub struct Passed {
+    pub node: u32,
+    pub slot: u32,
+}
+
+// The same way; each inner node passed is noted at its level.
 #[tactic(auto, unfolding(crate::specs::Descend::descend_to, crate::specs::Descend::passed_at))]
 pub fn trace_to(
     nodes: &[u32],
     cap: usize,
     root: usize,
     bytes: &[u8],
-    above: &mut [u32; 64],
-    slots: &mut [u32; 64],
+    path: &mut [Passed; 64],
 ) -> Reach
     requires node_table { NodeTable cap nodes.now }
     requires root_lt_cap { root < cap }
-    requires bytes_len_bound { (length bytes.now ≤ 64) × (length above.old ≡ 64) × (length slots.old ≡ 64) }
+    requires bytes_len_bound { length bytes.now ≤ 64 }
     ensures value { result ≡ descend_to nodes.now cap root bytes.now }
     ensures inside { Inside cap (length bytes.now) result }
-    ensures path { Noted (noted above.new slots.new) (passed_at nodes.now cap root bytes.now) (level_of result) }
-    ensures long { (length above.new ≡ 64) × (length slots.new ≡ 64) }
+    ensures path { Noted (noted path.new) (passed_at nodes.now cap root bytes.now) (level_of result) }
 {
     let mut n = root;
     let mut slot = 0;
     let mut level = 0;
     loop {
-        let step = step_to(nodes, cap, bytes, n, level);
-        match step {
-            Step::Child(s, child) => {
-                above[level] = n as u32;
-                slots[level] = slot as u32;
+        match step_to(nodes, cap, bytes, n, level) {
+            Step::Child { slot: s, child } => {
+                path[level] = Passed {
+                    node: n as u32,
+                    slot: slot as u32,
+                };
                 n = child;
                 slot = s;
                 level += 1;
             }
             Step::Leaf => {
-                return Reach::Leaf(n, slot, level);
+                return Reach::Leaf(Reached {
+                    node: n,
+                    slot,
+                    level,
+                });
             }
-            Step::Gap(s) => {
-                return Reach::Gap(n, s, level);
+            Step::Gap { slot } => {
+                return Reach::Gap(Reached {
+                    node: n,
+                    slot,
+                    level,
+                });
             }
-            Step::Broken => {
-                return Reach::Broken;
-            }
+            Step::Broken => return Reach::Broken,
         }
     }
 }

@@ -1,6 +1,7 @@
 -- A page put into a leaf, which is split where it is too long then: `grow_leaf` is `add_leaf`, if there are free nodes enough.
 use Prim.Native.Nat.{ℕ, suc, ◌+◌, ◌<◌, ◌≤◌}
 use mathlib.Core.Path.{◌≡◌, refl, ap, sym}
+use Rattle.std.specs.Prelude.{Ok}
 use mathlib.Core.List.{List, ◌∷◌}
 use mathlib.Core.Bool.{Bool, true, false, cond, ◌&&◌}
 use native.Mathlib.Omega.{arith}
@@ -9,7 +10,6 @@ use lib.Dec.{ltb}
 use lib.ListN.{length, get_or}
 use Rattle.meaning.specs.Trie.{Tree, leaf, inner, none, byte_at, split, add_leaf, nodes, nodes_in}
 use Rattle.layout.specs.Nodes.{state_at, inner_state, leaf_state, most_nodes}
-use Rattle.trie.specs.declared.leaf.Got.TheVariants.{Node}
 use Rattle.blocks.specs.declared.Rows.{Rows}
 use Rattle.children.specs.Heap.{Cells, node, page, ◌⊕◌}
 use Rattle.blocks.specs.Tables.{RowTable}
@@ -20,6 +20,7 @@ use Rattle.children.proofs.Leaves.{held-count}
 use Rattle.trie.proofs.Restate.{restate}
 use Rattle.blocks.proofs.Bytes.{level-table, byte_small}
 use Rattle.trie.proofs.Spans.{leaf-most}
+use Rattle.trie.specs.Model.{grown}
 use Rattle.trie_insert.specs.Pages.{push_nodes, push_pages, push_page, After, pushed, after}
 use Rattle.trie_insert.specs.Split.{split_from, open_leaf, too_long, split_leaf, grow_leaf}
 use Rattle.trie_insert.proofs.Steps.{grow-short, grow-split}
@@ -34,7 +35,7 @@ pub record Grown (cap pcap base n total : ℕ) (want : Tree) (G : Cells) (a : Af
   pub free_to : ℕ
   pub to : Phys
   pub frees_to : List ℕ
-  pub is : a ≡ after nodes_to pages_to (Node leaf free_to)
+  pub is : a ≡ after nodes_to pages_to (Ok (grown leaf free_to))
   pub state : State cap pcap base nodes_to pages_to free_to to frees_to G
   pub roots : root to ≡ n
   pub grown : tree to ≡ want
@@ -70,7 +71,7 @@ module _ (bytes_of : ℕ → List ℕ) (S τ : List ℕ) (r : Rows) (cap pcap ba
     unfolding too_long
     long = rw (held-count N1 cap n (p ∷ ps) st1.heap.holds.0.0 st1.sound.1 st1.page_table.small) refl
 
-    ok : pushed N1 P1 true ≡ push_page N P cap base n p
+    ok : pushed N1 P1 (Ok tt) ≡ push_page N P cap base n p
     unfolding N1 P1
     ok = sym (push_ok st lp)
 
@@ -85,7 +86,7 @@ module _ (bytes_of : ℕ → List ℕ) (S τ : List ℕ) (r : Rows) (cap pcap ba
           free_to = free;
           to = leaf_p n (p ∷ ps);
           frees_to = fs;
-          is = sym (grow-short S τ r cap pcap base N P k n p free N1 P1 true ok refl false (sym e) refl);
+          is = sym (grow-short S τ r cap pcap base N P k n p free N1 P1 (Ok tt) ok refl false (sym e) refl);
           state = st1;
           roots = refl;
           grown = refl;
@@ -108,7 +109,7 @@ module _ (bytes_of : ℕ → List ℕ) (S τ : List ℕ) (r : Rows) (cap pcap ba
               free_to = E.free_to;
               to = inner_p n E.kids_to;
               frees_to = E.frees_to;
-              is = sym (grow-split S τ r cap pcap base N P k n p free N1 P1 true ok refl true (sym e) refl E.nodes_to E.pages_to (Node n E.free_to) (sym E.is));
+              is = sym (grow-split S τ r cap pcap base N P k n p free N1 P1 (Ok tt) ok refl true (sym e) refl E.nodes_to E.pages_to (Ok (grown n E.free_to)) (sym E.is));
               state = E.state;
               roots = refl;
               grown = ap inner E.grown;

@@ -1,8 +1,8 @@
 -- A page put first into a leaf: `push_page` keeps the state.
 use Prim.Native.Nat.{ℕ, suc, ◌+◌, ◌<◌, ◌≤◌}
 use mathlib.Core.Path.{◌≡◌, refl, sym}
+use Rattle.std.specs.Prelude.{Ok}
 use mathlib.Core.List.{List, ◌∷◌}
-use mathlib.Core.Bool.{true}
 use native.Mathlib.Omega.{arith}
 use lib.ListN.{length, get_or, set, length-set}
 use Rattle.layout.specs.Nodes.{state_at, leaf_state}
@@ -42,7 +42,7 @@ module _ {cap pcap base : ℕ} {N P : List ℕ} {free c p v : ℕ} {ps fs : List
   one_more : push_nodes N cap c p ≡ set N (state_at cap c) (leaf_state (suc (length ps)) (p + 1))
   one_more = longer-is N cap c (length ps) (p + 1) (held-count N cap c ps word st.sound.1 st.page_table.small) few
 
-  pub push_ok : push_page N P cap base c p ≡ pushed (push_nodes N cap c p) (push_pages P base p (first ps)) true
+  pub push_ok : push_page N P cap base c p ≡ pushed (push_nodes N cap c p) (push_pages P base p (first ps)) (Ok tt)
   push_ok =
       sym (push-done N P cap base c p (kind_of N cap c) refl (first ps) (held-kind N cap c ps word st.sound.1 st.page_table.small) (push_nodes N cap c p) refl)
 

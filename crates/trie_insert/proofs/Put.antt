@@ -1,17 +1,16 @@
 -- On a state with an inner node all of whose children are leaves, `put_leaf_m` is `put_leaf`, if there are free nodes enough.
 use Prim.Native.Nat.{ℕ, ◌+◌, ◌<◌, ◌≤◌}
 use mathlib.Core.Path.{◌≡◌, refl, ap, ◌∙◌, sym, subst}
+use Rattle.std.specs.Prelude.{Ok}
 use mathlib.Core.List.{List, [], ◌∷◌}
-use mathlib.Core.Bool.{true}
 use native.Mathlib.Omega.{arith}
 use lib.ListN.{length, get_or}
 use Rattle.meaning.specs.Trie.{leaf, Children, child, push, put_leaf, nodes, nodes_in}
 use Rattle.layout.specs.Nodes.{most_nodes}
-use Rattle.trie.specs.declared.leaf.Got.TheVariants.{Node}
 use Rattle.children.specs.declared.place.Place.TheVariants.{Found, Missing}
 use Rattle.children.specs.Heap.{Cells, page, ◌⊕◌}
 use Rattle.children.specs.Places.{find_place}
-use Rattle.trie.specs.Model.{link_leaf, made, child_leaf}
+use Rattle.trie.specs.Model.{grown, link_leaf, made, child_leaf}
 use Rattle.children.specs.Phys.{Phys, Kids, children_of, first, Sound, State, leaf_p, inner_p}
 use Rattle.children.proofs.Frame.{same-swap}
 use Rattle.children.proofs.Abstract.{Leaves}
@@ -34,7 +33,7 @@ pub record PutDone (cap pcap base n b p : ℕ) (ks : Kids) (fs : List ℕ) (G : 
   pub free_to : ℕ
   pub kids_to : Kids
   pub frees_to : List ℕ
-  pub is : a ≡ after nodes_to pages_to (Node child free_to)
+  pub is : a ≡ after nodes_to pages_to (Ok (grown child free_to))
   pub state : State cap pcap base nodes_to pages_to free_to (inner_p n kids_to) frees_to G
   pub grown : children_of kids_to ≡ put_leaf b p (children_of ks)
   pub count : nodes_in (children_of kids_to) + length frees_to ≡ nodes_in (children_of ks) + length fs
@@ -54,7 +53,7 @@ module _ (cap pcap base : ℕ) (small : cap ≤ most_nodes) (n b p : ℕ) (ks : 
     unfolding C inside whole
     child-push = leave cap pcap base small (λ k. b) C (leaf_p c (p ∷ qs)) refl (push-state at_leaf lp)
 
-    pub child-ok : push_page N P cap base c p ≡ pushed (push_nodes N cap c p) (push_pages P base p (first qs)) true
+    pub child-ok : push_page N P cap base c p ≡ pushed (push_nodes N cap c p) (push_pages P base p (first qs)) (Ok tt)
     child-ok = push_ok at_leaf lp
 
   abbrev K : Children
@@ -81,7 +80,7 @@ module _ (cap pcap base : ℕ) (small : cap ≤ most_nodes) (n b p : ℕ) (ks : 
         let i : s.put x ≡ ks = ap s.put (sym e) ∙ s.whole in
         let t : State cap pcap base N P free (inner_p n (s.put x)) fs (page (base + p) v ⊕ G) =
         subst (λ (z : Kids). State cap pcap base N P free (inner_p n z) fs (page (base + p) v ⊕ G)) (sym i) st in
-        let d : made N (Node c free) ≡ child_leaf N cap n b free = child-found N cap n b free (Found s.slot c) (sym (place st x e)) s.slot c refl in
+        let d : made N (Ok (grown c free)) ≡ child_leaf N cap n b free = child-found N cap n b free (Found s.slot c) (sym (place st x e)) s.slot c refl in
         let k : children_of ks ≡ s.before (child b (leaf qs) K) = children-here x e in
         record {
           nodes_to = push_nodes N cap c p;
@@ -90,7 +89,7 @@ module _ (cap pcap base : ℕ) (small : cap ≤ most_nodes) (n b p : ℕ) (ks : 
           free_to = free;
           kids_to = s.put y;
           frees_to = fs;
-          is = sym (put-done N P cap base n b p free N (Node c free) d c free refl (push_nodes N cap c p) (push_pages P base p (first qs)) true (sym (child-ok lp t g)) refl);
+          is = sym (put-done N P cap base n b p free N (Ok (grown c free)) d (grown c free) refl (push_nodes N cap c p) (push_pages P base p (first qs)) (Ok tt) (sym (child-ok lp t g)) refl);
           state = child-push lp t g;
           grown = s.children y ∙ ap s.before (sym (put-here b p (leaf qs) K)) ∙ sym (s.skip (put_leaf b p) (put-skips b p) (child b (leaf qs) K)) ∙ ap (put_leaf b p) (sym k);
           count = rw (k, s.children y) (omega (arith, s.count (child b (leaf (p ∷ qs)) K) (child b (leaf qs) K)));
@@ -106,7 +105,7 @@ module _ (cap pcap base : ℕ) (small : cap ≤ most_nodes) (n b p : ℕ) (ks : 
         let N1 : List ℕ = link_leaf N cap s.slot f b in
         let t = fresh-state cap pcap base small st s h in
         let lf : f < cap = st.below.0 in
-        let d : made N1 (Node f (get_or N f 0)) ≡ child_leaf N cap n b free = child-made N cap n b free (Missing s.slot) (sym (place st gap h)) N1 (Node f (get_or N f 0)) s.slot refl (sym (fresh-is cap pcap base small st s h)) in
+        let d : made N1 (Ok (grown f (get_or N f 0))) ≡ child_leaf N cap n b free = child-made N cap n b free (Missing s.slot) (sym (place st gap h)) N1 (Ok (grown f (get_or N f 0))) s.slot refl (sym (fresh-is cap pcap base small st s h)) in
         record {
           nodes_to = push_nodes N1 cap f p;
           pages_to = push_pages P base p 0;
@@ -114,7 +113,7 @@ module _ (cap pcap base : ℕ) (small : cap ≤ most_nodes) (n b p : ℕ) (ks : 
           free_to = get_or N f 0;
           kids_to = s.put y;
           frees_to = fs;
-          is = sym (put-done N P cap base n b p free N1 (Node f (get_or N f 0)) d f (get_or N f 0) refl (push_nodes N1 cap f p) (push_pages P base p 0) true (sym (child-ok lp t (lf, tt))) refl);
+          is = sym (put-done N P cap base n b p free N1 (Ok (grown f (get_or N f 0))) d (grown f (get_or N f 0)) refl (push_nodes N1 cap f p) (push_pages P base p 0) (Ok tt) (sym (child-ok lp t (lf, tt))) refl);
           state = child-push lp t (lf, tt);
           grown = s.children y ∙ sym (gap-children h);
           count = rw (children-here gap h, s.children y) (omega (arith, s.count (child b (leaf (p ∷ [])) K) K));

@@ -1,12 +1,12 @@
 -- `split_from` is `split`: the pages of a loose chain go into the leaves below an inner node, if there are free nodes enough.
 use Prim.Native.Nat.{ℕ, ◌+◌, ◌-◌, ◌<◌, ◌≤◌}
 use mathlib.Core.Path.{◌≡◌, refl, ap, ◌∙◌, sym}
+use Rattle.std.specs.Prelude.{Ok}
 use mathlib.Core.List.{List, [], ◌∷◌}
 use native.Mathlib.Omega.{arith}
 use lib.ListN.{length, get_or}
 use Rattle.meaning.specs.Trie.{byte_at, put_leaf, split, nodes_in}
 use Rattle.layout.specs.Nodes.{most_nodes}
-use Rattle.trie.specs.declared.leaf.Got.TheVariants.{Node}
 use Rattle.blocks.specs.declared.Level.{Level}
 use Rattle.children.specs.Heap.{Cells, page, ◌⊕◌}
 use Rattle.blocks.specs.Packed.{page_byte}
@@ -15,6 +15,7 @@ use Rattle.children.proofs.Frame.{same-assoc}
 use Rattle.children.proofs.Abstract.{Leaves}
 use Rattle.children.proofs.Spot.{spot}
 use Rattle.trie.proofs.Context.{beside}
+use Rattle.trie.specs.Model.{grown}
 use Rattle.trie_insert.specs.Pages.{After, put_leaf_m, after}
 use Rattle.trie_insert.specs.Split.{split_from}
 use Rattle.trie_insert.proofs.Abstract.{leaves-put, split-grows}
@@ -28,7 +29,7 @@ pub record SplitDone (bytes_of : ℕ → List ℕ) (cap pcap base n k : ℕ) (ps
   pub free_to : ℕ
   pub kids_to : Kids
   pub frees_to : List ℕ
-  pub is : a ≡ after nodes_to pages_to (Node n free_to)
+  pub is : a ≡ after nodes_to pages_to (Ok (grown n free_to))
   pub state : State cap pcap base nodes_to pages_to free_to (inner_p n kids_to) frees_to G
   pub grown : children_of kids_to ≡ split bytes_of k ps (children_of ks)
   pub count : nodes_in (children_of kids_to) + length frees_to ≡ nodes_in (children_of ks) + length fs
@@ -43,8 +44,8 @@ module _ (bytes_of : ℕ → List ℕ) (S : List ℕ) (v : Level) (cap pcap base
   unfolding split
   split-cons N P free {ks} {fs} {G} p ps l f e lp nz D E =
       let q : l - 1 ≡ p = omega arith in
-      let u : after D.nodes_to D.pages_to (Node D.child D.free_to) ≡ put_leaf_m N P cap base n (page_byte S v p) (l - 1) free = rw q (sym D.is) in
-      let x = split-next S v cap pcap base n N P l free f _ refl nz (omega arith) (omega arith) D.nodes_to D.pages_to (page_byte S v p) _ (rw q refl) u D.child D.free_to refl in
+      let u : after D.nodes_to D.pages_to (Ok (grown D.child D.free_to)) ≡ put_leaf_m N P cap base n (page_byte S v p) (l - 1) free = rw q (sym D.is) in
+      let x = split-next S v cap pcap base n N P l free f _ refl nz (omega arith) (omega arith) D.nodes_to D.pages_to (page_byte S v p) _ (rw q refl) u (grown D.child D.free_to) _ refl refl in
       record {
         nodes_to = E.nodes_to;
         pages_to = E.pages_to;

@@ -2,6 +2,7 @@
 use Prim.Native.Nat.{ℕ, ◌+◌, ◌-◌, ◌<◌, ◌≤◌}
 use mathlib.Core.Path.{◌≡◌, refl, ap, ◌∙◌, sym}
 use mathlib.Core.List.{List}
+use Rattle.std.specs.Prelude.{Result, Ok, Err}
 use mathlib.Core.Bool.{Bool, true, false, cond, false≢true}
 use native.Mathlib.Omega.{arith}
 use borrow.Author.Tests.{le-ltb, lt-ltb, eq-eqb, ne_eqb, ltb-true, ltb-false}
@@ -12,92 +13,84 @@ use Rattle.layout.specs.declared.nodes.Kind.{Kind}
 use Rattle.layout.specs.declared.nodes.Kind.TheVariants as kind
 use Rattle.blocks.specs.declared.Level.{Level}
 use Rattle.blocks.specs.declared.Rows.{Rows}
-use Rattle.trie.specs.declared.leaf.Got.{Got}
-use Rattle.trie.specs.declared.leaf.Got.TheVariants.{Node, Full}
-use Rattle.trie.specs.declared.leaf.Got.TheVariants as got
+use Rattle.trie.specs.declared.leaf.Grown.{Grown}
+use Rattle.trie.specs.declared.Stop.{Stop}
+use Rattle.trie.specs.declared.Stop.TheVariants as stop
 use Rattle.blocks.specs.Tables.{RowTable}
 use Rattle.blocks.specs.Packed.{page_byte, level_at}
-use Rattle.trie.specs.Model.{made, fresh_leaf, child_leaf}
+use Rattle.trie.specs.Model.{made, grown, fresh_leaf, child_leaf}
 use Rattle.children.proofs.Steps.{suc-pred}
+use Rattle.trie.specs.declared.path.Reached.{Reached}
 use Rattle.trie.specs.declared.path.Reach.{Reach}
 use Rattle.trie.specs.declared.path.Reach.TheVariants.{Leaf, Gap, Broken}
 use Rattle.trie.specs.Descend.{descend_to}
 use Rattle.trie_insert.specs.declared.insert.Target.{Target}
-use Rattle.trie_insert.specs.declared.insert.Target.TheVariants.{Ready, NoRoom}
-use Rattle.trie_insert.specs.declared.insert.Target.TheVariants as target
 use Rattle.trie_insert.specs.Pages.{push_nodes, push_pages, pushed, push_page, After, after, put_leaf_m}
 use Rattle.trie_insert.specs.Split.{on_put, split_from, open_leaf, too_long, split_leaf, grow_by, grow_into, grow_leaf}
-use Rattle.trie_insert.specs.Insert.{aimed, target_in, aim_made, aim_at, leaf_for, insert_at, insert_page}
+use Rattle.trie_insert.specs.Insert.{aimed, ready, target_in, aim_made, aim_at, leaf_for, insert_at, insert_page}
 
 -- `push_page`, by each way
 module _ (N P : List ℕ) (cap base n p : ℕ) (q : Kind) (e : q ≡ kind_of N cap n) where
-  pub push-inner : q ≡ kind.Inner → pushed N P false ≡ push_page N P cap base n p
+  pub push-inner : q ≡ kind.Inner → pushed N P (Err stop.Broken) ≡ push_page N P cap base n p
   unfolding push_page
   push-inner z = rw (← e, z) refl
 
-  pub push-free : q ≡ kind.Free → pushed N P false ≡ push_page N P cap base n p
+  pub push-free : q ≡ kind.Free → pushed N P (Err stop.Broken) ≡ push_page N P cap base n p
   unfolding push_page
   push-free z = rw (← e, z) refl
 
-  pub push-done : (first : ℕ) → q ≡ kind.Leaf first → (ns : List ℕ) → ns ≡ push_nodes N cap n p → pushed ns (push_pages P base p first) true ≡ push_page N P cap base n p
+  pub push-done : (first : ℕ) → q ≡ kind.Leaf first → (ns : List ℕ) → ns ≡ push_nodes N cap n p → pushed ns (push_pages P base p first) (Ok tt) ≡ push_page N P cap base n p
   unfolding push_page
   push-done first z ns w = rw (← e, z, w) refl
 
 -- `put_leaf_m`, by each way
-module _ (N P : List ℕ) (cap base n b p free : ℕ) (ns : List ℕ) (g : Got) (e : made ns g ≡ child_leaf N cap n b free) where
-  module _ (c next : ℕ) (q : g ≡ Node c next) (ns' ps' : List ℕ) (done : Bool) (u : pushed ns' ps' done ≡ push_page ns P cap base c p) where
-    pub put-done : done ≡ true → after ns' ps' (Node c next) ≡ put_leaf_m N P cap base n b p free
+module _ (N P : List ℕ) (cap base n b p free : ℕ) (ns : List ℕ) (g : Result Grown Stop) (e : made ns g ≡ child_leaf N cap n b free) where
+  module _ (h : Grown) (q : g ≡ Ok h) (ns' ps' : List ℕ) (done : Result (Unit {0}) Stop) (u : pushed ns' ps' done ≡ push_page ns P cap base h.node p) where
+    pub put-done : done ≡ Ok tt → after ns' ps' (Ok h) ≡ put_leaf_m N P cap base n b p free
     unfolding put_leaf_m
     put-done z = rw (← e, q, ← u, z) refl
 
-    pub put-nowhere : done ≡ false → after ns' ps' got.Broken ≡ put_leaf_m N P cap base n b p free
+    pub put-nowhere : (why : Stop) → done ≡ Err why → after ns' ps' (Err why) ≡ put_leaf_m N P cap base n b p free
     unfolding put_leaf_m
-    put-nowhere z = rw (← e, q, ← u, z) refl
+    put-nowhere why z = rw (← e, q, ← u, z) refl
 
-  pub put_full : g ≡ Full → after ns P Full ≡ put_leaf_m N P cap base n b p free
+  pub put-stops : (why : Stop) → g ≡ Err why → after ns P (Err why) ≡ put_leaf_m N P cap base n b p free
   unfolding put_leaf_m
-  put_full q = rw (← e, q) refl
-
-  pub put-failed : g ≡ got.Broken → after ns P got.Broken ≡ put_leaf_m N P cap base n b p free
-  unfolding put_leaf_m
-  put-failed q = rw (← e, q) refl
+  put-stops why q = rw (← e, q) refl
 
 -- `split_from` at each way out of a turn. R is what the walk comes to in the end
 module _ (S : List ℕ) (v : Level) (cap pcap base n : ℕ) (N P : List ℕ) (l free f : ℕ) (R : After) (inv : split_from S v cap pcap base n N P l free f ≡ R) where
-  pub split-out : f ≡ 0 → after N P got.Broken ≡ R
+  pub split-out : f ≡ 0 → after N P (Err stop.Broken) ≡ R
   unfolding split_from
   split-out e = rw e at inv
 
   module _ (h : f ≡ 0 → ⊥) where
     split_step :
-        cond (eqb l 0) (after N P (Node n free))
-        (cond (ltb pcap l) (after N P got.Broken)
+        cond (eqb l 0) (after N P (Ok (grown n free)))
+        (cond (ltb pcap l) (after N P (Err stop.Broken))
         (on_put (λ N' P' free'. split_from S v cap pcap base n N' P' (get_or P (base + (l - 1)) 0) free' (f - 1))
         (put_leaf_m N P cap base n (page_byte S v (l - 1)) (l - 1) free))) ≡ R
     unfolding split_from
     split_step = ap (split_from S v cap pcap base n N P l free) (sym (suc-pred f h)) ∙ inv
 
-    pub split-end : l ≡ 0 → after N P (Node n free) ≡ R
+    pub split-end : l ≡ 0 → after N P (Ok (grown n free)) ≡ R
     split-end e = rw (eq-eqb l 0 e) at split_step
 
     module _ (e : l ≡ 0 → ⊥) where
-      pub split-broken : pcap ≤ l - 1 → after N P got.Broken ≡ R
+      pub split-broken : pcap ≤ l - 1 → after N P (Err stop.Broken) ≡ R
       split-broken m = rw (ne_eqb l 0 e, lt-ltb pcap l (omega arith)) at split_step
 
-      module _ (m : l - 1 < pcap) (ns ps : List ℕ) (y : ℕ) (g : Got) (b : y ≡ page_byte S v (l - 1)) (u : after ns ps g ≡ put_leaf_m N P cap base n y (l - 1) free) where
+      module _ (m : l - 1 < pcap) (ns ps : List ℕ) (y : ℕ) (g : Result Grown Stop) (b : y ≡ page_byte S v (l - 1)) (u : after ns ps g ≡ put_leaf_m N P cap base n y (l - 1) free) where
         split-go : on_put (λ N' P' free'. split_from S v cap pcap base n N' P' (get_or P (base + (l - 1)) 0) free' (f - 1)) (after ns ps g) ≡ R
         split-go =
             ap (on_put (λ N' P' free'. split_from S v cap pcap base n N' P' (get_or P (base + (l - 1)) 0) free' (f - 1))) (u ∙ ap (λ (z : ℕ). put_leaf_m N P cap base n z (l - 1) free) b) ∙
             rw (ne_eqb l 0 e, le-ltb pcap l (omega arith)) at split_step
 
-        pub split-next : (c free' : ℕ) → g ≡ Node c free' → split_from S v cap pcap base n ns ps (get_or P (base + (l - 1)) 0) free' (f - 1) ≡ R
-        split-next c free' q = rw q at split-go
+        pub split-next : (h : Grown) (k : ℕ) → k ≡ f - 1 → g ≡ Ok h → split_from S v cap pcap base n ns ps (get_or P (base + (l - 1)) 0) h.free k ≡ R
+        split-next h k z q = rw z (rw q at split-go)
 
-        pub split-full : g ≡ Full → after ns ps Full ≡ R
-        split-full q = rw q at split-go
-
-        pub split-failed : g ≡ got.Broken → after ns ps got.Broken ≡ R
-        split-failed q = rw q at split-go
+        pub split-stops : (why : Stop) → g ≡ Err why → after ns ps (Err why) ≡ R
+        split-stops why q = rw q at split-go
 
 -- `too_long`, by each way
 module _ (τ : List ℕ) (r : Rows) (N : List ℕ) (cap k n : ℕ) where
@@ -117,26 +110,26 @@ module _ (τ : List ℕ) (r : Rows) (N : List ℕ) (cap k n : ℕ) where
       go false h = absurd (false≢true (long-deep (ltb-false k r.bytes h) ∙ sym e ∙ q))
 
 -- `grow_leaf`, by each way
-module _ (S τ : List ℕ) (r : Rows) (cap pcap base : ℕ) (N P : List ℕ) (k n p free : ℕ) (ns ps : List ℕ) (done : Bool) (e : pushed ns ps done ≡ push_page N P cap base n p) where
+module _ (S τ : List ℕ) (r : Rows) (cap pcap base : ℕ) (N P : List ℕ) (k n p free : ℕ) (ns ps : List ℕ) (done : Result (Unit {0}) Stop) (e : pushed ns ps done ≡ push_page N P cap base n p) where
   grow-step : grow_into S τ r cap pcap base k n p free (pushed ns ps done) ≡ grow_leaf S τ r cap pcap base N P k n p free
   unfolding grow_leaf
   grow-step = ap (grow_into S τ r cap pcap base k n p free) e
 
-  pub grow-none : done ≡ false → after ns ps got.Broken ≡ grow_leaf S τ r cap pcap base N P k n p free
-  grow-none d = rw d at grow-step
+  pub grow-none : (why : Stop) → done ≡ Err why → after ns ps (Err why) ≡ grow_leaf S τ r cap pcap base N P k n p free
+  grow-none why d = rw d at grow-step
 
-  module _ (d : done ≡ true) (g : Bool) (q : g ≡ too_long τ r ns cap k n) where
+  module _ (d : done ≡ Ok tt) (g : Bool) (q : g ≡ too_long τ r ns cap k n) where
     grow-by : grow_by S τ r cap pcap base ns ps k n p free g ≡ grow_leaf S τ r cap pcap base N P k n p free
     grow-by = ap (grow_by S τ r cap pcap base ns ps k n p free) q ∙ rw d at grow-step
 
-    pub grow-short : g ≡ false → after ns ps (Node n free) ≡ grow_leaf S τ r cap pcap base N P k n p free
+    pub grow-short : g ≡ false → after ns ps (Ok (grown n free)) ≡ grow_leaf S τ r cap pcap base N P k n p free
     grow-short z = rw z at grow-by
 
-    pub grow-split : g ≡ true → (ns' ps' : List ℕ) (a : Got) → after ns' ps' a ≡ split_leaf S r cap pcap base ns ps k n (p + 1) free → after ns' ps' a ≡ grow_leaf S τ r cap pcap base N P k n p free
+    pub grow-split : g ≡ true → (ns' ps' : List ℕ) (a : Result Grown Stop) → after ns' ps' a ≡ split_leaf S r cap pcap base ns ps k n (p + 1) free → after ns' ps' a ≡ grow_leaf S τ r cap pcap base N P k n p free
     grow-split z ns' ps' a u = u ∙ rw z at grow-by
 
 -- `split_leaf`, from its parts
-pub split-leaf : (S : List ℕ) (r : Rows) (cap pcap base : ℕ) (N P : List ℕ) (k n l free : ℕ) (v : Level) (ns ns' ps' : List ℕ) (a : Got) →
+pub split-leaf : (S : List ℕ) (r : Rows) (cap pcap base : ℕ) (N P : List ℕ) (k n l free : ℕ) (v : Level) (ns ns' ps' : List ℕ) (a : Result Grown Stop) →
     v ≡ level_at r k → ns ≡ open_leaf N cap n → after ns' ps' a ≡ split_from S v cap pcap base n ns P l free (pcap + 1) → after ns' ps' a ≡ split_leaf S r cap pcap base N P k n l free
 unfolding split_leaf
 split-leaf S r cap pcap base N P k n l free v ns ns' ps' a e o u = rw (← e, ← o) u
@@ -147,41 +140,35 @@ module _ (N : List ℕ) (cap : ℕ) (Y : List ℕ) (root free : ℕ) (x : Reach)
   unfolding leaf_for
   aim-step = ap (aim_at N cap Y free) e
 
-  pub aim-leaf : (n s k : ℕ) → x ≡ Leaf n s k → aimed N (Ready n k free) ≡ leaf_for N cap Y root free
-  aim-leaf n s k q = rw q at aim-step
+  pub aim-leaf : (at : Reached) → x ≡ Leaf at → aimed N (Ok (ready at.node at.level free)) ≡ leaf_for N cap Y root free
+  aim-leaf at q = rw q at aim-step
 
-  pub aim-nowhere : x ≡ Broken → aimed N target.Broken ≡ leaf_for N cap Y root free
+  pub aim-nowhere : x ≡ Broken → aimed N (Err stop.Broken) ≡ leaf_for N cap Y root free
   aim-nowhere q = rw q at aim-step
 
-  module _ (n s k : ℕ) (q : x ≡ Gap n s k) (ns : List ℕ) (g : Got) (u : made ns g ≡ fresh_leaf N cap s (get_or Y k 0) free) where
-    aim-gap : aim_made (k + 1) (made ns g) ≡ leaf_for N cap Y root free
-    aim-gap = ap (aim_made (k + 1)) u ∙ rw q at aim-step
+  module _ (at : Reached) (q : x ≡ Gap at) (ns : List ℕ) (g : Result Grown Stop) (u : made ns g ≡ fresh_leaf N cap at.slot (get_or Y at.level 0) free) where
+    aim-gap : aim_made (at.level + 1) (made ns g) ≡ leaf_for N cap Y root free
+    aim-gap = ap (aim_made (at.level + 1)) u ∙ rw q at aim-step
 
-    pub aim-made : (c next : ℕ) → g ≡ Node c next → aimed ns (Ready c (k + 1) next) ≡ leaf_for N cap Y root free
-    aim-made c next z = rw z at aim-gap
+    pub aim-made : (h : Grown) → g ≡ Ok h → aimed ns (Ok (ready h.node (at.level + 1) h.free)) ≡ leaf_for N cap Y root free
+    aim-made h z = rw z at aim-gap
 
-    pub aim-full : g ≡ Full → aimed ns NoRoom ≡ leaf_for N cap Y root free
-    aim-full z = rw z at aim-gap
-
-    pub aim-failed : g ≡ got.Broken → aimed ns target.Broken ≡ leaf_for N cap Y root free
-    aim-failed z = rw z at aim-gap
+    pub aim-stops : (why : Stop) → g ≡ Err why → aimed ns (Err why) ≡ leaf_for N cap Y root free
+    aim-stops why z = rw z at aim-gap
 
 -- the bound that a match tells
-pub target-in : (cap : ℕ) (x : Target) (n k free : ℕ) → x ≡ Ready n k free → target_in x ≤ cap → n < cap
-target-in cap x n k free e h = rw e at h
+pub target-in : (cap : ℕ) (x : Result Target Stop) (t : Target) → x ≡ Ok t → target_in x ≤ cap → t.leaf < cap
+target-in cap x t e h = rw e at h
 
 -- `insert_page`, by each way
-module _ (S τ : List ℕ) (r : Rows) (cap pcap base : ℕ) (N P Y : List ℕ) (root p free : ℕ) (ns : List ℕ) (x : Target) (e : aimed ns x ≡ leaf_for N cap Y root free) where
+module _ (S τ : List ℕ) (r : Rows) (cap pcap base : ℕ) (N P Y : List ℕ) (root p free : ℕ) (ns : List ℕ) (x : Result Target Stop) (e : aimed ns x ≡ leaf_for N cap Y root free) where
   insert-step : insert_at S τ r cap pcap base P p (aimed ns x) ≡ insert_page S τ r cap pcap base N P Y root p free
   unfolding insert_page
   insert-step = ap (insert_at S τ r cap pcap base P p) e
 
-  pub insert-grow : (n k next : ℕ) → x ≡ Ready n k next → (ns' ps' : List ℕ) (a : Got) → after ns' ps' a ≡ grow_leaf S τ r cap pcap base ns P k n p next →
+  pub insert-grow : (t : Target) → x ≡ Ok t → (ns' ps' : List ℕ) (a : Result Grown Stop) → after ns' ps' a ≡ grow_leaf S τ r cap pcap base ns P t.level t.leaf p t.free →
       after ns' ps' a ≡ insert_page S τ r cap pcap base N P Y root p free
-  insert-grow n k next q ns' ps' a u = u ∙ rw q at insert-step
+  insert-grow t q ns' ps' a u = u ∙ rw q at insert-step
 
-  pub insert-full : x ≡ NoRoom → after ns P Full ≡ insert_page S τ r cap pcap base N P Y root p free
-  insert-full q = rw q at insert-step
-
-  pub insert-failed : x ≡ target.Broken → after ns P got.Broken ≡ insert_page S τ r cap pcap base N P Y root p free
-  insert-failed q = rw q at insert-step
+  pub insert-stops : (why : Stop) → x ≡ Err why → after ns P (Err why) ≡ insert_page S τ r cap pcap base N P Y root p free
+  insert-stops why q = rw q at insert-step

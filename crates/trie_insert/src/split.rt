@@ -6,11 +6,11 @@ ghost use Rattle.trie_insert.specs.Pages.{after};
 ghost use Rattle.trie_insert.specs.Split.{split_from, too_long, split_leaf, grow_leaf};
 
 use crate::pages::{push_page, put_leaf};
-use blocks::packed::{level_at, page_byte};
 use blocks::{Level, Rows};
 use layout::Block;
-use layout::nodes::{page_count, set_inner};
-use trie::leaf::Got;
+use layout::nodes::{State, page_count, set_state};
+use trie::Stop;
+use trie::leaf::Grown;
 
 // The pages of a chain, each in turn put into the child leaf of its byte; the answer is node n.
 #[tactic(auto, unfolding(crate::specs::Split::split_from))]
@@ -23,7 +23,7 @@ pub fn split_pages(
     n: usize,
     first: u32,
     free: u32,
-) -> Got
+) -> Result<Grown, Stop>
     requires node_table { NodeTable block.nodes nodes.old }
     requires page_table { PageTable block.pages block.base pages.old }
     requires sketch_table { SketchTable block.pages level sketches.now }
@@ -32,35 +32,24 @@ pub fn split_pages(
 {
     let mut link = first as usize;
     let mut next_free = free;
-    let mut left = block.pages + 1;
-    loop {
-        if left == 0 {
-            return Got::Broken;
-        }
+    for _ in 0..block.pages + 1 {
         if link == 0 {
-            return Got::Node(n, next_free);
+            return Ok(Grown {
+                node: n,
+                free: next_free,
+            });
         }
         let p = link - 1;
         if p >= block.pages {
-            return Got::Broken;
+            return Err(Stop::Broken);
         }
         let next = pages[block.base + p] as usize;
-        let byte = page_byte(sketches, level, block, p);
-        let got = put_leaf(nodes, pages, block, n, byte, p, next_free);
-        match got {
-            Got::Node(_, f) => {
-                next_free = f;
-                link = next;
-                left -= 1;
-            }
-            Got::Full => {
-                return Got::Full;
-            }
-            Got::Broken => {
-                return Got::Broken;
-            }
-        }
+        let byte = level.page_byte(sketches, block, p);
+        let grown = put_leaf(nodes, pages, block, n, byte, p, next_free)?;
+        next_free = grown.free;
+        link = next;
     }
+    Err(Stop::Broken)
 }
 
 // Whether leaf n at level k is too long, by the number that stands in it.
@@ -89,7 +78,7 @@ fn split_leaf(
     n: usize,
     first: u32,
     free: u32,
-) -> Got
+) -> Result<Grown, Stop>
     requires node_table { NodeTable block.nodes nodes.old }
     requires page_table { PageTable block.pages block.base pages.old }
     requires row_table { RowTable block.pages rows sketches.now }
@@ -97,8 +86,8 @@ fn split_leaf(
     requires n_lt_nodes { n < block.nodes }
     ensures { after nodes.new pages.new result ≡ split_leaf sketches.now rows block.nodes block.pages block.base nodes.old pages.old k n first free }
 {
-    let level = level_at(rows, k);
-    set_inner(nodes, block.nodes, n);
+    let level = rows.level_at(k);
+    set_state(nodes, block.nodes, n, State::Inner);
     split_pages(nodes, pages, sketches, block, level, n, first, free)
 }
 
@@ -114,7 +103,7 @@ pub fn grow_leaf(
     n: usize,
     p: usize,
     free: u32,
-) -> Got
+) -> Result<Grown, Stop>
     requires node_table { NodeTable block.nodes nodes.old }
     requires page_table { PageTable block.pages block.base pages.old }
     requires row_table { RowTable block.pages rows sketches.now }
@@ -123,11 +112,9 @@ pub fn grow_leaf(
     requires p_lt_pages { p < block.pages }
     ensures { after nodes.new pages.new result ≡ grow_leaf sketches.now thresholds.now rows block.nodes block.pages block.base nodes.old pages.old k n p free }
 {
-    if !push_page(nodes, pages, block, n, p) {
-        return Got::Broken;
-    }
+    push_page(nodes, pages, block, n, p)?;
     if !too_long(nodes, thresholds, block.nodes, rows, k, n) {
-        return Got::Node(n, free);
+        return Ok(Grown { node: n, free });
     }
     let first = (p + 1) as u32;
     split_leaf(nodes, pages, sketches, block, rows, k, n, first, free)

@@ -12,7 +12,7 @@ ghost use Rattle.trie_remove.specs.Remove.{shorten_leaf, remove_at, remove_page,
 
 use children::order::is_bare;
 use layout::Block;
-use layout::nodes::{first_page, set_empty, shorten};
+use layout::nodes::{State, first_page, set_state, shorten};
 use trie::leaf::free_child;
 use trie::path::{Reach, trace_to};
 
@@ -110,7 +110,7 @@ fn prune_up(
         if !is_bare(nodes, cap, n) {
             return link;
         }
-        set_empty(nodes, cap, n);
+        set_state(nodes, cap, n, State::Empty);
     }
     link
 }
@@ -136,7 +136,7 @@ pub fn shorten_leaf(
         shorten(nodes, cap, leaf.node, link);
         return free;
     }
-    set_empty(nodes, cap, leaf.node);
+    set_state(nodes, cap, leaf.node, State::Empty);
     prune_up(nodes, cap, above, slots, leaf, free)
 }
 

@@ -6,7 +6,6 @@ ghost use Rattle.trie.specs.Descend.{Inside};
 ghost use Rattle.trie_room.specs.Needs.{leaf_needs, gap_needs, needed_at, nodes_needed};
 
 use blocks::Rows;
-use blocks::packed::level_at;
 use layout::Block;
 use layout::nodes::{first_page, page_count};
 use leaf_bytes::{Needed, distinct_bytes};
@@ -35,7 +34,7 @@ fn leaf_needs(
     if thresholds[k] > count {
         return Needed::Nodes(0);
     }
-    let level = level_at(rows, k);
+    let level = rows.level_at(k);
     distinct_bytes(pages, sketches, block, level, first, byte)
 }
 

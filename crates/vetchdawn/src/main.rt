@@ -15,7 +15,7 @@ const FOUND: usize = journal_calls::commands::PAGES as usize;
 const LINE: usize = 24 + 22 * FOUND;
 
 // The lengths of the program's tables: they suffice for any settings, at most 8 blocks and at most 64 symbols.
-const SETTINGS: usize = settings::LENGTH;
+const SETTINGS: usize = layout::settings::LENGTH;
 
 const NODES: usize = layout::nodes::WORDS * (journal_calls::commands::NODES as usize);
 

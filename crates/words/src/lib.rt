@@ -16,27 +16,19 @@ pub fn has(ws: &[u32], base: usize, n: usize) -> bool
     (ws[i] >> k) % 2 == 1
 }
 
-// Sets flag n of the words from `base` on.
+// Sets flag n of the words from `base` on, or clears it.
 #[tactic(auto, unfolding(crate::specs::Bits::with_flag))]
-pub fn set(ws: &mut [u32], base: usize, n: usize)
+pub fn set(ws: &mut [u32], base: usize, n: usize, on: bool)
     requires { base + n / 32 < length ws.old }
-    ensures { ws.new ≡ with_flag ws.old base n true }
+    ensures { ws.new ≡ with_flag ws.old base n on }
 {
     let i = base + n / 32;
-    let k = (n % 32) as u32;
-    ws[i] = ws[i] | (1u32 << k);
-}
-
-// Clears flag n of the words from `base` on.
-#[tactic(auto, unfolding(crate::specs::Bits::with_flag))]
-pub fn clear(ws: &mut [u32], base: usize, n: usize)
-    requires { base + n / 32 < length ws.old }
-    ensures { ws.new ≡ with_flag ws.old base n false }
-{
-    let i = base + n / 32;
-    let k = (n % 32) as u32;
-    let w = ws[i];
-    ws[i] = w - (w & (1u32 << k));
+    let bit = 1u32 << ((n % 32) as u32);
+    if on {
+        ws[i] |= bit;
+    } else {
+        ws[i] -= ws[i] & bit;
+    }
 }
 
 // Writes 0 to the n words from `base` on.
@@ -45,11 +37,7 @@ pub fn zero_run(ws: &mut [u32], base: usize, n: usize)
     requires { base + n ≤ length ws.old }
     ensures { ws.new ≡ zeroed ws.old base n }
 {
-    let mut i = 0;
-    while i < n {
-        ws[base + i] = 0;
-        i += 1;
-    }
+    ws[base..base + n].fill(0);
 }
 
 // The lowest set bit of w, and 32 for 0.

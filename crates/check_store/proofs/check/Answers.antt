@@ -1,11 +1,11 @@
 -- `check` keeps its promise.
+use Rattle.std.specs.Prelude.{Ok}
 use Prim.Native.Nat.{◌≤◌}
 use native.Mathlib.Omega.{arith}
 use mathlib.Core.Path.{◌≡◌, refl, sym, ◌∙◌}
 use lib.ListN.{length, take, drop, length-append, length-drop}
 use lib.Seq.{length-take-le}
 use Rattle.layout.specs.declared.Header.{Header}
-use Rattle.layout.specs.declared.Opening.TheVariants.{Shown}
 use Rattle.promises.specs.Tables.{Tables, tables}
 use Rattle.entry.specs.Entry.{entry}
 use Rattle.check_store.proofs.Admitted.{Admitted, admitted, header-limits, lent-header, words-most, words-fit, working-long}
@@ -19,7 +19,7 @@ lent k = tables k.args.settings.now k.args.nodes.now k.args.pages.now k.args.ske
 abbrev header : In-Shown → Header
 header k = k.in-Shown.h
 
-shows : (k : In-Shown) → entry (lent k) ≡ Shown (header k)
+shows : (k : In-Shown) → entry (lent k) ≡ Ok (header k)
 shows k = sym k.enter.ensures ∙ k.in-Shown.is
 
 known : (k : In-Shown) → Admitted (lent k) (header k)
@@ -40,7 +40,7 @@ map-kept t =
     t.in-Shown.h in
     let lent : Tables =
     tables t.args.settings.now t.args.nodes.now t.args.pages.now t.args.sketches.now t.args.working.now in
-    let shows : entry lent ≡ Shown header =
+    let shows : entry lent ≡ Ok header =
     sym t.enter.ensures ∙ t.in-Shown.is in
     let known : Admitted lent header =
     admitted lent header shows in

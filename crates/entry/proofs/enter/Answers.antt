@@ -1,37 +1,25 @@
 -- `enter` asks 5 and 6.
-use mathlib.Core.Path.{◌≡◌, sym, ◌∙◌}
-use mathlib.Core.List.{[]}
-use Rattle.layout.specs.declared.Header.{Header}
-use Rattle.layout.specs.declared.Opening.TheVariants.{Shown}
-use Rattle.promises.specs.Tables.{tables}
-use Rattle.entry.specs.Entry.{store_entry}
+use native.Mathlib.Omega.{arith}
+use mathlib.Core.Path.{◌≡◌, sym, ap}
+use mathlib.Core.Bool.{not}
+use Rattle.std.specs.Prelude.{Err}
 use Rattle.entry.proofs.Questions.{fails, holds}
 use Rattle.entry.proofs.Admits.{shown-limits}
 use Rattle.entry.proofs.Enters.{enter-refused, enter-short, enter-all}
-use mathlib.Core.Path.{ap}
-use mathlib.Core.Bool.{not}
 use Rattle.entry.proofs.enter.Goals as goal
-use Rattle.entry.proofs.enter.Goals.{In-Shown}
 
-abbrev header : In-Shown → Header
-header k = k.in-Shown.h
-
-shows : (k : In-Shown) → let a = k.args in
-    store_entry (tables a.settings.now a.nodes.now a.pages.now a.sketches.now []) ≡ Shown (header k)
-shows k = sym k.admit.ensures ∙ k.in-Shown.is
-
-pub returns-in-Refused : goal.returns-in-Refused
-returns-in-Refused c =
-    let number = c in
-    enter-refused _ _ _ _ _ _ (sym number.admit.ensures ∙ number.in-Refused.is)
+pub returns-in_err-h : goal.returns-in_err-h
+returns-in_err-h c =
+    let up : c.from_residual.result ≡ Err c.in_err-h.field-0.0 = grind arith in
+    rw up (enter-refused _ _ _ _ _ _ (sym c.in_err-h.ensures))
 
 pub long_working-requires : goal.long_working-requires
-long_working-requires c = shown-limits _ _ (shows c)
+long_working-requires c = shown-limits _ _ (sym c.in_ok-h.ensures)
 
 pub returns-then-not-long_working : goal.returns-then-not-long_working
 returns-then-not-long_working c =
-    enter-short _ _ _ _ _ _ (shows (goal.at.returns-then-not-long_working c).In-Shown) (fails c.long_working.ensures (ap not c.if-not-long_working.true))
+    enter-short _ _ _ _ _ _ (sym c.in_ok-h.ensures) (fails c.long_working.ensures (ap not c.if-not-long_working.true))
 
 pub returns : goal.returns
 returns c =
-    enter-all _ _ _ _ _ _ (shows (goal.at.returns c).In-Shown) (holds c.long_working.ensures (ap not c.if-not-long_working.false))
+    enter-all _ _ _ _ _ _ (sym c.in_ok-h.ensures) (holds c.long_working.ensures (ap not c.if-not-long_working.false))

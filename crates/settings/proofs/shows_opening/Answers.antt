@@ -1,11 +1,9 @@
 -- The function `shows_opening` is the definition `shows_opening`.
 use native.Mathlib.Omega.{arith}
-use Rattle.layout.specs.Settings.{settings_of}
 use Rattle.settings.proofs.Tests.{shows-tests}
 use Rattle.settings.proofs.shows_opening.Goals as goal
 
 pub returns : goal.returns
-unfolding settings_of
 returns c =
-    rw (c.limits.ensures, c.thresholds_fit.ensures)
+    rw (c.limits.ensures, c.thresholds_fit.ensures, c.header.ensures)
     (shows-tests c.args.settings.now (omega arith))

@@ -1,16 +1,8 @@
-use Prim.Native.Nat.{ℕ, ◌-◌, ◌≤◌}
 use mathlib.Core.Path.{◌≡◌}
-use mathlib.Core.List.{List}
-use lib.ListN.{take, drop}
+use lib.ListN.{take}
 use Rattle.meaning.specs.Lists.{all}
 use Rattle.layout.proofs.Limits.{short}
 use Rattle.settings.proofs.thresholds_fit.Given as goal
 
-abbrev Passed : List ℕ → ℕ → ℕ → Type 0
-Passed ws seen k = short seen ≡ all short (take k (drop 6 ws))
-
-abbrev pub invariant-loop-k : goal.invariant-loop-k
-invariant-loop-k l = (l.k ≤ 64) × Passed l.settings l.seen l.k
-
-abbrev pub decreases-loop-k : goal.decreases-loop-k
-decreases-loop-k l = 64 - l.k
+abbrev pub invariant-loop-t : goal.invariant-loop-t
+invariant-loop-t l = short l.seen ≡ all short (take l.t-index l.t-items)

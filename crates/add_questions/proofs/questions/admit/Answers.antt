@@ -1,9 +1,9 @@
 -- `admit` asks 5 to 11 and 15 in their order.
+use Rattle.std.specs.Prelude.{Ok}
 use native.Mathlib.Omega.{arith}
 use mathlib.Core.Path.{◌≡◌, sym, ◌∙◌}
 use mathlib.Core.List.{[]}
 use Rattle.layout.specs.declared.Header.{Header}
-use Rattle.layout.specs.declared.Opening.TheVariants.{Shown}
 use Rattle.promises.specs.Tables.{tables}
 use Rattle.entry.specs.Entry.{store_entry}
 use Rattle.entry.proofs.Questions.{fails, holds}
@@ -18,7 +18,7 @@ abbrev header : In-Shown → Header
 header k = k.in-Shown.h
 
 shows : (k : In-Shown) → let a = k.args in
-    store_entry (tables a.settings.now a.nodes.now a.pages.now a.sketches.now []) ≡ Shown (header k)
+    store_entry (tables a.settings.now a.nodes.now a.pages.now a.sketches.now []) ≡ Ok (header k)
 shows k = sym k.admit.ensures ∙ k.in-Shown.is
 
 pub returns-in-Refused : goal.returns-in-Refused

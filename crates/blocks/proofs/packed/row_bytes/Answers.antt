@@ -23,21 +23,21 @@ loop-k-preserved c =
     let loop = c in (
       simp length-set loop.loop-k.invariant.0,
       written-more (λ i. page_byte loop.args.sketches.now (level_at loop.rows_of-rows.result i) loop.args.p)
-          loop.loop-k.bytes loop.loop-k.k c.page_byte.result (omega (arith, (rows (goal.at.loop-k-preserved loop).After-rows_of-rows).short)) (c.page_byte.ensures.value ∙ ap (λ v. page_byte loop.args.sketches.now v loop.args.p) c.level_at-level.ensures)
+          loop.loop-k.bytes loop.loop-k.k c.page_byte.result (omega (arith, (rows (goal.at.loop-k-preserved loop).After-rows_of-rows).short)) (c.page_byte.ensures.value ∙ ap (λ v. page_byte loop.args.sketches.now v loop.args.p) c.level_at.ensures)
           loop.loop-k.invariant.1,
     )
 
-pub level_at-level-requires-clause-k_bound : goal.level_at-level-requires-clause-k_bound
-level_at-level-requires-clause-k_bound c = let t = c in omega (arith, (rows (goal.at.level_at-level-requires-clause-k_bound t).After-rows_of-rows).short)
+pub level_at-requires-clause-k_bound : goal.level_at-requires-clause-k_bound
+level_at-requires-clause-k_bound c = let t = c in omega (arith, (rows (goal.at.level_at-requires-clause-k_bound t).After-rows_of-rows).short)
 
-pub level_at-level-requires-clause-per_bound : goal.level_at-level-requires-clause-per_bound
-level_at-level-requires-clause-per_bound c = let t = c in (rows (goal.at.level_at-level-requires-clause-per_bound t).After-rows_of-rows).few
+pub level_at-requires-clause-per_bound : goal.level_at-requires-clause-per_bound
+level_at-requires-clause-per_bound c = let t = c in (rows (goal.at.level_at-requires-clause-per_bound t).After-rows_of-rows).few
 
-pub level_at-level-requires-clause-length_bound : goal.level_at-level-requires-clause-length_bound
-level_at-level-requires-clause-length_bound c = let t = c in (rows (goal.at.level_at-level-requires-clause-length_bound t).After-rows_of-rows).inside
+pub level_at-requires-clause-length_bound : goal.level_at-requires-clause-length_bound
+level_at-requires-clause-length_bound c = let t = c in (rows (goal.at.level_at-requires-clause-length_bound t).After-rows_of-rows).inside
 
 pub page_byte-requires-clause-sketch_table : goal.page_byte-requires-clause-sketch_table
-page_byte-requires-clause-sketch_table c = let t = c in rw t.block_of-block.ensures (level-path _ _ _ _ _ c.level_at-level.ensures (rows (goal.at.page_byte-requires-clause-sketch_table t).After-rows_of-rows))
+page_byte-requires-clause-sketch_table c = let t = c in rw t.block_of-block.ensures (level-path _ _ _ _ _ c.level_at.ensures (rows (goal.at.page_byte-requires-clause-sketch_table t).After-rows_of-rows))
 
 pub returns-clause-bytes_after : goal.returns-clause-bytes_after
 returns-clause-bytes_after c = let t = c in let e = t in row_written e.args.h e.requires.header_limits e.args.sketches.now e.requires.h_in_bounds e.args.j e.requires.j_lt_q t.rows_of-rows.result t.rows_of-rows.ensures

@@ -1,13 +1,13 @@
 -- The function `find_place` is the definition `find_place`: each turn takes one step of the definition.
 use native.Mathlib.Omega.{arith}
-use Rattle.children.proofs.Steps.{place_out, place_none, place-broken, place-go, place_found, place-past}
+use Rattle.children.proofs.Steps.{place_out, place_none, place-broken, place-on, place_found, place-past}
 use Rattle.children.proofs.place.find_place.Goals as goal
 
-pub loop-left-preserved : goal.loop-left-preserved
-loop-left-preserved c = (search place-go, omega arith, omega arith)
+pub loop-preserved : goal.loop-preserved
+loop-preserved c = (search (place-on, arith), omega arith)
 
-pub returns-then-left-eq0-clause-value : goal.returns-then-left-eq0-clause-value
-returns-then-left-eq0-clause-value c = search (place_out, arith)
+pub returns-clause-value : goal.returns-clause-value
+returns-clause-value c = search (place_out, arith)
 
 pub returns-then-link-eq0-clause-value : goal.returns-then-link-eq0-clause-value
 returns-then-link-eq0-clause-value c = search (place_none, arith)

@@ -1,10 +1,10 @@
 -- `drop_page` keeps its promise, on each way out.
+use Rattle.std.specs.Prelude.{Ok}
 use native.Mathlib.Omega.{arith}
 use mathlib.Core.Path.{◌≡◌, sym, ◌∙◌}
 use mathlib.Core.List.{[]}
 use Rattle.meaning.specs.Ledger.{drop}
 use Rattle.layout.specs.declared.Header.{Header}
-use Rattle.layout.specs.declared.Opening.TheVariants.{Shown}
 use Rattle.promises.specs.Tables.{tables}
 use Rattle.entry.specs.Admission.{admission}
 use Rattle.drop_page.proofs.Exits.{refuses, settings-long, lent, page-in, word_in, drops, breaks}
@@ -15,7 +15,7 @@ abbrev header : In-Shown → Header
 header k = k.in-Shown.h
 
 shows : (k : In-Shown) → let a = k.args in
-    Shown (header k) ≡ admission (tables a.settings.now a.nodes.now a.pages.now a.sketches.now []) (drop a.page)
+    Ok (header k) ≡ admission (tables a.settings.now a.nodes.now a.pages.now a.sketches.now []) (drop a.page)
 shows k = sym k.in-Shown.is ∙ k.admit.ensures
 
 pub free_link-free-requires : goal.free_link-free-requires

@@ -15,4 +15,4 @@ pub returns : goal.returns
 unfolding all_current
 returns c =
     let at = c.loop-reader in
-    sym (all-upto (is_current _) 256 (λ r h. at.invariant.1 r (omega arith)))
+    sym (all-upto (is_current _) 256 (λ r h. at.invariant r (omega arith)))

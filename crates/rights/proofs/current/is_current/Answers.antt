@@ -5,5 +5,4 @@ use Rattle.rights.proofs.current.is_current.Goals as goal
 
 pub returns : goal.returns
 returns c =
-    let last = c in
-    rw (last.entry-entry.ensures, last.open_classes-classes.ensures) (words-current _ _ (rw (← last.entry-entry.ensures) (search rules)) (rw (← last.open_classes-classes.ensures) (search rules)))
+    rw (c.eq.ensures, c.entry.ensures, c.open_classes.ensures) (words-current _ _ (rw (← c.entry.ensures) (search rules)) (rw (← c.open_classes.ensures) (search rules)))

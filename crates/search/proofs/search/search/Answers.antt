@@ -1,9 +1,9 @@
 -- `search` keeps its promise.
+use Rattle.std.specs.Prelude.{Ok}
 use Prim.Native.Nat.{◌<◌}
 use mathlib.Core.Path.{◌≡◌, sym, ◌∙◌}
 use native.Mathlib.Omega.{arith}
 use Rattle.layout.specs.declared.Header.{Header}
-use Rattle.layout.specs.declared.Opening.TheVariants.{Shown}
 use Rattle.layout.specs.Tables.{Fits}
 use Rattle.meaning.specs.Refusal.{first_no}
 use Rattle.promises.specs.Tables.{Tables, tables}
@@ -24,7 +24,7 @@ lent k =
 abbrev header : In-Shown → Header
 header k = k.in-Shown.h
 
-shows : (k : In-Shown) → entry (lent k) ≡ Shown (header k)
+shows : (k : In-Shown) → entry (lent k) ≡ Ok (header k)
 shows k = sym k.enter.ensures ∙ k.in-Shown.is
 
 opened : (k : In-Shown) → Entered (lent k) (header k)

@@ -1,10 +1,10 @@
 -- `find_row` is `place_of`.
+use Rattle.std.specs.Prelude.{Ok}
 use Prim.Native.Nat.{◌<◌}
 use native.Mathlib.Omega.{arith}
 use mathlib.Core.Path.{◌≡◌, sym, ◌∙◌}
 use mathlib.Core.Bool.{true}
 use lib.ListN.{length}
-use Rattle.layout.specs.declared.Opening.TheVariants.{Shown}
 use Rattle.layout.specs.Header.{opening_of}
 use Rattle.layout.proofs.Openings.{shown}
 use Rattle.entry.proofs.Questions.{fails, holds}
@@ -14,7 +14,7 @@ use mathlib.Core.Bool.{not}
 use Rattle.show_page.proofs.show.find_row.Goals as goal
 use Rattle.show_page.proofs.show.find_row.Goals.{Else-cap-p, Else-not-long_pages, In-Shown}
 
-shows : (k : In-Shown) → opening_of k.args.settings.now ≡ Shown k.in-Shown.h
+shows : (k : In-Shown) → opening_of k.args.settings.now ≡ Ok k.in-Shown.h
 shows k = sym k.opening.ensures ∙ k.in-Shown.is
 
 -- 6 of the other two

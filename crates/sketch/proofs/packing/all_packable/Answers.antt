@@ -12,20 +12,18 @@ returns-then-not-packable c =
     let args = at-loop.args in
     let no = sym c.packable.ensures ∙ c.if-not-packable.true in
     sym (all-fails (packable_at args.b args.n args.bytes.now) at-loop.loop-k.k (packed_length args.b args.n) (omega arith) no)
-    ∙ at-loop.loop-k.invariant.1
+    ∙ at-loop.loop-k.invariant
 
 pub loop-k-preserved : goal.loop-k-preserved
 loop-k-preserved c =
     let at-loop = c in
     let args = at-loop.args in
-    let yes = sym c.packable.ensures ∙ c.if-not-packable.false in (
-      omega arith,
-      sym (all-passes (packable_at args.b args.n args.bytes.now) at-loop.loop-k.k (packed_length args.b args.n) (omega arith) yes)
-          ∙ at-loop.loop-k.invariant.1,
-    )
+    let yes = sym c.packable.ensures ∙ c.if-not-packable.false in
+    sym (all-passes (packable_at args.b args.n args.bytes.now) at-loop.loop-k.k (packed_length args.b args.n) (omega arith) yes)
+    ∙ at-loop.loop-k.invariant
 
 pub returns : goal.returns
 returns c =
     let at-loop = c in
     let args = at-loop.args in
-    sym (all_done (packable_at args.b args.n args.bytes.now) at-loop.loop-k.k (packed_length args.b args.n) (omega arith)) ∙ at-loop.loop-k.invariant.1
+    sym (all_done (packable_at args.b args.n args.bytes.now) at-loop.loop-k.k (packed_length args.b args.n) (omega arith)) ∙ at-loop.loop-k.invariant

@@ -1,13 +1,9 @@
 use mathlib.Core.Path.{◌≡◌}
-use Prim.Native.Nat.{◌-◌, ◌≤◌}
-use lib.ListN.{length}
+use Prim.Native.Nat.{◌-◌}
 use Rattle.meaning.specs.Lists.{all, from}
 use Rattle.meaning.specs.Sketch.{packed_length, all_packable}
 use Rattle.sketch.proofs.Packed.{packable_at}
 use Rattle.sketch.proofs.packing.all_packable.Given as goal
 
 abbrev pub invariant-loop-k : goal.invariant-loop-k
-invariant-loop-k l = (l.k ≤ length l.bytes) × (all (packable_at l.b l.n l.bytes) (from l.k (packed_length l.b l.n - l.k)) ≡ all_packable l.b l.n l.bytes)
-
-abbrev pub decreases-loop-k : goal.decreases-loop-k
-decreases-loop-k l = length l.bytes - l.k
+invariant-loop-k l = all (packable_at l.b l.n l.bytes) (from l.k (packed_length l.b l.n - l.k)) ≡ all_packable l.b l.n l.bytes

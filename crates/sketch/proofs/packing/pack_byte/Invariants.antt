@@ -1,11 +1,8 @@
 use mathlib.Core.Path.{◌≡◌}
-use Prim.Native.Nat.{◌≤◌}
-use lib.ListN.{length, drop}
+use lib.ListN.{drop}
 use Rattle.meaning.specs.Sketch.{pack_byte}
+use Rattle.sketch.specs.Reduced.{reduced}
 use Rattle.sketch.proofs.packing.pack_byte.Given as goal
 
 abbrev pub invariant-loop-i : goal.invariant-loop-i
-invariant-loop-i l = (l.i ≤ length l.xs) × (l.v ≡ pack_byte l.b (drop l.i l.xs))
-
-abbrev pub decreases-loop-i : goal.decreases-loop-i
-decreases-loop-i l = l.i
+invariant-loop-i l = l.v ≡ pack_byte l.b (drop l.i (reduced l.b l.xs))

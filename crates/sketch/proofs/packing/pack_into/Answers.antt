@@ -1,25 +1,24 @@
 -- `pack_into` is `pack`: at each turn the first j bytes are written.
+use mathlib.Core.Bool.{true}
 use mathlib.Core.List.{List, map}
 use mathlib.Core.Path.{◌≡◌, refl, sym, ap, ap₂, ◌∙◌}
 use Prim.Native.Nat.{ℕ, ◌+◌, ◌-◌, ◌*◌, ◌≤◌, ◌<◌}
 use native.Mathlib.Omega.{arith}
 use lib.ListN.{take, drop, set, length-set}
 use lib.Seq.{length-take-le}
-use borrow.Author.Rules.{rules}
 use Rattle.meaning.specs.Lists.{onto, upto}
-use Rattle.meaning.specs.Sketch.{packed_length, pack_byte}
+use Rattle.meaning.specs.Sketch.{in_range, packed_length, pack_byte}
 use Rattle.sketch.proofs.Packed.{part-ends, symbols_of, byte_of, packed, symbols-few, symbols-range, part}
 use Rattle.sketch.proofs.Runs.{fill_none, fill_more}
-use Rattle.sketch.proofs.Width.{byte-begins}
+use Rattle.sketch.proofs.Width.{byte-begins, bits-within}
 use Rattle.sketch.proofs.packing.pack_into.Goals as goal
 use Rattle.sketch.proofs.packing.pack_into.Goals.{After-symbols_at, In-loop-j}
 
 -- byte j begins inside the symbols
 begins : (c : In-loop-j) → c.loop-j.j * c.per_byte-z.result < c.args.n
 begins c =
-    let inv = c.loop-j.invariant in
     let start = c in
-    rw inv.0 (byte-begins start.args.b start.args.n c.loop-j.j start.requires.bits (rw inv.1 at c.loop-j-test.true))
+    rw c.per_byte-z.ensures (byte-begins start.args.b start.args.n c.loop-j.j start.requires.bits (rw c.packed_length-j-end.ensures at c.loop-j-test.true))
 
 ends : (c : After-symbols_at) →
     let at = c.loop-j.j * c.per_byte-z.result in
@@ -27,7 +26,7 @@ ends : (c : After-symbols_at) →
 ends c =
     let at-loop = c in
     let args = at-loop.args in
-    part-ends args.b args.n at-loop.loop-j.j _ _ at-loop.loop-j.invariant.0 c.symbols_at.ensures (begins (goal.at.overflow_add-end c).In-loop-j)
+    part-ends args.b args.n at-loop.loop-j.j _ _ c.per_byte-z.ensures c.symbols_at.ensures (begins (goal.at.overflow_add-end c).In-loop-j)
 
 -- the part that is passed
 passed : (c : After-symbols_at) →
@@ -37,10 +36,16 @@ passed : (c : After-symbols_at) →
 passed c =
     let at-loop = c in
     let args = at-loop.args in
-    part args.b args.n at-loop.loop-j.j _ _ at-loop.loop-j.invariant.0 c.symbols_at.ensures args.xs.now
+    part args.b args.n at-loop.loop-j.j _ _ c.per_byte-z.ensures c.symbols_at.ensures args.xs.now
+
+-- its symbols are in range
+in_symbols : (c : After-symbols_at) →
+    let at = c.loop-j.j * c.per_byte-z.result in
+    in_range c.args.b (take (at + c.symbols_at.result - at) (drop at c.args.xs.now)) ≡ true
+in_symbols c = rw (passed c) (symbols-range c.args.b (take c.args.n c.args.xs.now) _ c.requires.xs_value)
 
 pub loop-j-init : goal.loop-j-init
-loop-j-init c = (c.per_byte-z.ensures, c.packed_length-k.ensures, search rules, refl, fill_none _ _)
+loop-j-init c = (refl, fill_none _ _)
 
 pub overflow_mul-at : goal.overflow_mul-at
 overflow_mul-at c = omega (arith, begins c)
@@ -57,12 +62,9 @@ loop-j-preserved c =
     let args = at-loop.args in
     let inv = at-loop.loop-j.invariant in
     let byte : c.pack_byte.result ≡ byte_of args.b (take args.n args.xs.now) at-loop.loop-j.j =
-    c.pack_byte.ensures ∙ ap (pack_byte args.b) (passed (goal.at.loop-j-preserved c).After-symbols_at) in (
-      inv.0,
-      inv.1,
-      omega arith,
-      length-set at-loop.loop-j.out at-loop.loop-j.j c.pack_byte.result ∙ inv.3,
-      ap₂ (λ (l : List ℕ) (v : ℕ). set l at-loop.loop-j.j v) inv.4 byte
+    c.pack_byte.ensures.in_range (in_symbols (goal.at.loop-j-preserved c).After-symbols_at) ∙ ap (pack_byte args.b) (passed (goal.at.loop-j-preserved c).After-symbols_at) in (
+      length-set at-loop.loop-j.out at-loop.loop-j.j c.pack_byte.result ∙ inv.0,
+      ap₂ (λ (l : List ℕ) (v : ℕ). set l at-loop.loop-j.j v) inv.1 byte
           ∙ fill_more (byte_of args.b (take args.n args.xs.now)) at-loop.loop-j.j args.out.now 0 (omega arith),
     )
 
@@ -73,10 +75,9 @@ returns c =
     let all : c.loop-j.j ≡ packed_length args.b args.n = omega arith in
     let symbols = take args.n args.xs.now in
     let written = sym (packed args.b args.n symbols (length-take-le args.n args.xs.now (omega arith))) in
-    inv.4 ∙ ap (λ (l : List ℕ). onto l args.out.now) (ap (λ (k : ℕ). map (byte_of args.b symbols) (upto k)) all ∙ written)
+    inv.1 ∙ ap (λ (l : List ℕ). onto l args.out.now) (ap (λ (k : ℕ). map (byte_of args.b symbols) (upto k)) all ∙ written)
 
 pub pack_byte-requires-clause-xs_len_bound : goal.pack_byte-requires-clause-xs_len_bound
-pack_byte-requires-clause-xs_len_bound c = let start = c in let ys = take start.args.n start.args.xs.now in rw (passed (goal.at.pack_byte-requires-clause-xs_len_bound c).After-symbols_at) (symbols-few start.args.b ys _)
-
-pub pack_byte-requires-clause-xs_value : goal.pack_byte-requires-clause-xs_value
-pack_byte-requires-clause-xs_value c = let start = c in let ys = take start.args.n start.args.xs.now in rw (passed (goal.at.pack_byte-requires-clause-xs_value c).After-symbols_at) (symbols-range start.args.b ys _ start.requires.xs_value)
+pack_byte-requires-clause-xs_len_bound c =
+    rw (passed (goal.at.pack_byte-requires-clause-xs_len_bound c).After-symbols_at)
+    (bits-within c.args.b _ (symbols-few c.args.b (take c.args.n c.args.xs.now) c.loop-j.j))

@@ -1,16 +1,11 @@
 use mathlib.Core.List.{map}
 use mathlib.Core.Path.{◌≡◌}
-use Prim.Native.Nat.{◌-◌, ◌≤◌}
 use lib.ListN.{length, take}
 use Rattle.meaning.specs.Lists.{onto, upto}
-use Rattle.meaning.specs.Sketch.{per_byte, packed_length}
 use Rattle.sketch.proofs.Packed.{byte_of}
 use Rattle.sketch.proofs.packing.pack_into.Given as goal
 
 abbrev pub invariant-loop-j : goal.invariant-loop-j
 invariant-loop-j l =
-    (l.z ≡ per_byte l.b) × (l.k ≡ packed_length l.b l.n) × (l.j ≤ l.k) × (length l.out ≡ length l.initial.out)
+    (length l.out ≡ length l.initial.out)
     × (l.out ≡ onto (map (byte_of l.b (take l.n l.xs)) (upto l.j)) l.initial.out)
-
-abbrev pub decreases-loop-j : goal.decreases-loop-j
-decreases-loop-j l = l.k - l.j

@@ -11,7 +11,7 @@ use Rattle.sketch.proofs.Packed.{symbol_of, symbol-at}
 use Rattle.sketch.proofs.Runs.{fill_none, fill_more}
 use Rattle.sketch.proofs.Width.{z-pos, byte_of}
 use Rattle.sketch.proofs.packing.unpack_into.Goals as goal
-use Rattle.sketch.proofs.packing.unpack_into.Goals.{After-group_of, In-loop-i}
+use Rattle.sketch.proofs.packing.unpack_into.Goals.{After-group_of, In-loop-i, then-g-z, else-g-z}
 
 -- the next symbol's byte is one of the packing
 inside : (c : In-loop-i) →
@@ -19,7 +19,7 @@ inside : (c : In-loop-i) →
     c.loop-i.k < packed_length args.b args.n
 inside c =
     let start = c in
-    byte_of start.args.b start.args.n c.loop-i.k start.requires.bits (omega (arith, ap (λ (z : ℕ). c.loop-i.k * z) c.loop-i.invariant.0))
+    byte_of start.args.b start.args.n c.loop-i.k start.requires.bits (omega (arith, ap (λ (z : ℕ). c.loop-i.k * z) c.per_byte-z.ensures))
 
 -- the output with the next symbol
 written : (c : After-group_of) →
@@ -30,42 +30,20 @@ written c =
     let at-loop = c in
     let args = at-loop.args in
     let inv = at-loop.loop-i.invariant in
-    let symbol = c.group_of.ensures ∙ symbol-at args.b args.bytes.now _ at-loop.loop-i.i at-loop.loop-i.k at-loop.loop-i.g inv.0 inv.1 inv.2 in
-    ap₂ (λ (l : List ℕ) (v : ℕ). set l at-loop.loop-i.i v) inv.5 symbol
+    let symbol = c.group_of.ensures ∙ symbol-at args.b args.bytes.now _ at-loop.loop-i.i at-loop.loop-i.k at-loop.loop-i.g c.per_byte-z.ensures inv.0 inv.1 in
+    ap₂ (λ (l : List ℕ) (v : ℕ). set l at-loop.loop-i.i v) inv.3 symbol
     ∙ fill_more (symbol_of args.b args.bytes.now) at-loop.loop-i.i args.out.now 0 (omega arith)
 
 pub loop-i-init : goal.loop-i-init
 loop-i-init c =
-    let start = c in (
-      c.per_byte-z.ensures,
-      search rules,
-      rw c.per_byte-z.ensures (z-pos start.args.b start.requires.bits),
-      search rules,
-      refl,
-      fill_none _ _,
-    )
+    (search rules, rw c.per_byte-z.ensures (z-pos c.args.b c.requires.bits), refl, fill_none _ _)
 
 pub bounds-bytes-k : goal.bounds-bytes-k
 bounds-bytes-k c = omega (arith, inside (goal.at.bounds-bytes-k c).In-loop-i)
 
-pub loop-i-preserved-then-g-z : goal.loop-i-preserved-then-g-z
-loop-i-preserved-then-g-z c =
-    let inv = c.loop-i.invariant in (
-      inv.0,
-      omega arith,
-      omega arith,
-      omega arith,
-      simp length-set inv.4,
-      written (goal.at.loop-i-preserved-then-g-z c).After-group_of,
-    )
-
 pub loop-i-preserved : goal.loop-i-preserved
 loop-i-preserved c =
-    let inv = c.loop-i.invariant in (
-      inv.0,
-      omega arith,
-      omega arith,
-      omega arith,
-      simp length-set inv.4,
-      written (goal.at.loop-i-preserved c).After-group_of,
-    )
+    let inv = c.loop-i.invariant in
+    let next : (c.loop-i.i + 1 ≡ c.if-g-z.k * c.per_byte-z.result + c.if-g-z.g) × (c.if-g-z.g < c.per_byte-z.result) =
+    elim c.if-g-z.branch [ then-g-z w ↦ (omega (arith, ap (λ (k : ℕ). k * c.per_byte-z.result) w.k-is, w.g-is, w.if-g-z.true), omega (arith, w.g-is)) | else-g-z w ↦ (omega (arith, ap (λ (k : ℕ). k * c.per_byte-z.result) w.k-is, w.g-is), omega (arith, w.g-is, w.if-g-z.false)) ] in
+    (next.0, next.1, simp length-set inv.2, written (goal.at.loop-i-preserved c).After-group_of)

@@ -1,16 +1,12 @@
 use mathlib.Core.List.{map}
 use mathlib.Core.Path.{◌≡◌}
-use Prim.Native.Nat.{◌+◌, ◌-◌, ◌*◌, ◌≤◌, ◌<◌}
+use Prim.Native.Nat.{◌+◌, ◌*◌, ◌<◌}
 use lib.ListN.{length}
 use Rattle.meaning.specs.Lists.{onto, upto}
-use Rattle.meaning.specs.Sketch.{per_byte}
 use Rattle.sketch.proofs.Packed.{symbol_of}
 use Rattle.sketch.proofs.packing.unpack_into.Given as goal
 
 abbrev pub invariant-loop-i : goal.invariant-loop-i
 invariant-loop-i l =
-    (l.z ≡ per_byte l.b) × (l.i ≡ l.k * l.z + l.g) × (l.g < l.z) × (l.i ≤ l.n) × (length l.out ≡ length l.initial.out)
+    (l.i ≡ l.k * l.z + l.g) × (l.g < l.z) × (length l.out ≡ length l.initial.out)
     × (l.out ≡ onto (map (symbol_of l.b l.bytes) (upto l.i)) l.initial.out)
-
-abbrev pub decreases-loop-i : goal.decreases-loop-i
-decreases-loop-i l = l.n - l.i

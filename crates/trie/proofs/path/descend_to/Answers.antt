@@ -9,7 +9,7 @@ use Rattle.trie.proofs.path.descend_to.Goals.{In-Child}
 
 -- a step to a child takes a byte
 deeper : (c : In-Child) → c.loop-s.level < length c.args.bytes.now
-deeper c = child-level _ _ _ _ c.step_to-step.ensures.inside _ _ c.in-Child.is
+deeper c = child-level _ _ _ _ c.step_to.ensures.inside _ _ c.in-Child.is
 
 pub loop-s-preserved : goal.loop-s-preserved
 loop-s-preserved c =

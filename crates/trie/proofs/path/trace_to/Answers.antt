@@ -11,14 +11,14 @@ use Rattle.trie.proofs.path.trace_to.Goals.{In-Child}
 
 -- a step to a child takes a byte
 deeper : (c : In-Child) → c.loop-s.level < length c.args.bytes.now
-deeper c = child-level _ _ _ _ c.step_to-step.ensures.inside _ _ c.in-Child.is
+deeper c = child-level _ _ _ _ c.step_to.ensures.inside _ _ c.in-Child.is
 
 pub loop-s-preserved : goal.loop-s-preserved
 loop-s-preserved c =
     let at = c.loop-s in
     let l = deeper (goal.at.loop-s-preserved c).In-Child in
-    let noted = note-on at.above at.slots _ at.level at.n at.slot at.invariant.5 at.invariant.4 (omega (arith, l)) (omega (arith, l)) in
-    (search (desc-child, l), search child-node, search child-slot, omega (arith, l), search passed_on, noted, search rules, search rules)
+    let noted = note-on at.path _ at.level at.n at.slot at.invariant.5 at.invariant.4 (omega (arith, l)) in
+    (search (desc-child, l), search child-node, search child-slot, omega (arith, l), search passed_on, noted, search rules)
 
 pub returns-in-Leaf-clause-value : goal.returns-in-Leaf-clause-value
 returns-in-Leaf-clause-value c = search desc-leaf

@@ -8,8 +8,8 @@ use Rattle.trie.proofs.path.trace_to.Given as goal
 abbrev pub invariant-loop-s : goal.invariant-loop-s
 invariant-loop-s l =
     (descend l.nodes l.cap l.bytes l.n l.slot l.level (length l.bytes - l.level) ≡ descend_to l.nodes l.cap l.root l.bytes) × (l.n < l.cap) × (l.slot < node_words l.cap) × (l.level ≤ length l.bytes)
-    × (passed_at l.nodes l.cap l.root l.bytes l.level ≡ passed l.n l.slot) × Noted (noted l.above l.slots) (passed_at l.nodes l.cap l.root l.bytes) l.level
-    × (length l.above ≡ 64) × (length l.slots ≡ 64)
+    × (passed_at l.nodes l.cap l.root l.bytes l.level ≡ passed l.n l.slot) × Noted (noted l.path) (passed_at l.nodes l.cap l.root l.bytes) l.level
+    × (length l.path ≡ 64)
 
 abbrev pub decreases-loop-s : goal.decreases-loop-s
 decreases-loop-s l = length l.bytes - l.level

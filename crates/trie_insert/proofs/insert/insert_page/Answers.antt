@@ -1,12 +1,14 @@
 -- `insert_page` meets its contract.
-use Rattle.trie_insert.proofs.Steps.{insert-grow, insert-full, insert-failed}
+use native.Mathlib.Omega.{arith}
+use mathlib.Core.Path.{◌≡◌, refl}
+use Rattle.std.specs.Prelude.{Err}
+use Rattle.trie_insert.proofs.Steps.{insert-grow, insert-stops}
 use Rattle.trie_insert.proofs.insert.insert_page.Goals as goal
 
-pub returns-in-Ready : goal.returns-in-Ready
-returns-in-Ready c = search insert-grow
+pub returns-in_err-target : goal.returns-in_err-target
+returns-in_err-target c =
+    let up : c.from_residual.result ≡ Err c.in_err-target.field-0.0 = grind arith in
+    rw up (insert-stops _ _ _ _ _ _ _ _ _ _ _ _ _ _ c.in_err-target.ensures.result_after _ refl)
 
-pub returns-in-NoRoom : goal.returns-in-NoRoom
-returns-in-NoRoom c = search insert-full
-
-pub returns-in-Broken : goal.returns-in-Broken
-returns-in-Broken c = search insert-failed
+pub returns : goal.returns
+returns c = insert-grow _ _ _ _ _ _ _ _ _ _ _ _ _ _ c.in_ok-target.ensures.result_after _ refl _ _ _ c.grow_leaf.ensures
