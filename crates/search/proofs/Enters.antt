@@ -1,16 +1,14 @@
 -- The tables that pass 5 and 6, once the maps are cleared, as the rest of a search takes them.
 use Prim.Native.Nat.{ℕ, ◌+◌, ◌*◌, ◌≤◌}
 use native.Mathlib.Omega.{arith}
-use mathlib.Core.Path.{◌≡◌, refl, sym, subst}
+use mathlib.Core.Path.{◌≡◌}
 use mathlib.Core.List.{List, []}
 use Rattle.words.specs.Bits.{zeroed}
 use Rattle.layout.specs.declared.Header.{Header}
 use Rattle.layout.specs.Header.{bare}
 use Rattle.layout.specs.Lengths.{working_length}
-use Rattle.layout.specs.Tables.{Fits}
 use Rattle.layout.specs.Working.{map_words, summary_words}
 use Rattle.layout.proofs.Sizes.{map-most, pages-mapped}
-use Rattle.rights.specs.declared.Classes.{Classes}
 use Rattle.promises.specs.Tables.{Tables}
 use Rattle.entry.proofs.Enters.{Entered}
 use Rattle.marks.specs.Marks.{summary_of, Room, Summarised, list_of}

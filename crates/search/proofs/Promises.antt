@@ -1,6 +1,6 @@
 -- A search keeps its promise, by the way out.
 use Rattle.std.specs.Prelude.{Ok, Err}
-use Prim.Native.Nat.{ℕ, ◌+◌, ◌<◌, ◌≤◌}
+use Prim.Native.Nat.{ℕ, ◌+◌, ◌<◌}
 use native.Mathlib.Omega.{arith}
 use native.Mathlib.Nat.{zero-add}
 use mathlib.Core.Path.{◌≡◌, refl, sym, ap, ◌∙◌}
@@ -78,13 +78,19 @@ three-short true true false = omega arith
 three-short true false u = omega arith
 three-short false t u = omega arith
 
-pub tables-needed : (T : Tables) (r : Refusal) → entry T ≡ Err (number_of r) → needed_of r ≡ 0
+tables-short : (T : Tables) → first_no (tables_asked T) < 13
 unfolding tables_asked
-tables-needed T r e = needed-none r (λ z. omega (arith, (entry-refused T (number_of r) e).0, two-short _ _))
+tables-short T = two-short _ _
+
+pub tables-needed : (T : Tables) (r : Refusal) → entry T ≡ Err (number_of r) → needed_of r ≡ 0
+tables-needed T r e = needed-none r (λ z. omega (arith, (entry-refused T (number_of r) e).0, tables-short T))
+
+query-short : (h : Header) (reader radius : ℕ) (x : List ℕ) → first_no (query_asked h reader radius x) < 13
+unfolding query_asked
+query-short h reader radius x = three-short _ _ _
 
 pub query-needed : (h : Header) (reader radius : ℕ) (x : List ℕ) (r : Refusal) → number_of r ≡ first_no (query_asked h reader radius x) → needed_of r ≡ 0
-unfolding query_asked
-query-needed h reader radius x r e = needed-none r (λ z. omega (arith, e, three-short _ _ _))
+query-needed h reader radius x r e = needed-none r (λ z. omega (arith, e, query-short h reader radius x))
 
 -- ---- past 11, by the pages met
 module _ (T : Tables) (reader radius : ℕ) (x : List ℕ) (before : Output) (n count : ℕ) (after : Output)

@@ -1,5 +1,5 @@
 -- `find` walks, then lists.
-use Rattle.search.proofs.Finds.{tallied-none, found-listable, answers-stopped, answers-found}
+use Rattle.search.proofs.Finds.{tallied-none, found-listable, answers-found}
 use Rattle.search.proofs.search.find.Goals as goal
 
 pub meet_blocks-met-requires-clause-tallied : goal.meet_blocks-met-requires-clause-tallied

@@ -1,5 +1,5 @@
 -- `search` keeps its promise.
-use Rattle.std.specs.Prelude.{Ok, Err}
+use Rattle.std.specs.Prelude.{Err}
 use Prim.Native.Nat.{◌<◌}
 use mathlib.Core.Path.{◌≡◌, refl, sym}
 use native.Mathlib.Omega.{arith}
@@ -33,7 +33,7 @@ pub ask_query-requires : goal.ask_query-requires
 ask_query-requires c = (opened (goal.at.ask_query-requires c).In_ok-h).limits
 
 pub entry-classes-requires : goal.entry-classes-requires
-entry-classes-requires c = ((opened (goal.at.entry-classes-requires c).In_ok-h).settings-long, omega (arith, (passed c).0))
+entry-classes-requires c = ((opened (goal.at.entry-classes-requires c).In_ok-h).settings-long, omega (arith, (passed (goal.at.entry-classes-requires c).In_ok-ask_query).0))
 
 pub returns-in_err-h-clause-search_promise : goal.returns-in_err-h-clause-search_promise
 returns-in_err-h-clause-search_promise c =
