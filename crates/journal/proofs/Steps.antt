@@ -7,12 +7,17 @@ use native.Mathlib.Omega.{arith}
 use lib.Dec.{ltb, eqb}
 use lib.ListN.{length, take, drop, length-drop}
 use lib.Seq.{drop-drop, take_all}
-use borrow.Author.Tests.{lt-ltb, le-ltb, eq-eqb, ne_eqb, ltb-true, eqb-true}
+use borrow.Author.Tests.{lt-ltb, le-ltb, eq-eqb, ne_eqb, ltb-true, eqb-true, eqb-false}
 use Rattle.meaning.specs.Rights.{join, leave, grant, revoke}
-use Rattle.meaning.specs.Journal.{opens, adds, drops, changes, searches, byte_at, word_at, entries, operand_bytes, taken, form_at, next, command, ended, refused, command-to}
-use Rattle.journal.specs.Steps.{change_meant, meant, told, symbols_end, change_of, command_of, command_at, step_at, Stepped, reached_by}
-use Rattle.journal_form.proofs.Questions.{behind-there}
-use Rattle.journal.specs.declared.commands.Change.TheVariants.{Join, Leave, Grant, Revoke}
+use Rattle.meaning.specs.Journal.{opens, adds, drops, changes, searches, byte_at, word_at, entries, operand_bytes, taken, form_at, mark_at, next, command, ended, refused, command-to}
+use Rattle.journal.specs.Steps.{meant, told, symbols_end, change_of, command_of, command_at, refusal_of, step_at, Stepped, reached_by}
+use Rattle.refusals.specs.declared.Refusal.{Refusal}
+use Rattle.refusals.specs.declared.Refusal.TheVariants.{UnknownCommand, MisplacedCommand, MissingOperands, BadSettings, ShortTable, NoOpening, OutOfRange, NoSuchPage, PageState, BadLength, BadSymbol, NoRoom, ShortOutput, Unsound, Blank}
+use Rattle.refusals.specs.Refusals.{number_of}
+use Rattle.refusals.proofs.Refusals.{not_zero}
+use Rattle.journal_form.proofs.Questions.{three, behind-there}
+use Rattle.rights.specs.Changes.{change_meant}
+use Rattle.rights.specs.declared.Change.TheVariants.{Join, Leave, Grant, Revoke}
 use Rattle.journal.specs.declared.commands.Command.{Command}
 use Rattle.journal.specs.declared.commands.Command.TheVariants.{Open, Add, Drop, Register, Search}
 use Rattle.journal.specs.declared.commands.Step.{Step}
@@ -57,16 +62,46 @@ command-meant m bytes at = go (is 73) (is 65) (is 68) (is 83) (is 74) (is 76) (i
     go false false false false false false true = refl
     go false false false false false false false = refl
 
+-- a refusal by 1 to 3 is the one of its number, and has it
+that-refusal : (r : Refusal) (n : ℕ) → number_of r ≡ n → n ≤ 3 → r ≡ refusal_of n
+that-refusal UnknownCommand n e h = rw (← e) refl
+that-refusal MisplacedCommand n e h = rw (← e) refl
+that-refusal MissingOperands n e h = rw (← e) refl
+that-refusal BadSettings n e h = absurd (omega (arith, e, h))
+that-refusal ShortTable n e h = absurd (omega (arith, e, h))
+that-refusal NoOpening n e h = absurd (omega (arith, e, h))
+that-refusal OutOfRange n e h = absurd (omega (arith, e, h))
+that-refusal NoSuchPage n e h = absurd (omega (arith, e, h))
+that-refusal PageState n e h = absurd (omega (arith, e, h))
+that-refusal BadLength n e h = absurd (omega (arith, e, h))
+that-refusal BadSymbol n e h = absurd (omega (arith, e, h))
+that-refusal NoRoom n e h = absurd (omega (arith, e, h))
+that-refusal (ShortOutput k) n e h = absurd (omega (arith, e, h))
+that-refusal Unsound n e h = absurd (omega (arith, e, h))
+that-refusal Blank n e h = absurd (omega (arith, e, h))
+
+three-at : (m : ℕ) (bytes : List ℕ) (at : ℕ) → form_at m bytes at ≤ 3
+unfolding form_at
+three-at m bytes at = three m (mark_at at) (drop at bytes)
+
+its-number : (n : ℕ) → n ≤ 3 → (n ≡ 0 → ⊥) → number_of (refusal_of n) ≡ n
+its-number n h z = go (eqb n 1) (eqb n 2) refl refl
+  where
+    go : (one two : Bool) → eqb n 1 ≡ one → eqb n 2 ≡ two → number_of (cond one UnknownCommand (cond two MisplacedCommand MissingOperands)) ≡ n
+    go true two e f = sym (eqb-true n 1 e)
+    go false true e f = sym (eqb-true n 2 f)
+    go false false e f = omega (arith, h, z, eqb-false n 1 e, eqb-false n 2 f)
+
 pub step-told : (m : ℕ) (bytes : List ℕ) (at : ℕ) → told m bytes (step_at m bytes at) ≡ next m bytes at
 unfolding step_at told next
-step-told m bytes at = go (ltb at (length bytes)) (eqb (form_at m bytes at) 0)
+step-told m bytes at = go (ltb at (length bytes)) (eqb (form_at m bytes at) 0) refl
   where
-    go : (more right : Bool)
-        → told m bytes (cond more (cond right (Taken (command_at bytes at) (at + taken m (drop at bytes))) (Refused (form_at m bytes at))) End)
+    go : (more right : Bool) → eqb (form_at m bytes at) 0 ≡ right
+        → told m bytes (cond more (cond right (Taken (command_at bytes at) (at + taken m (drop at bytes))) (Refused (refusal_of (form_at m bytes at)))) End)
         ≡ cond more (cond right (command-to (command m (drop at bytes)) (at + taken m (drop at bytes))) (refused (form_at m bytes at))) ended
-    go true true = ap (λ c. command-to c (at + taken m (drop at bytes))) (command-meant m bytes at)
-    go true false = refl
-    go false right = refl
+    go true true e = ap (λ c. command-to c (at + taken m (drop at bytes))) (command-meant m bytes at)
+    go true false e = ap refused (its-number (form_at m bytes at) (three-at m bytes at) (eqb-false (form_at m bytes at) 0 e))
+    go false right e = refl
 
 pub stepped : {m : ℕ} {bytes : List ℕ} {at : ℕ} {s : Step} → s ≡ step_at m bytes at → Stepped m bytes at s
 stepped {m} {bytes} {at} e = record { told-right = ap (told m bytes) e ∙ step-told m bytes at; in_place = e }
@@ -75,60 +110,32 @@ pub at-end : (m : ℕ) (bytes : List ℕ) (at : ℕ) → length bytes ≤ at →
 unfolding step_at
 at-end m bytes at h = rw (le-ltb at (length bytes) h)
 
-pub at-refusal : (m : ℕ) (bytes : List ℕ) (at : ℕ) {n : ℕ} → at < length bytes → n ≡ form_at m bytes at → (n ≡ 0 → ⊥) → Refused n ≡ step_at m bytes at
+pub at-refusal : (m : ℕ) (bytes : List ℕ) (at : ℕ) {r : Refusal} → at < length bytes → number_of r ≡ form_at m bytes at → Refused r ≡ step_at m bytes at
 unfolding step_at
-at-refusal m bytes at h e z = rw (lt-ltb at (length bytes) h, ne_eqb (form_at m bytes at) 0 (λ f. z (e ∙ f)), e)
+at-refusal m bytes at {r} h e =
+    rw (lt-ltb at (length bytes) h, ne_eqb (form_at m bytes at) 0 (λ f. not_zero r (e ∙ f)))
+    (ap Refused (that-refusal r (form_at m bytes at) e (three-at m bytes at)))
 
 pub at-command : (m : ℕ) (bytes : List ℕ) (at : ℕ) {c : Command} {to : ℕ} → at < length bytes → form_at m bytes at ≡ 0
     → c ≡ command_at bytes at → to ≡ at + taken m (drop at bytes) → Taken c to ≡ step_at m bytes at
 unfolding step_at
 at-command m bytes at h f e e' = rw (lt-ltb at (length bytes) h, eq-eqb (form_at m bytes at) 0 f, e, e')
 
--- ---- the command at an offset, letter by letter, out of the part that begins there
+-- ---- the part that begins at an offset
 
 pub rest : (at : ℕ) (bytes : List ℕ) → take (length bytes - at) (drop at bytes) ≡ drop at bytes
 rest at bytes = take_all (length bytes - at) (drop at bytes) (omega (arith, length-drop at bytes))
-
-part_of : (at : ℕ) (bytes : List ℕ) → command_of (take (length bytes - at) (drop at bytes)) at ≡ command_at bytes at
-unfolding command_at
-part_of at bytes = ap (λ (own : List ℕ). command_of own at) (rest at bytes)
-
-module _ (at : ℕ) (bytes : List ℕ) where
-  abbrev own : List ℕ
-  own = take (length bytes - at) (drop at bytes)
-
-  pub open_at : {c b m q t : ℕ} → c ≡ byte_at own 0 → c ≡ 73 → b ≡ byte_at own 1 → m ≡ byte_at own 2 → q ≡ byte_at own 3 → t ≡ word_at own 4
-      → Open b m q t ≡ command_at bytes at
-  unfolding command_of
-  open_at e f eb em eq et = rw (← part_of at bytes, eb, em, eq, et, sym e ∙ f)
-
-  pub add_at : {c p k : ℕ} → c ≡ byte_at own 0 → c ≡ 65 → p ≡ word_at own 1 → k ≡ byte_at own 3 → Add p k (at + 4) ≡ command_at bytes at
-  unfolding command_of
-  add_at e f ep ek = rw (← part_of at bytes, ep, ek, sym e ∙ f)
-
-  pub drop_at : {c p : ℕ} → c ≡ byte_at own 0 → c ≡ 68 → p ≡ word_at own 1 → Drop p ≡ command_at bytes at
-  unfolding command_of
-  drop_at e f ep = rw (← part_of at bytes, ep, sym e ∙ f)
-
-  pub search-at : {c r d : ℕ} → c ≡ byte_at own 0 → c ≡ 83 → r ≡ byte_at own 1 → d ≡ byte_at own 2 → Search r d (at + 3) ≡ command_at bytes at
-  unfolding command_of
-  search-at e f er ed = rw (← part_of at bytes, er, ed, sym e ∙ f)
-
-  pub change-at : {c x y : ℕ} → c ≡ byte_at own 0 → (c ≡ 73 → ⊥) → (c ≡ 65 → ⊥) → (c ≡ 68 → ⊥) → (c ≡ 83 → ⊥) → x ≡ byte_at own 1 → y ≡ byte_at own 2
-      → Register (change_of c x y) ≡ command_at bytes at
-  unfolding command_of
-  change-at {c} e i a d s ex ey = rw (← part_of at bytes, ex, ey, ← e, ne_eqb c 73 i, ne_eqb c 65 a, ne_eqb c 68 d, ne_eqb c 83 s)
 
 -- ---- a command that was taken
 
 is_taken : Step → Bool
 is_taken (Taken c to) = true
-is_taken (Refused n) = false
+is_taken (Refused r) = false
 is_taken End = false
 
 command_in : Command → Step → Command
 command_in other (Taken c to) = c
-command_in other (Refused n) = other
+command_in other (Refused r) = other
 command_in other End = other
 
 -- it is well formed, and the offset behind it lies inside
@@ -138,7 +145,7 @@ unfolding step_at reached_by is_taken command_in
 taken-there m bytes at c to st = go (ltb at (length bytes)) (eqb (form_at m bytes at) 0) refl refl st.in_place
   where
     go : (more right : Bool) → ltb at (length bytes) ≡ more → eqb (form_at m bytes at) 0 ≡ right
-        → Taken c to ≡ cond more (cond right (Taken (command_at bytes at) (at + taken m (drop at bytes))) (Refused (form_at m bytes at))) End
+        → Taken c to ≡ cond more (cond right (Taken (command_at bytes at) (at + taken m (drop at bytes))) (Refused (refusal_of (form_at m bytes at)))) End
         → (c ≡ command_at bytes at) × ((to ≡ at + taken m (drop at bytes)) × (to ≤ length bytes))
     go true true e f p =
         let reached = ap (λ (s : Step). reached_by s 0) p in (

@@ -1,22 +1,17 @@
 -- What the code's answers say: each case of Command and Step as the paper has it, and the answer at an offset.
 use Rattle.std.specs.Prelude.{ℕ, ◌+◌, ◌≡◌, cond, List, ltb, eqb, length, take, drop}
-use Rattle.meaning.specs.Rights.{join, leave, grant, revoke}
-use Rattle.meaning.specs.Rights.{Change as PaperChange}
 use Rattle.meaning.specs.Journal.{opens, adds, drops, changes, searches, byte_at, word_at, taken, Next, ended, refused, command-to, form_at, next}
 use Rattle.meaning.specs.Journal.{Command as PaperCommand}
-use Rattle.journal.specs.declared.commands.Change.{Change}
-use Rattle.journal.specs.declared.commands.Change.TheVariants.{Join, Leave, Grant, Revoke}
+use Rattle.refusals.specs.declared.Refusal.{Refusal}
+use Rattle.refusals.specs.declared.Refusal.TheVariants.{UnknownCommand, MisplacedCommand, MissingOperands}
+use Rattle.refusals.specs.Refusals.{number_of}
+use Rattle.rights.specs.declared.Change.{Change}
+use Rattle.rights.specs.declared.Change.TheVariants.{Join, Leave, Grant, Revoke}
+use Rattle.rights.specs.Changes.{change_meant}
 use Rattle.journal.specs.declared.commands.Command.{Command}
 use Rattle.journal.specs.declared.commands.Command.TheVariants.{Open, Add, Drop, Register, Search}
 use Rattle.journal.specs.declared.commands.Step.{Step}
 use Rattle.journal.specs.declared.commands.Step.TheVariants.{Taken, Refused, End}
-
--- the change that the code's one stands for
-unfoldable pub change_meant : Change → PaperChange
-change_meant (Join r g) = join r g
-change_meant (Leave r g) = leave r g
-change_meant (Grant g c) = grant g c
-change_meant (Revoke g c) = revoke g c
 
 -- the command that the code's one stands for, its m symbols taken from the journal's bytes
 unfoldable pub meant : ℕ → List ℕ → Command → PaperCommand
@@ -37,7 +32,7 @@ symbols_end m (Register c) = 0
 -- what a step says
 unfoldable pub told : ℕ → List ℕ → Step → Next
 told m bytes (Taken c to) = command-to (meant m bytes c) to
-told m bytes (Refused n) = refused n
+told m bytes (Refused r) = refused (number_of r)
 told m bytes End = ended
 
 -- ---- the answers themselves
@@ -58,11 +53,15 @@ command_of own at =
 unfoldable pub command_at : List ℕ → ℕ → Command
 command_at bytes at = command_of (drop at bytes) at
 
+-- the refusal of a form, by its number
+abbrev pub refusal_of : ℕ → Refusal
+refusal_of n = cond (eqb n 1) UnknownCommand (cond (eqb n 2) MisplacedCommand MissingOperands)
+
 unfoldable pub step_at : ℕ → List ℕ → ℕ → Step
 step_at m bytes at =
     cond (ltb at (length bytes)) (
     cond (eqb (form_at m bytes at) 0) (Taken (command_at bytes at) (at + taken m (drop at bytes)))
-    (Refused (form_at m bytes at)))
+    (Refused (refusal_of (form_at m bytes at))))
     End
 
 -- what is promised of a step: it says what the paper has there, and its symbols stand in their place
@@ -73,5 +72,5 @@ pub record Stepped (m : ℕ) (bytes : List ℕ) (at : ℕ) (s : Step) : Type 0 w
 -- the offset after a step
 unfoldable pub reached_by : Step → ℕ → ℕ
 reached_by (Taken c to) at = to
-reached_by (Refused n) at = at
+reached_by (Refused r) at = at
 reached_by End at = at

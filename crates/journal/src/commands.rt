@@ -4,18 +4,11 @@ ghost use Rattle.meaning.specs.Journal.{byte_at, word_at, taken, mark_at};
 ghost use Rattle.journal.specs.Steps.{change_of, command_at, Stepped, reached_by};
 
 use journal_form::{form, operand_bytes};
-
-// A change of the register, with its two numbers.
-#[derive(Clone, Copy)]
-pub enum Change {
-    Join { reader: u32, group: u32 },
-    Leave { reader: u32, group: u32 },
-    Grant { group: u32, class: u32 },
-    Revoke { group: u32, class: u32 },
-}
+use refusals::Refusal;
+use rights::Change;
 
 // A command with its operands. Symbols are told by the offset where they begin in the journal's bytes.
-#[derive(Clone, Copy)]
+#[derive(Clone, Copy, Debug, PartialEq, Eq)]
 pub enum Command {
     Open {
         b: u32,
@@ -40,10 +33,10 @@ pub enum Command {
 }
 
 // What stands at an offset: a command and the offset behind it, a command that 1 to 3 refuse, or nothing more.
-#[derive(Clone, Copy)]
+#[derive(Clone, Copy, Debug, PartialEq, Eq)]
 pub enum Step {
-    Taken(Command, usize),
-    Refused(u32),
+    Taken { command: Command, to: usize },
+    Refused(Refusal),
     End,
 }
 
@@ -51,19 +44,7 @@ pub enum Step {
 pub fn byte_at(bytes: &[u8], k: usize) -> u8
     ensures { result ≡ byte_at bytes.now k }
 {
-    if k < bytes.len() { bytes[k] } else { 0 }
-}
-
-fn wide(x: u8) -> u32
-    ensures { result ≡ x }
-{
-    x as u32
-}
-
-fn wide_word(x: u16) -> u32
-    ensures { result ≡ x }
-{
-    x as u32
+    bytes.get(k).copied().unwrap_or(0)
 }
 
 // The two bytes at k and k + 1, the low one first.
@@ -72,9 +53,7 @@ pub fn word_at(bytes: &[u8], k: usize) -> u16
     requires { k ≤ 4 }
     ensures { result ≡ word_at bytes.now k }
 {
-    let low = byte_at(bytes, k) as u16;
-    let high = byte_at(bytes, k + 1) as u16;
-    low + 256 * high
+    u16::from_le_bytes([byte_at(bytes, k), byte_at(bytes, k + 1)])
 }
 
 // The m symbols that begin at an offset.
@@ -91,62 +70,52 @@ pub fn symbols_at(bytes: &[u8], at: usize, m: u8) -> &[u8]
 fn change_of(c: u8, x: u32, y: u32) -> Change
     ensures { result ≡ change_of c x y }
 {
-    if c == b'J' {
-        return Change::Join {
+    match c {
+        b'J' => Change::Join {
             reader: x,
             group: y,
-        };
-    }
-    if c == b'L' {
-        return Change::Leave {
+        },
+        b'L' => Change::Leave {
             reader: x,
             group: y,
-        };
+        },
+        b'G' => Change::Grant { group: x, class: y },
+        _ => Change::Revoke { group: x, class: y },
     }
-    if c == b'G' {
-        return Change::Grant { group: x, class: y };
-    }
-    Change::Revoke { group: x, class: y }
 }
 
 // The command at an offset whose form is right.
-#[tactic(auto, unfolding(crate::specs::Steps::command_at))]
+#[tactic(auto, unfolding(crate::specs::Steps::command_at, crate::specs::Steps::command_of), using(crate::proofs::Steps::rest))]
 fn command_at(bytes: &[u8], at: usize, m: u8) -> Command
     requires { at + taken m (drop at bytes.now) ≤ length bytes.now }
     ensures { result ≡ command_at bytes.now at }
 {
     let own = &bytes[at..];
     let c = byte_at(own, 0);
-    let x = wide(byte_at(own, 1));
-    let y = wide(byte_at(own, 2));
-    if c == b'I' {
-        return Command::Open {
+    let x = u32::from(byte_at(own, 1));
+    let y = u32::from(byte_at(own, 2));
+    match c {
+        b'I' => Command::Open {
             b: x,
             m: byte_at(own, 2),
-            q: wide(byte_at(own, 3)),
+            q: u32::from(byte_at(own, 3)),
             threshold: word_at(own, 4),
-        };
-    }
-    if c == b'A' {
-        return Command::Add {
-            page: wide_word(word_at(own, 1)),
-            class: wide(byte_at(own, 3)),
+        },
+        b'A' => Command::Add {
+            page: u32::from(word_at(own, 1)),
+            class: u32::from(byte_at(own, 3)),
             symbols: at + 4,
-        };
-    }
-    if c == b'D' {
-        return Command::Drop {
-            page: wide_word(word_at(own, 1)),
-        };
-    }
-    if c == b'S' {
-        return Command::Search {
+        },
+        b'D' => Command::Drop {
+            page: u32::from(word_at(own, 1)),
+        },
+        b'S' => Command::Search {
             reader: x,
             radius: y,
             symbols: at + 3,
-        };
+        },
+        _ => Command::Register(change_of(c, x, y)),
     }
-    Command::Register(change_of(c, x, y))
 }
 
 // The mark of the command at an offset: the first one stands at 0.
@@ -154,7 +123,7 @@ fn command_at(bytes: &[u8], at: usize, m: u8) -> Command
 fn mark_at(at: usize) -> u8
     ensures { result ≡ mark_at at }
 {
-    if at == 0 { 1 } else { 0 }
+    u8::from(at == 0)
 }
 
 // What stands at an offset, with m symbols a sketch.
@@ -166,12 +135,14 @@ pub fn next_at(bytes: &[u8], at: usize, m: u8) -> Step
         return Step::End;
     }
     let own = &bytes[at..];
-    let number = form(m, mark_at(at), own);
-    if number != 0 {
-        return Step::Refused(number);
+    if let Err(refusal) = form(m, mark_at(at), own) {
+        return Step::Refused(refusal);
     }
     let behind = at + 1 + operand_bytes(m, byte_at(own, 0));
-    Step::Taken(command_at(bytes, at, m), behind)
+    Step::Taken {
+        command: command_at(bytes, at, m),
+        to: behind,
+    }
 }
 
 // The offset reached by a step from another: that behind a command taken; else it stays.
@@ -180,8 +151,7 @@ pub fn reached(step: Step, at: usize) -> usize
     ensures { result ≡ reached_by step at }
 {
     match step {
-        Step::Taken(_, to) => to,
-        Step::Refused(_) => at,
-        Step::End => at,
+        Step::Taken { command: _, to } => to,
+        Step::Refused(_) | Step::End => at,
     }
 }

@@ -1,5 +1,5 @@
-// The journal reader: the lent bytes and the offset reached. Its functions are thin: each takes it apart and leaves the work to
-// `next_at`. `read` has plain parameters, for callers that keep the offset themselves.
+// The journal reader: the lent bytes and the offset reached. Its methods are thin: the work is left to `next_at`. `read` has plain
+// parameters, for callers that keep the offset themselves.
 ghost use Rattle.std.specs.Prelude.{◌≡◌};
 ghost use Rattle.journal.specs.Steps.{Stepped, reached_by};
 
@@ -11,27 +11,29 @@ pub struct Reader<'a> {
     pub at: usize,
 }
 
-// A reader of these bytes that has reached an offset; 0 is the beginning.
-pub fn reader_at<'a>(bytes: &'a [u8], at: usize) -> Reader<'a>
-    ensures { (result.bytes ≡ bytes.entry) × (result.at ≡ at) }
-{
-    Reader { bytes, at }
-}
+impl<'a> Reader<'a> {
+    // A reader of these bytes that has reached an offset; 0 is the beginning.
+    pub fn new(bytes: &'a [u8], at: usize) -> Reader<'a>
+        ensures { (result.bytes ≡ bytes.entry) × (result.at ≡ at) }
+    {
+        Reader { bytes, at }
+    }
 
-// What stands where the reader is, with m symbols a sketch.
-pub fn next<'a>(r: Reader<'a>, m: u8) -> Step
-    ensures { Stepped m r.entry.bytes.now r.entry.at result }
-{
-    next_at(r.bytes, r.at, m)
-}
+    // What stands where the reader is, with m symbols a sketch.
+    pub fn next(self, m: u8) -> Step
+        ensures { Stepped m self.entry.bytes.now self.entry.at result }
+    {
+        next_at(self.bytes, self.at, m)
+    }
 
-// The reader behind a command that was taken; where it was refused, and at the end, the offset stays.
-pub fn advance<'a>(r: Reader<'a>, step: Step) -> Reader<'a>
-    ensures { (result.bytes ≡ r.entry.bytes) × (result.at ≡ reached_by step r.entry.at) }
-{
-    Reader {
-        bytes: r.bytes,
-        at: reached(step, r.at),
+    // The reader behind a command that was taken; where it was refused, and at the end, the offset stays.
+    pub fn advance(self, step: Step) -> Reader<'a>
+        ensures { (result.bytes ≡ self.entry.bytes) × (result.at ≡ reached_by step self.entry.at) }
+    {
+        Reader {
+            bytes: self.bytes,
+            at: reached(step, self.at),
+        }
     }
 }
 
@@ -39,5 +41,5 @@ pub fn advance<'a>(r: Reader<'a>, step: Step) -> Reader<'a>
 pub fn read(bytes: &[u8], at: usize, m: u8) -> Step
     ensures { Stepped m bytes.now at result }
 {
-    next(reader_at(bytes, at), m)
+    Reader::new(bytes, at).next(m)
 }

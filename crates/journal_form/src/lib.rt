@@ -4,57 +4,24 @@
 ghost use Rattle.std.specs.Prelude.{◌≡◌};
 ghost use Rattle.meaning.specs.Journal.{known, operand_bytes, in_place};
 ghost use Rattle.meaning.specs.Journal.{form as form_number};
+ghost use Rattle.refusals.specs.Refusals.{answer_number};
 
-// The numbers of the questions, and of none.
-const BYTE: u32 = 1;
-
-const PLACE: u32 = 2;
-
-const OPERANDS: u32 = 3;
-
-const WELL_FORMED: u32 = 0;
+use refusals::Refusal;
 
 // Is the command byte known?
-#[tactic(auto, unfolding(meaning::specs::Journal::entries, meaning::specs::Journal::known))]
+#[tactic(auto, unfolding(meaning::specs::Journal::entries, meaning::specs::Journal::known, meaning::specs::Lists::any))]
 pub fn is_known(c: u8) -> bool
     ensures { result ≡ known c }
 {
-    if c == b'I' {
-        return true;
-    }
-    if c == b'A' {
-        return true;
-    }
-    if c == b'D' {
-        return true;
-    }
-    if c == b'J' {
-        return true;
-    }
-    if c == b'L' {
-        return true;
-    }
-    if c == b'G' {
-        return true;
-    }
-    if c == b'R' {
-        return true;
-    }
-    if c == b'S' {
-        return true;
-    }
-    false
+    matches!(c, b'I' | b'A' | b'D' | b'J' | b'L' | b'G' | b'R' | b'S')
 }
 
-// Is it I exactly where it is the first command? A mark of 0 stands for a later one.
+// Is it I exactly where it is the first command? A mark of 0 stands for a later one: a byte and no bool, as any byte may be asked of here and in `form`, as in C.
 #[tactic(auto, unfolding(meaning::specs::Journal::in_place))]
 pub fn is_in_place(mark: u8, c: u8) -> bool
     ensures { result ≡ in_place mark c }
 {
-    if mark == 0 {
-        return c != b'I';
-    }
-    c == b'I'
+    (mark == 0) != (c == b'I')
 }
 
 // How many bytes its operands have, with m symbols a sketch.
@@ -62,35 +29,30 @@ pub fn is_in_place(mark: u8, c: u8) -> bool
 pub fn operand_bytes(m: u8, c: u8) -> usize
     ensures { result ≡ operand_bytes m c }
 {
-    if c == b'I' {
-        return 5;
+    match c {
+        b'I' => 5,
+        b'A' => 3 + m as usize,
+        b'S' => 2 + m as usize,
+        _ => 2,
     }
-    if c == b'A' {
-        return 3 + m as usize;
-    }
-    if c == b'S' {
-        return 2 + m as usize;
-    }
-    2
 }
 
-// The form of the command at the beginning of the bytes: 0, or the first number that fails.
-#[tactic(auto, unfolding(meaning::specs::Journal::form))]
-pub fn form(m: u8, mark: u8, bytes: &[u8]) -> u32
-    ensures { result ≡ form_number m mark bytes.now }
+// The form of the command at the beginning of the bytes, refused by the first question that says no.
+#[tactic(auto, unfolding(meaning::specs::Journal::form, meaning::specs::Refusal::first_no))]
+pub fn form(m: u8, mark: u8, bytes: &[u8]) -> Result<(), Refusal>
+    ensures { answer_number result ≡ form_number m mark bytes.now }
 {
-    if bytes.len() == 0 {
-        return BYTE;
-    }
-    let c = bytes[0];
+    let Some((&c, operands)) = bytes.split_first() else {
+        return Err(Refusal::UnknownCommand);
+    };
     if !is_known(c) {
-        return BYTE;
+        return Err(Refusal::UnknownCommand);
     }
     if !is_in_place(mark, c) {
-        return PLACE;
+        return Err(Refusal::MisplacedCommand);
     }
-    if bytes.len() - 1 < operand_bytes(m, c) {
-        return OPERANDS;
+    if operands.len() < operand_bytes(m, c) {
+        return Err(Refusal::MissingOperands);
     }
-    WELL_FORMED
+    Ok(())
 }

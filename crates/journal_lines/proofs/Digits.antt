@@ -1,41 +1,28 @@
--- Decimal digits, from the last to the first; and a run of stores that is made of two.
-use Prim.Native.Nat.{ℕ, zero, suc, ◌+◌, ◌-◌, ◌/◌, ◌%◌, ◌^◌, ◌<◌, ◌≤◌}
+-- Decimal digits; and a run of stores that is made of two.
+use Prim.Native.Nat.{ℕ, suc, ◌+◌, ◌^◌, ◌<◌, ◌≤◌}
 use mathlib.Core.Path.{◌≡◌, refl, sym, ap, ap₂, ◌∙◌}
-use mathlib.Core.Bool.{Bool, true, false, cond}
 use mathlib.Core.List.{List, [], ◌∷◌, ◌++◌}
 use native.Mathlib.Omega.{arith}
-use native.Mathlib.Nat.{pow-succ'}
-use lib.Dec.{ltb}
-use lib.ListN.{length, set, length-append}
-use lib.Seq.{sets, set_comm}
-use borrow.Author.Tests.{lt-ltb, le-ltb, ltb-true, ltb-false}
+use lib.ListN.{length, set, take, drop, length-append}
+use lib.Seq.{sets, sets-eq, take_all}
+use borrow.Rule.Slice.PartMut.{put_mid}
+use Rattle.std.proofs.lemmas.Slice.{put_mid-paste}
+use borrow.Author.Tests.{lt-ltb, le-ltb}
+use Rattle.std.specs.Fmt.{decimal as text}
+use Rattle.std.proofs.lemmas.Fmt.{AppendsLastDigit, decimal_from_appends, length-decimal-le, length-decimal-le_succ}
 use Rattle.meaning.specs.Journal.{digits, decimal, field, fields}
 
--- any count of digits above the number gives the same
-digits-enough : (f g n : ℕ) → n < f → n < g → digits f n ≡ digits g n
+-- the paper's digits are the library's
+digits-append : AppendsLastDigit digits
 unfolding digits
-digits-enough zero g n h k = absurd (omega arith)
-digits-enough (suc f) zero n h k = absurd (omega arith)
-digits-enough (suc f) (suc g) n h k = go (ltb n 10) refl (λ e. digits-enough f g (n / 10) (omega (arith, ltb-false n 10 e)) (omega (arith, ltb-false n 10 e)))
-  where
-    go : (t : Bool) → ltb n 10 ≡ t → (ltb n 10 ≡ false → digits f (n / 10) ≡ digits g (n / 10))
-        → cond t ((48 + n) ∷ []) (digits f (n / 10) ++ ((48 + n % 10) ∷ [])) ≡ cond t ((48 + n) ∷ []) (digits g (n / 10) ++ ((48 + n % 10) ∷ []))
-    go true e ih = refl
-    go false e ih = ap (λ (ds : List ℕ). ds ++ ((48 + n % 10) ∷ [])) (ih e)
+digits-append = record { one = λ k n h. rw (lt-ltb n 10 h) refl; more = λ k n h. rw (le-ltb n 10 h) refl }
 
-pub one-digit : (n : ℕ) → n < 10 → decimal n ≡ (48 + n) ∷ []
-unfolding decimal digits
-one-digit n h = rw (lt-ltb n 10 h)
+pub same-decimal : (n : ℕ) → n < 2 ^ 32 → text n ≡ decimal n
+unfolding decimal
+same-decimal n h = sym (decimal_from_appends digits digits-append (suc n) n (omega arith) (omega (arith, length-decimal-le_succ n (omega arith))))
 
-pub more-digits : (n : ℕ) → 10 ≤ n → decimal n ≡ decimal (n / 10) ++ ((48 + n % 10) ∷ [])
-unfolding decimal digits
-more-digits n h = rw (le-ltb n 10 h) (ap (λ (ds : List ℕ). ds ++ ((48 + n % 10) ∷ [])) (digits-enough n (suc (n / 10)) (n / 10) (omega arith) (omega arith)))
-
-pub one-long : (n : ℕ) → n < 10 → length (decimal n) ≡ 1
-one-long n h = ap length (one-digit n h)
-
-pub more-long : (n : ℕ) → 10 ≤ n → length (decimal n) ≡ length (decimal (n / 10)) + 1
-more-long n h = ap length (more-digits n h) ∙ length-append (decimal (n / 10)) ((48 + n % 10) ∷ [])
+pub ten-digits : (n : ℕ) → n < 2 ^ 32 → length (decimal n) ≤ 10
+ten-digits n h = omega (arith, ap length (same-decimal n h), length-decimal-le 10 n (omega arith) (omega arith) (omega arith))
 
 -- ---- stores
 
@@ -43,35 +30,13 @@ pub sets-append : (l : List ℕ) (at : ℕ) (xs ys : List ℕ) → sets l at (xs
 sets-append l at [] ys = ap (λ (k : ℕ). sets l k ys) (omega arith)
 sets-append l at (x ∷ xs) ys = sets-append (set l at x) (suc at) xs ys ∙ ap (λ (k : ℕ). sets (sets (set l at x) (suc at) xs) k ys) (omega arith)
 
--- the last element may be stored first
-sets_last : (l : List ℕ) (at : ℕ) (xs : List ℕ) (d : ℕ) → sets (set l (at + length xs) d) at xs ≡ sets l at (xs ++ (d ∷ []))
-sets_last l at [] d = ap (λ (k : ℕ). set l k d) (omega arith)
-sets_last l at (x ∷ xs) d =
-    ap (λ (l : List ℕ). sets l (suc at) xs) (set_comm l (at + length (x ∷ xs)) at d x (λ e. omega (arith, e)))
-    ∙ (ap (λ (k : ℕ). sets (set (set l at x) k d) (suc at) xs) (omega arith) ∙ sets_last (set l at x) (suc at) xs d)
-
--- one digit stored, the others still to come
-pub digit-stored : (out : List ℕ) (at i n : ℕ) → 10 ≤ n → length (decimal n) ≡ i
-    → sets (set out (at + (i - 1)) (48 + n % 10)) at (decimal (n / 10)) ≡ sets out at (decimal n)
-digit-stored out at i n h e =
-    ap (λ (k : ℕ). sets (set out k (48 + n % 10)) at (decimal (n / 10))) (omega (arith, e, more-long n h))
-    ∙ (sets_last out at (decimal (n / 10)) (48 + n % 10) ∙ ap (sets out at) (sym (more-digits n h)))
-
--- the last one
-pub digits-stored : (out : List ℕ) (at n : ℕ) → n < 10 → set out at (48 + n) ≡ sets out at (decimal n)
-digits-stored out at n h = ap (sets out at) (sym (one-digit n h))
-
--- a number below 10 ^ k has at most k digits
-short : (k n : ℕ) → n < 10 ^ (suc k) → length (decimal n) ≤ suc k
-short zero n h = omega (arith, one-long n h)
-short (suc k) n h = go (ltb n 10) refl (λ e. short k (n / 10) (omega (arith, pow-succ' 10 (suc k))))
-  where
-    go : (t : Bool) → ltb n 10 ≡ t → (10 ≤ n → length (decimal (n / 10)) ≤ suc k) → length (decimal n) ≤ suc (suc k)
-    go true e ih = omega (arith, one-long n (ltb-true n 10 e))
-    go false e ih = omega (arith, more-long n (ltb-false n 10 e), ih (ltb-false n 10 e))
-
-pub ten-digits : (n : ℕ) → n < 2 ^ 32 → length (decimal n) ≤ 10
-ten-digits n h = short 9 n (omega arith)
+-- a number's text, copied to an offset
+pub number-stored : (l : List ℕ) (at k n : ℕ) (ys ds : List ℕ) → n < 2 ^ 32 → ys ≡ ds → ds ≡ text n → k ≡ length ds → at + length ds ≤ length l
+    → put_mid at k l ys ≡ sets l at (decimal n)
+number-stored l at k n ys ds h e d long fits =
+    put_mid-paste at k l ys ds (length ds) e (sym long) refl
+    ∙ (ap (λ (s : List ℕ). (take at l ++ s) ++ drop (at + length ds) l) (take_all (length ds) ds (omega arith))
+    ∙ (sym (sets-eq ds l at fits) ∙ ap (sets l at) (d ∙ same-decimal n h)))
 
 -- ---- fields
 

@@ -28,15 +28,18 @@ module _ (ps ds : List ℕ) (i : ℕ) where
     hits-here : hits_from ≡ hit (get_or ps i 0) (get_or ds i 0) ++ hits (drop (i + 1) ps) (drop (i + 1) ds)
     hits-here = ap₂ hits (from-here ps i h) (from-here ds i k) ∙ hits_more (get_or ps i 0) (get_or ds i 0) (drop (i + 1) ps) (drop (i + 1) ds)
 
-    pub hit-stored : (l : List ℕ) (at : ℕ) {last : List ℕ} {to : ℕ}
-        → last ≡ sets l at (hit (get_or ps i 0) (get_or ds i 0)) → to ≡ at + length (hit (get_or ps i 0) (get_or ds i 0))
-        → sets last to (hits (drop (i + 1) ps) (drop (i + 1) ds)) ≡ sets l at hits_from
-    hit-stored l at e f =
-        let rest = hits (drop (i + 1) ps) (drop (i + 1) ds) in
-        ap₂ (λ (a : List ℕ) (b : ℕ). sets a b rest) e f ∙ (sym (sets-append l at (hit (get_or ps i 0) (get_or ds i 0)) rest) ∙ ap (sets l at) (sym hits-here))
+    module _ {p d j : ℕ} (e : p ≡ get_or ps i 0) (f : d ≡ get_or ds i 0) (one : j ≡ i + 1) where
+      this-hit : hits_from ≡ hit p d ++ hits (drop j ps) (drop j ds)
+      this-hit = rw (e, f, one) hits-here
 
-    pub hits-long : length hits_from ≡ length (hit (get_or ps i 0) (get_or ds i 0)) + length (hits (drop (i + 1) ps) (drop (i + 1) ds))
-    hits-long = ap length hits-here ∙ length-append (hit (get_or ps i 0) (get_or ds i 0)) (hits (drop (i + 1) ps) (drop (i + 1) ds))
+      pub hit-stored : (l : List ℕ) (at : ℕ) {last : List ℕ} {to : ℕ} → last ≡ sets l at (hit p d) → to ≡ at + length (hit p d)
+          → sets last to (hits (drop j ps) (drop j ds)) ≡ sets l at hits_from
+      hit-stored l at g h =
+          let rest = hits (drop j ps) (drop j ds) in
+          ap₂ (λ (a : List ℕ) (b : ℕ). sets a b rest) g h ∙ (sym (sets-append l at (hit p d) rest) ∙ ap (sets l at) (sym this-hit))
+
+      pub hits-long : length hits_from ≡ length (hit p d) + length (hits (drop j ps) (drop j ds))
+      hits-long = ap length this-hit ∙ length-append (hit p d) (hits (drop j ps) (drop j ds))
 
   pub hits-end : length ps ≤ i → hits_from ≡ 10 ∷ []
   unfolding hits

@@ -6,39 +6,22 @@ ghost use Rattle.std.proofs.lemmas.List.Edits.{sets};
 ghost use Rattle.meaning.specs.Output.{output};
 ghost use Rattle.meaning.specs.Journal.{decimal, field, hits, search_line, refusal_line, last_line};
 
-// How many decimal digits n has.
-#[tactic(auto, unfolding(meaning::specs::Journal::decimal))]
-fn places(n: u32) -> usize
-    ensures value { result ≡ length (decimal n) }
-    ensures upper_bound { result ≤ 10 }
+// The decimal digits of a number at an offset. The offset behind them is given, here and below.
+// No `write!`: it gives a Result, and no contract says that it is Ok where the buffer has room.
+fn put_number(n: u32, out: &mut [u8], at: usize) -> usize
+    requires { at + 10 ≤ length out.old }
+    ensures out_after { out.new ≡ sets out.old at (decimal n) }
+    ensures value { result ≡ at + length (decimal n) }
+    ensures upper_bound { result ≤ at + 10 }
 {
-    let mut rest = n;
-    let mut k: usize = 1;
-    while rest >= 10 {
-        rest /= 10;
-        k += 1;
-    }
-    k
+    let mut buffer = itoa::Buffer::new();
+    let digits = buffer.format(n).as_bytes();
+    let end = at + digits.len();
+    out[at..end].copy_from_slice(digits);
+    end
 }
 
-// The k digits of n at an offset, from the last to the first.
-#[tactic(auto, unfolding(meaning::specs::Journal::decimal))]
-fn spell(n: u32, k: usize, out: &mut [u8], at: usize)
-    requires k_value { k ≡ length (decimal n) }
-    requires k_in_bounds { at + k ≤ length out.old }
-    ensures { out.new ≡ sets out.old at (decimal n) }
-{
-    let mut rest = n;
-    let mut i = k;
-    while rest >= 10 {
-        i -= 1;
-        out[at + i] = 48 + (rest % 10) as u8;
-        rest /= 10;
-    }
-    out[at] = 48 + rest as u8;
-}
-
-// A mark and a number at an offset. The offset behind them is given, here and below.
+// A mark and a number.
 #[tactic(auto, unfolding(meaning::specs::Journal::decimal))]
 fn put_marked(mark: u8, n: u32, out: &mut [u8], at: usize) -> usize
     requires { at + 11 ≤ length out.old }
@@ -46,10 +29,8 @@ fn put_marked(mark: u8, n: u32, out: &mut [u8], at: usize) -> usize
     ensures value { result ≡ at + length (mark ∷ decimal n) }
     ensures upper_bound { result ≤ at + 11 }
 {
-    let k = places(n);
     out[at] = mark;
-    spell(n, k, out, at + 1);
-    at + 1 + k
+    put_number(n, out, at + 1)
 }
 
 // A blank and a number.
@@ -83,11 +64,9 @@ fn put_hits(pages: &[u16], distances: &[u16], out: &mut [u8], at: usize) -> usiz
     ensures value { result ≡ at + length (hits pages.now distances.now) }
     ensures upper_bound { result ≤ length out.new }
 {
-    let mut i = 0;
     let mut to = at;
-    while i < pages.len() {
-        to = put_hit(pages[i] as u32, distances[i] as u32, out, to);
-        i += 1;
+    for (&page, &distance) in pages.iter().zip(distances) {
+        to = put_hit(u32::from(page), u32::from(distance), out, to);
     }
     out[to] = b'\n';
     to + 1

@@ -5,6 +5,7 @@ ghost use Rattle.std.specs.Prelude.{◌≡◌};
 ghost use Rattle.lent.specs.Lists.{lists, held};
 
 // The settings table, the node table and the page table.
+#[derive(Drop)]
 pub struct Index<'a> {
     pub settings: &'a mut [u32],
     pub nodes: &'a mut [u32],
@@ -21,6 +22,7 @@ pub struct View<'a> {
 }
 
 // The two lists of a search: page numbers, and at the same place how far each page is.
+#[derive(Drop)]
 pub struct Lists<'a> {
     pub pages: &'a mut [u16],
     pub distances: &'a mut [u16],
