@@ -1,4 +1,5 @@
 // The settings table: question 4, the opening that the table shows, its thresholds, the free link, and writing an opening.
+// That the table is long enough is a clause: a type for it would be two, to be read and to be written, made anew for every call.
 #![tactic(auto)]
 
 ghost use Rattle.std.specs.Prelude.{◌≡◌, ◌≤◌, ltb, length, get_or, set};
