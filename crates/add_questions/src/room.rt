@@ -13,7 +13,13 @@ use trie::span::enough_free;
 use trie_room::needed::nodes_needed;
 
 // How many nodes the trie of block j needs.
-fn block_needs(view: View<'_>, thresholds: &[u32], h: Header, sketch: &[u8], j: usize) -> Option<usize>
+fn block_needs(
+    view: View<'_>,
+    thresholds: &[u32],
+    h: Header,
+    sketch: &[u8],
+    j: usize,
+) -> Option<usize>
     requires lent { Lent h view.nodes.now view.pages.now view.sketches.now }
     requires thresholds_len { length thresholds.now ≡ 64 }
     requires fits { Fits h sketch.now }
@@ -53,7 +59,13 @@ fn all_needed(view: View<'_>, thresholds: &[u32], h: Header, sketch: &[u8]) -> O
 
 // Are so many free, from the free link on?
 #[tactic(auto, unfolding(layout::specs::Lengths::nodes_length))]
-pub fn room(view: View<'_>, thresholds: &[u32], h: Header, sketch: &[u8], free: u32) -> Result<(), Stop>
+pub fn room(
+    view: View<'_>,
+    thresholds: &[u32],
+    h: Header,
+    sketch: &[u8],
+    free: u32,
+) -> Result<(), Stop>
     requires lent { Lent h view.nodes.now view.pages.now view.sketches.now }
     requires thresholds_len { length thresholds.now ≡ 64 }
     requires fits { Fits h sketch.now }

@@ -6,10 +6,9 @@ ghost use Rattle.layout.specs.Lengths.{pages_length, sketches_length};
 ghost use Rattle.check_tables.specs.Pages.{page_fits, test_pages};
 
 use layout::Header;
+use layout::settings::CLASSES;
 use signature::signature_of;
 use sketch::symbols::in_range;
-
-const CLASSES: u32 = 64;
 
 #[tactic(auto, unfolding(layout::specs::Lengths::sketches_length, crate::specs::Pages::page_fits))]
 fn page_fits(pages: &[u32], sketches: &[u8], h: Header, p: usize) -> bool
