@@ -1,5 +1,6 @@
 // The words of the node table: a link with a byte above it, where the words of a node stand, and what a node is by its state.
 // Nodes are linked by numbers in one slice of words: the table is lent, and an index allocates nothing.
+// That the slice is long enough for its nodes is a clause (`NodeTable`): a table is lent as a slice, the form that document 01 names.
 ghost use Rattle.std.specs.Prelude.{◌≡◌, ◌≤◌, ◌<◌, set};
 ghost use Rattle.layout.specs.Nodes.{most_nodes, link_base, link_of, byte_of, chain_word, with_link, state_at, head_at};
 ghost use Rattle.layout.specs.Pages.{most_pages};

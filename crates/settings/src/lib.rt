@@ -29,6 +29,7 @@ pub fn limits(h: Header, thresholds: usize) -> bool
 }
 
 // Is each threshold in the table below 65,536? No branch: one pass joins their bits.
+// Not one function with `sketch::symbols::in_range`: there the limit is a number of bits, and bytes are joined.
 #[tactic(auto, unfolding(layout::specs::Settings::settings_of))]
 fn thresholds_fit(settings: &[u32]) -> bool
     requires { settings_length ≤ length settings.now }

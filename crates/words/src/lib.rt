@@ -5,7 +5,7 @@
 ghost use Rattle.std.specs.Prelude.{◌≡◌, true, false, ◌≢◌, ◌+◌, ◌/◌, ◌≤◌, ◌<◌, length};
 ghost use Rattle.words.specs.Bits.{with_bit, lowest, flag, with_flag, zeroed};
 
-// Is flag n of the words from `base` on set?
+// Is flag n of the words from `base` on set? That its word is in the table is a clause: a run of flags is a part of a lent table.
 #[tactic(auto, unfolding(crate::specs::Bits::flag, crate::specs::Bits::bit))]
 pub fn has(ws: &[u32], base: usize, n: usize) -> bool
     requires { base + n / 32 < length ws.now }
