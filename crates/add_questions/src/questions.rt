@@ -6,10 +6,9 @@ ghost use Rattle.refusals.specs.Refusals.{numbered};
 ghost use Rattle.entry.specs.Admission.{admission};
 
 use layout::Header;
+use layout::settings::CLASSES;
 use lent::View;
 use refusals::Refusal;
-
-const CLASSES: u32 = 64;
 
 // The opening where none of them says no, else the first that does.
 #[tactic(auto, unfolding(entry::specs::Admission::admission))]
