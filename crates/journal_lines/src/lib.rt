@@ -55,7 +55,7 @@ fn put_hit(page: u32, distance: u32, out: &mut [u8], at: usize) -> usize
     put_marked(b':', distance, out, colon)
 }
 
-// The hits, and the end of the line.
+// The hits, and the end of the line. Pages and distances are two lists, here and below, as a search is lent them.
 #[tactic(auto, unfolding(meaning::specs::Journal::hits))]
 fn put_hits(pages: &[u16], distances: &[u16], out: &mut [u8], at: usize) -> usize
     requires pages_len { length pages.now ≡ length distances.now }
@@ -72,7 +72,8 @@ fn put_hits(pages: &[u16], distances: &[u16], out: &mut [u8], at: usize) -> usiz
     to + 1
 }
 
-// `S`, the reader, the count and the hits. The length of the line is given, here and below.
+// `S`, the reader, the count and the hits. The length of the line is given, here and below, and not the line: of a buffer whose part is
+// given back, `out_after` could not say what it holds.
 #[tactic(auto, unfolding(meaning::specs::Journal::search_line))]
 pub fn search_line(reader: u32, pages: &[u16], distances: &[u16], out: &mut [u8]) -> usize
     requires pages_len { length pages.now ≡ length distances.now }
