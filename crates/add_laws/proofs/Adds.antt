@@ -1,11 +1,13 @@
 -- `add_page` keeps the promise of an add.
-use Rattle.std.specs.Prelude.{Result, Ok, Err}
+use Rattle.std.specs.Prelude.{Option, Some, None, Result, Ok, Err}
 use Rattle.layout.specs.declared.Header.{Header}
 use Prim.Native.Nat.{ℕ, ◌+◌, ◌*◌, ◌<◌}
 use native.Mathlib.Omega.{arith}
 use mathlib.Core.Path.{◌≡◌, refl, sym, ap, ◌∙◌, subst}
 use mathlib.Core.Bool.{Bool, true, false, cond}
 use mathlib.Core.Logic.{◌≢◌, inl, inr}
+use Rattle.trie.specs.declared.Stop.{Stop}
+use Rattle.trie.specs.declared.Stop.TheVariants.{Full, Broken}
 use mathlib.Core.List.{List, []}
 use lib.ListN.{get_or, set, take}
 use lib.Seq.{take-set-lt}
@@ -18,9 +20,6 @@ use Rattle.layout.specs.Pages.{with_page, links_at}
 use Rattle.layout.specs.Signature.{signature}
 use Rattle.layout.proofs.Rows.{length-with-row}
 use Rattle.layout.proofs.Words.{page-inside, signature-inside}
-use Rattle.trie.specs.declared.span.Span.{Span}
-use Rattle.trie.specs.declared.span.Span.TheVariants.{Enough, Short}
-use Rattle.trie.specs.declared.span.Span.TheVariants as spans
 use Rattle.blocks.specs.Tables.{RowTable}
 use Rattle.blocks.specs.RowBytes.{rows_of as block_rows}
 use Rattle.blocks.proofs.RowBytes.{rows-table}
@@ -33,9 +32,6 @@ use Rattle.promises.specs.Store.{SameRest, Outcome, outcome, AddPromise}
 use Rattle.store.specs.Within.{Within}
 use Rattle.store.proofs.Within.{within_none, within_both, within-set, within-less}
 use Rattle.store.proofs.Same.{same_tables, same-stopped}
-use Rattle.add_laws.specs.declared.Inserted.{Inserted}
-use Rattle.add_laws.specs.declared.Inserted.TheVariants.{Free}
-use Rattle.add_laws.specs.declared.Inserted.TheVariants as insertion
 use Rattle.entry.specs.Admission.{admission}
 use Rattle.entry.proofs.Admits.{admission-refused}
 use Rattle.add_laws.specs.Room.{room_of}
@@ -48,15 +44,18 @@ use Rattle.add_laws.proofs.KeepsAsked.{room12}
 use Rattle.add_laws.proofs.KeepsAdd.{filled-sound, never-stopped}
 
 -- ---- answers to question 12
-is-short : (t : Bool) → cond t Enough Short ≡ Short → t ≡ false
+abbrev room_by_test : Bool → Result (Unit {0}) Stop
+room_by_test t = cond t (Ok tt) (Err Full)
+
+is-short : (t : Bool) → room_by_test t ≡ Err Full → t ≡ false
 is-short true e = let w : ◌≡◌ {A = ℕ} 0 1 = cc in absurd (omega arith)
 is-short false e = refl
 
-is-enough : (t : Bool) → cond t Enough Short ≡ Enough → t ≡ true
+is-enough : (t : Bool) → room_by_test t ≡ Ok tt → t ≡ true
 is-enough true e = refl
 is-enough false e = let w : ◌≡◌ {A = ℕ} 0 1 = cc in absurd (omega arith)
 
-never-broken : (t : Bool) → cond t Enough Short ≡ spans.Broken → ⊥
+never-broken : (t : Bool) → room_by_test t ≡ Err Broken → ⊥
 never-broken true e = let w : ◌≡◌ {A = ℕ} 0 1 = cc in omega arith
 never-broken false e = let w : ◌≡◌ {A = ℕ} 0 1 = cc in omega arith
 
@@ -78,7 +77,7 @@ page-within s p c g l P =
     (within-set (set P p (1 + c)) (s.pages + p) g (omega arith) (signature-inside s l))
 
 -- ---- the answers of `room` and of `insert_all`
-abbrev room_found : Tables → List ℕ → Span
+abbrev room_found : Tables → List ℕ → Result (Unit {0}) Stop
 room_found T x = room_of (given T) T.nodes T.pages T.sketches x (get_or T.settings free_at 0)
 
 abbrev all_inserted : Tables → ℕ → ℕ → List ℕ → Filled
@@ -103,10 +102,10 @@ module _ (T : Tables) (p c : ℕ) (x : List ℕ) where
 
   module _ (z : number T [] (add p c x) ≡ 0) (ok : Passed T (header_of (given T)) p x) where
     -- question 12, on a sound store
-    room_by : (F : List Tree) → Sound T F → room_found T x ≡ cond (room12 T p c x F) Enough Short
+    room_by : (F : List Tree) → Sound T F → room_found T x ≡ cond (room12 T p c x F) (Ok tt) (Err Full)
     room_by F s = room-right T F s (roomy (given T) T.nodes T.pages T.sketches ok.lent) p c x ok.fits.count ok.fits.range ok.dead
 
-    pub promise-short : room_found T x ≡ Short → AddPromise T p c x 12 T
+    pub promise-short : room_found T x ≡ Err Full → AddPromise T p c x 12 T
     promise-short e = record {
       early = λ g. absurd (g z);
       sound = λ F s. record {
@@ -121,7 +120,7 @@ module _ (T : Tables) (p c : ℕ) (x : List ℕ) where
       late = λ g. inr (inl refl);
     }
 
-    pub promise-broken : room_found T x ≡ spans.Broken → AddPromise T p c x 14 T
+    pub promise-broken : room_found T x ≡ Err Broken → AddPromise T p c x 14 T
     promise-broken e = record {
       early = λ g. absurd (g z);
       sound = λ F s. absurd (never-broken (room12 T p c x F) (sym (room_by F s) ∙ e));
@@ -134,7 +133,7 @@ module _ (T : Tables) (p c : ℕ) (x : List ℕ) where
     }
 
     -- there is room
-    module _ (e : room_found T x ≡ Enough) (N P : List ℕ) (i : Inserted) (f : all_inserted T p c x ≡ filled N P i) where
+    module _ (e : room_found T x ≡ (Ok tt)) (N P : List ℕ) (i : Option ℕ) (f : all_inserted T p c x ≡ filled N P i) where
       none : (F : List Tree) → Sound T F → number T F (add p c x) ≡ 0
       none F s = asked-12 T p c x F z ∙ ap (λ (t : Bool). cond t 0 12) (is-enough (room12 T p c x F) (sym (room_by F s) ∙ e))
 
@@ -165,7 +164,7 @@ module _ (T : Tables) (p c : ℕ) (x : List ℕ) where
         pages-rest = q.back;
       }
 
-      pub promise-stopped : i ≡ insertion.Broken → AddPromise T p c x 14 (tables T.settings N P (row_added T p c x) T.working)
+      pub promise-stopped : i ≡ None → AddPromise T p c x 14 (tables T.settings N P (row_added T p c x) T.working)
       promise-stopped m = record {
         early = λ g. absurd (g z);
         sound = λ F s. absurd (never-stopped T F p c x s (none F s) N P (f ∙ ap (filled N P) m));
@@ -177,7 +176,7 @@ module _ (T : Tables) (p c : ℕ) (x : List ℕ) where
         late = λ g. inr (inr refl);
       }
 
-      pub promise-done : (l : ℕ) → i ≡ Free l → AddPromise T p c x 0 (page_added T p c x N P l)
+      pub promise-done : (l : ℕ) → i ≡ Some l → AddPromise T p c x 0 (page_added T p c x N P l)
       promise-done l m = record {
         early = λ g. absurd (g z);
         sound = λ F s. record {
@@ -198,22 +197,22 @@ module _ (T : Tables) (p c : ℕ) (x : List ℕ) where
   abbrev Keeps : Outcome → Type 0
   Keeps (outcome n T') = AddPromise T p c x n T'
 
-  put_keeps : (z : number T [] (add p c x) ≡ 0) → room_found T x ≡ Enough → Keeps (put_page T p c x)
+  put_keeps : (z : number T [] (add p c x) ≡ 0) → room_found T x ≡ Ok tt → Keeps (put_page T p c x)
   unfolding put_page
   put_keeps z e = go (all_inserted T p c x) refl
     where
       go : (r : Filled) → all_inserted T p c x ≡ r → Keeps (on_filled T p c x r)
-      go (filled N P (Free l)) f = promise-done z (passed T p c x [] z) e N P (Free l) f l refl
-      go (filled N P insertion.Broken) f = promise-stopped z (passed T p c x [] z) e N P insertion.Broken f refl
+      go (filled N P (Some l)) f = promise-done z (passed T p c x [] z) e N P (Some l) f l refl
+      go (filled N P None) f = promise-stopped z (passed T p c x [] z) e N P None f refl
 
   place-keeps : (z : number T [] (add p c x) ≡ 0) → Keeps (place_page T p c x)
   unfolding place_page
   place-keeps z = go (room_found T x) refl
     where
-      go : (q : Span) → room_found T x ≡ q → Keeps (on_room T p c x q)
-      go Enough e = put_keeps z e
-      go Short e = promise-short z (passed T p c x [] z) e
-      go spans.Broken e = promise-broken z (passed T p c x [] z) e
+      go : (q : Result (Unit {0}) Stop) → room_found T x ≡ q → Keeps (on_room T p c x q)
+      go (Ok u) e = put_keeps z e
+      go (Err Full) e = promise-short z (passed T p c x [] z) e
+      go (Err Broken) e = promise-broken z (passed T p c x [] z) e
 
   add-keeps : Keeps (add_page T p c x)
   unfolding add_page

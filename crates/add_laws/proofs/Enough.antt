@@ -1,4 +1,5 @@
 -- On tables that hold a trie for each block, the nodes that an add needs are those of the insertions.
+use Rattle.std.specs.Prelude.{Some}
 use Prim.Native.Nat.{ℕ, suc, ◌+◌, ◌≤◌, ◌<◌}
 use native.Mathlib.Omega.{arith}
 use mathlib.Core.Path.{◌≡◌, sym, ap, ◌∙◌}
@@ -18,7 +19,6 @@ use Rattle.trie_laws.specs.Block.{SoundBlock, EachFrom}
 use Rattle.trie_laws.specs.Needed.{needed, sum_from}
 use Rattle.trie_laws.proofs.Pages.{stands-any}
 use Rattle.trie.proofs.Arrival.{Leads, sound-leads}
-use Rattle.leaf_bytes.specs.declared.Needed.TheVariants.{Nodes}
 use Rattle.blocks.specs.Tables.{Roomy}
 use Rattle.blocks.specs.RowBytes.{row_bytes}
 use Rattle.trie_room.proofs.Block.{needed-block}
@@ -59,7 +59,7 @@ module _ (s : Settings) (x : List ℕ) (count : length x ≡ s.symbols) (range :
 
       block-right : (j : ℕ) (t : Phys) (G : Cells) → j < s.blocks →
           State s.nodes s.pages (next_at s.pages j) N P free t fs G → root t ≡ j → SoundBlock s bytes live j (tree t) →
-          block_needs s N P S x j ≡ Nodes (needs s bytes p j (tree t))
+          block_needs s N P S x j ≡ Some (needs s bytes p j (tree t))
       unfolding block_needs
       block-right j t G l st r b =
           rw (r, bytes-length s j l x count) at
@@ -69,12 +69,12 @@ module _ (s : Settings) (x : List ℕ) (count : length x ≡ s.symbols) (range :
       pub needed-from : (ts : List Phys) (a j : ℕ) (G : Cells) → j + length ts ≤ s.blocks →
           Heap N P (tries_cells s.nodes s.pages j ts ⊕ free_cells s.nodes fs ⊕ G) → Rooted s.nodes s.pages j ts →
           EachFrom (SoundBlock s bytes live) j (map tree ts) →
-          needed_from (block_needs s N P S x) a j (length ts) ≡ Nodes (a + sum_from (needs s bytes p) j (map tree ts))
+          needed_from (block_needs s N P S x) a j (length ts) ≡ Some (a + sum_from (needs s bytes p) j (map tree ts))
       unfolding needed_from sum_from
-      needed-from [] a j G l h r b = ap Nodes (omega arith)
+      needed-from [] a j G l h r b = ap Some (omega arith)
       needed-from (t ∷ ts) a j G l h r b =
           rw (block-right j t (tries_cells s.nodes s.pages (suc j) ts ⊕ G) (omega arith) (trie-state j t ts G (omega arith) h r.1) r.0 b.0)
           (needed-from ts (a + needs s bytes p j (tree t)) (suc j) (cells s.nodes (next_at s.pages j) t ⊕ G) (omega arith)
           (less (one-past (cells s.nodes (next_at s.pages j) t) (tries_cells s.nodes s.pages (suc j) ts) (free_cells s.nodes fs) G) h)
           r.2 b.1
-          ∙ ap Nodes (omega arith))
+          ∙ ap Some (omega arith))

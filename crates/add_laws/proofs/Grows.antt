@@ -1,4 +1,5 @@
 -- On tables that hold a trie for each block, `insert_from` inserts the page into each, if there are free nodes enough.
+use Rattle.std.specs.Prelude.{Some}
 use Prim.Native.Nat.{ℕ, suc, ◌+◌, ◌≤◌, ◌<◌}
 use native.Mathlib.Omega.{arith}
 use mathlib.Core.Path.{◌≡◌, refl, ap, ◌∙◌, subst}
@@ -28,7 +29,6 @@ use Rattle.blocks.proofs.RowBytes.{level-byte}
 use Rattle.blocks.proofs.BlockBytes.{octets}
 use Rattle.store.proofs.Cells.{one-back}
 use Rattle.promises.specs.Sound.{tries_cells, Rooted}
-use Rattle.add_laws.specs.declared.Inserted.TheVariants.{Free}
 use Rattle.add_laws.specs.Insert.{Filled, on_insert, insert_block, insert_from}
 use Rattle.add_laws.specs.Insert.{filled as done}
 use Rattle.add_laws.proofs.Enough.{needs, leads}
@@ -56,7 +56,7 @@ pub record GrownFrom (s : Settings) (j total : ℕ) (want : List Tree) (G : Cell
   pub free_to : ℕ
   pub to : List Phys
   pub frees_to : List ℕ
-  pub is : R ≡ done nodes_to pages_to (Free free_to)
+  pub is : R ≡ done nodes_to pages_to (Some free_to)
   pub heap : Heap nodes_to pages_to (tries_cells s.nodes s.pages j to ⊕ free_cells s.nodes frees_to ⊕ G)
   pub roots : Rooted s.nodes s.pages j to
   pub chain : free_to ≡ first frees_to

@@ -1,6 +1,7 @@
 -- An add keeps the store sound: on a sound store with the tries F, where no question refuses the add, `insert_all` is not stopped, and the
 -- tables with its nodes and pages, the free link, the page live in its class, and its signature and row written are sound, with the tries that
 -- `forest_after` gives.
+use Rattle.std.specs.Prelude.{Some, None}
 use Prim.Native.Nat.{ℕ, ◌+◌, ◌-◌, ◌<◌}
 use native.Mathlib.Decide.{ℕ_discrete}
 use native.Mathlib.Omega.{arith}
@@ -30,8 +31,6 @@ use Rattle.promises.specs.Tables.{Tables, given, page_class, page_row, rows_of}
 use Rattle.promises.specs.Answers.{number}
 use Rattle.promises.specs.Sound.{Holding, Sound, SoundPage, live_page, page_bytes}
 use Rattle.promises.proofs.Stores.{tries-count, entries-kept}
-use Rattle.add_laws.specs.declared.Inserted.TheVariants.{Free}
-use Rattle.add_laws.specs.declared.Inserted.TheVariants as insertion
 use Rattle.add_laws.specs.Insert.{filled, insert_all}
 use Rattle.add_laws.specs.Add.{row_added, page_written, page_added}
 use Rattle.add_laws.proofs.Grows.{inserts}
@@ -43,7 +42,7 @@ pub record InsertedSound (T : Tables) (F : List Tree) (p c : ℕ) (x : List ℕ)
   pub nodes : List ℕ
   pub pages : List ℕ
   pub link : ℕ
-  pub is : insert_all (given T) (row_added T p c x) x p T.nodes T.pages (get_or T.settings free_at 0) ≡ filled nodes pages (Free link)
+  pub is : insert_all (given T) (row_added T p c x) x p T.nodes T.pages (get_or T.settings free_at 0) ≡ filled nodes pages (Some link)
   pub sound : Sound (page_added T p c x nodes pages link) (forest_after (given T) (rows_of T) (add p c x) F)
 
 module _ (T : Tables) (F : List Tree) (sound : Sound T F) (p c : ℕ) (x : List ℕ) (a : Accepted T F p c x) (G : Placed T F p c x) where
@@ -161,20 +160,20 @@ insert-sound T F p c x sound e =
 
 -- of the tables that `insert_all` gives
 module _ (T : Tables) (F : List Tree) (p c : ℕ) (x : List ℕ) (sound : Sound T F) (e : number T F (add p c x) ≡ 0) (N P : List ℕ) where
-  pub filled-sound : (link : ℕ) → insert_all (given T) (row_added T p c x) x p T.nodes T.pages (get_or T.settings free_at 0) ≡ filled N P (Free link)
+  pub filled-sound : (link : ℕ) → insert_all (given T) (row_added T p c x) x p T.nodes T.pages (get_or T.settings free_at 0) ≡ filled N P (Some link)
       → Sound (page_added T p c x N P link) (forest_after (given T) (rows_of T) (add p c x) F)
   filled-sound link f =
       let I = insert-sound T F p c x sound e in
-      let same : filled I.nodes I.pages (Free I.link) ≡ filled N P (Free link) = sym I.is ∙ f in
+      let same : filled I.nodes I.pages (Some I.link) ≡ filled N P (Some link) = sym I.is ∙ f in
       let n : I.nodes ≡ N = cc in
       let q : I.pages ≡ P = cc in
       let l : I.link ≡ link = cc in
       rw (n, q, l) at I.sound
 
-  pub never-stopped : insert_all (given T) (row_added T p c x) x p T.nodes T.pages (get_or T.settings free_at 0) ≡ filled N P insertion.Broken → ⊥
+  pub never-stopped : insert_all (given T) (row_added T p c x) x p T.nodes T.pages (get_or T.settings free_at 0) ≡ filled N P None → ⊥
   never-stopped f =
       let I = insert-sound T F p c x sound e in
-      let same : filled I.nodes I.pages (Free I.link) ≡ filled N P insertion.Broken = sym I.is ∙ f in
-      let r : Free I.link ≡ insertion.Broken = cc in
+      let same : filled I.nodes I.pages (Some I.link) ≡ filled N P None = sym I.is ∙ f in
+      let r : Some I.link ≡ None = cc in
       let z : ◌≡◌ {A = ℕ} 0 1 = cc in
       omega arith

@@ -1,4 +1,5 @@
 -- On a sound store an add that no question refuses puts its page into the trie of every block; the page words and signatures stay.
+use Rattle.std.specs.Prelude.{Some}
 use Prim.Native.Nat.{ℕ, ◌+◌, ◌*◌, ◌≤◌, ◌<◌}
 use native.Mathlib.Omega.{arith}
 use mathlib.Core.Path.{◌≡◌, sym, ap, ◌∙◌}
@@ -24,7 +25,6 @@ use Rattle.blocks.proofs.RowBytes.{rows-table}
 use Rattle.blocks.proofs.Tables.{roomy}
 use Rattle.promises.specs.Tables.{Tables, given, rows_of}
 use Rattle.promises.specs.Sound.{Sound, live_page, tries_cells, Rooted}
-use Rattle.add_laws.specs.declared.Inserted.TheVariants.{Free}
 use Rattle.add_laws.specs.Insert.{filled, insert_from, insert_all}
 use Rattle.add_laws.specs.Add.{row_added, page_written}
 use Rattle.add_laws.proofs.Enough.{needs}
@@ -41,7 +41,7 @@ pub record Placed (T : Tables) (F : List Tree) (p c : ℕ) (x : List ℕ) : Type
   pub link : ℕ
   pub to : List Phys
   pub free : List ℕ
-  pub is : insert_all (given T) (row_added T p c x) x p T.nodes T.pages (get_or T.settings free_at 0) ≡ filled nodes_to pages_to (Free link)
+  pub is : insert_all (given T) (row_added T p c x) x p T.nodes T.pages (get_or T.settings free_at 0) ≡ filled nodes_to pages_to (Some link)
   pub words : Heap nodes_to (page_written T p c x pages_to) (tries_cells (given T).nodes (given T).pages 0 to ⊕ free_cells (given T).nodes free)
   pub roots : Rooted (given T).nodes (given T).pages 0 to
   pub chain : link ≡ first free

@@ -3,6 +3,7 @@ use Prim.Native.Nat.{ℕ, zero, suc, ◌+◌, ◌-◌, ◌≤◌, ◌<◌}
 use native.Mathlib.Omega.{arith}
 use mathlib.Core.Path.{◌≡◌, refl}
 use mathlib.Core.Bool.{Bool, true, false, cond}
+use Rattle.std.specs.Prelude.{Ok, Err}
 use mathlib.Core.List.{List}
 use borrow.Author.Tests.{eqb-false, ltb-false}
 use lib.Dec.{ltb, eqb}
@@ -18,14 +19,14 @@ use Rattle.layout.specs.declared.nodes.Kind.{Kind}
 use Rattle.layout.specs.declared.nodes.Kind.TheVariants as kind
 use Rattle.blocks.specs.declared.Level.{Level}
 use Rattle.blocks.specs.declared.Rows.{Rows}
-use Rattle.trie.specs.declared.leaf.Got.TheVariants.{Node, Full}
-use Rattle.trie.specs.declared.leaf.Got.TheVariants as got
+use Rattle.trie.specs.declared.Stop.TheVariants.{Full}
+use Rattle.trie.specs.declared.Stop.TheVariants as stop
 use Rattle.children.specs.declared.place.Place.{Place}
 use Rattle.children.specs.declared.place.Place.TheVariants.{Found, Missing, Broken}
 use Rattle.blocks.specs.Tables.{RowTable}
 use Rattle.blocks.specs.Packed.{page_byte, level_at}
 use Rattle.children.specs.Places.{Inside, find_place}
-use Rattle.trie.specs.Model.{Made, made, link_leaf, node_in, fresh_leaf, made_at, child_leaf}
+use Rattle.trie.specs.Model.{grown, Made, made, link_leaf, node_in, fresh_leaf, made_at, child_leaf}
 use Rattle.children.proofs.Places.{find-inside}
 use Rattle.blocks.proofs.Bytes.{level-table, byte_small}
 use Rattle.blocks.proofs.Tables.{links-high}
@@ -34,8 +35,6 @@ use Rattle.trie.specs.declared.path.Reach.TheVariants.{Leaf, Gap}
 use Rattle.trie.specs.declared.path.Reach.TheVariants as reach
 use Rattle.trie.specs.Descend.{descend_to, Inside as ReachInside}
 use Rattle.trie.proofs.Inside.{descend-inside}
-use Rattle.trie_insert.specs.declared.insert.Target.TheVariants.{Ready, NoRoom}
-use Rattle.trie_insert.specs.declared.insert.Target.TheVariants as target
 use Rattle.trie_insert.specs.Pages.{Pushed, pushed, push_at, push_page, After, after, put_done, put_into, put_leaf_m}
 use Rattle.trie_insert.specs.Split.{on_put, split_from, open_leaf, too_long, split_leaf, grow_by, grow_into, grow_leaf}
 use Rattle.trie_insert.specs.Insert.{Aimed, aimed, target_in, aim_made, aim_at, leaf_for, insert_at, insert_page}
@@ -63,7 +62,7 @@ module _ (cap : ℕ) where
   fresh_kept N s b free ls = go (eqb free 0) refl (ltb cap free) refl
     where
       go : (t : Bool) → eqb free 0 ≡ t → (u : Bool) → ltb cap free ≡ u →
-          KeptM N (cond t (made N Full) (cond u (made N got.Broken) (made (link_leaf N cap s (free - 1) b) (Node (free - 1) (get_or N (free - 1) 0)))))
+          KeptM N (cond t (made N (Err Full)) (cond u (made N (Err stop.Broken)) (made (link_leaf N cap s (free - 1) b) (Ok (grown (free - 1) (get_or N (free - 1) 0))))))
       go true e u f = (within_none, omega arith)
       go false e true f = (within_none, omega arith)
       go false e false f =
@@ -85,13 +84,12 @@ module _ (cap : ℕ) where
     aim_kept root free l = go (descend_to N cap root Y) (descend-inside N cap Y octets root l)
       where
         fresh : (k : ℕ) (m : Made) → KeptM N m → KeptA N (aim_made k m)
-        fresh k (made N' (Node n free)) e = e
-        fresh k (made N' Full) e = e
-        fresh k (made N' got.Broken) e = e
+        fresh k (made N' (Ok g)) e = e
+        fresh k (made N' (Err why)) e = e
 
         go : (q : Reach) → ReachInside cap (length Y) q → KeptA N (aim_at N cap Y free q)
-        go (Leaf n s k) i = (within_none, omega arith)
-        go (Gap n s k) i = fresh (k + 1) (fresh_leaf N cap s (get_or Y k 0) free) (fresh_kept N s (get_or Y k 0) free i.1)
+        go (Leaf at) i = (within_none, omega arith)
+        go (Gap at) i = fresh (at.level + 1) (fresh_leaf N cap at.slot (get_or Y at.level 0) free) (fresh_kept N at.slot (get_or Y at.level 0) free i.1)
         go reach.Broken i = (within_none, omega arith)
 
 -- ---- both tables, of cap nodes, and pages inside lo .. hi
@@ -121,13 +119,12 @@ module _ (cap pcap base lo hi : ℕ) (low : lo ≤ base) (high : base + pcap ≤
   put-kept N P n b p free ln lb lp = go (child_leaf N cap n b free) (child-kept cap N n b free ln lb)
     where
       into : (N' : List ℕ) (c next : ℕ) → Within 0 (node_words cap) N N' → (q : Pushed) → KeptP cap lo hi N' P q → Kept cap lo hi N P (put_done c next q)
-      into N' c next e (pushed N'' P'' true) h = (within_both e h.0, h.1)
-      into N' c next e (pushed N'' P'' false) h = (within_both e h.0, h.1)
+      into N' c next e (pushed N'' P'' (Ok u)) h = (within_both e h.0, h.1)
+      into N' c next e (pushed N'' P'' (Err why)) h = (within_both e h.0, h.1)
 
       go : (m : Made) → KeptM cap N m → Kept cap lo hi N P (put_into P cap base p m)
-      go (made N' (Node c next)) e = into N' c next e.0 (push_page N' P cap base c p) (push_kept N' P c p (omega (arith, e.1)) lp)
-      go (made N' Full) e = (e.0, within_none)
-      go (made N' got.Broken) e = (e.0, within_none)
+      go (made N' (Ok g)) e = into N' g.node g.free e.0 (push_page N' P cap base g.node p) (push_kept N' P g.node p (omega (arith, e.1)) lp)
+      go (made N' (Err why)) e = (e.0, within_none)
 
   -- one change after another
   onto : (N P N' P' : List ℕ) → Within 0 (node_words cap) N N' → Within lo hi P P' → (a : After) → Kept cap lo hi N' P' a → Kept cap lo hi N P a
@@ -145,15 +142,14 @@ module _ (cap pcap base lo hi : ℕ) (low : lo ≤ base) (high : base + pcap ≤
       where
         go : (t : Bool) → eqb l 0 ≡ t → (u : Bool) → ltb pcap l ≡ u → (a : After) → (l - 1 < pcap → Kept cap lo hi N P a)
             → ((N' P' : List ℕ) (free' : ℕ) → Kept cap lo hi N' P' (split_from S v cap pcap base n N' P' (get_or P (base + (l - 1)) 0) free' f))
-            → Kept cap lo hi N P (cond t (after N P (Node n free)) (cond u (after N P got.Broken)
+            → Kept cap lo hi N P (cond t (after N P (Ok (grown n free))) (cond u (after N P (Err stop.Broken))
             (on_put (λ N' P' free'. split_from S v cap pcap base n N' P' (get_or P (base + (l - 1)) 0) free' f) a)))
         go true e u m a h ih = (within_none, within_none)
         go false e true m a h ih = (within_none, within_none)
-        go false e false m (after N' P' (Node c free')) h ih =
+        go false e false m (after N' P' (Ok g)) h ih =
             let k = h (omega (arith, eqb-false l 0 e, ltb-false pcap l m)) in
-            onto N P N' P' k.0 k.1 (split_from S v cap pcap base n N' P' (get_or P (base + (l - 1)) 0) free' f) (ih N' P' free')
-        go false e false m (after N' P' Full) h ih = h (omega (arith, eqb-false l 0 e, ltb-false pcap l m))
-        go false e false m (after N' P' got.Broken) h ih = h (omega (arith, eqb-false l 0 e, ltb-false pcap l m))
+            onto N P N' P' k.0 k.1 (split_from S v cap pcap base n N' P' (get_or P (base + (l - 1)) 0) g.free f) (ih N' P' g.free)
+        go false e false m (after N' P' (Err why)) h ih = h (omega (arith, eqb-false l 0 e, ltb-false pcap l m))
 
     module _ (τ : List ℕ) (r : Rows) (rows : RowTable pcap r S) where
       by-kept : (N P : List ℕ) (k n p free : ℕ) → n < cap → (q : Bool) → Kept cap lo hi N P (grow_by S τ r cap pcap base N P k n p free q)
@@ -169,8 +165,8 @@ module _ (cap pcap base lo hi : ℕ) (low : lo ≤ base) (high : base + pcap ≤
       grow-kept N P k n p free ln lp = go (push_page N P cap base n p) (push_kept N P n p ln lp)
         where
           go : (q : Pushed) → KeptP cap lo hi N P q → Kept cap lo hi N P (grow_into S τ r cap pcap base k n p free q)
-          go (pushed N' P' false) h = h
-          go (pushed N' P' true) h =
+          go (pushed N' P' (Err why)) h = h
+          go (pushed N' P' (Ok u)) h =
               onto N P N' P' h.0 h.1 (grow_by S τ r cap pcap base N' P' k n p free (too_long τ r N' cap k n))
               (by-kept N' P' k n p free ln (too_long τ r N' cap k n))
 
@@ -180,10 +176,9 @@ module _ (cap pcap base lo hi : ℕ) (low : lo ≤ base) (high : base + pcap ≤
       insert-kept N P Y octets root p free lr lp = go (leaf_for N cap Y root free) (aim_kept cap N Y octets root free lr)
         where
           go : (q : Aimed) → KeptA cap N q → Kept cap lo hi N P (insert_at S τ r cap pcap base P p q)
-          go (aimed N' (Ready n k next)) e =
-              onto N P N' P e.0 within_none (grow_leaf S τ r cap pcap base N' P k n p next) (grow-kept N' P k n p next (omega (arith, e.1)) lp)
-          go (aimed N' NoRoom) e = (e.0, within_none)
-          go (aimed N' target.Broken) e = (e.0, within_none)
+          go (aimed N' (Ok t)) e =
+              onto N P N' P e.0 within_none (grow_leaf S τ r cap pcap base N' P t.level t.leaf p t.free) (grow-kept N' P t.level t.leaf p t.free (omega (arith, e.1)) lp)
+          go (aimed N' (Err why)) e = (e.0, within_none)
 
 -- ---- the blocks of an add
 module _ (s : Settings) (S x : List ℕ) (p : ℕ) (page : p < s.pages)
@@ -210,9 +205,8 @@ module _ (s : Settings) (S x : List ℕ) (p : ℕ) (page : p < s.pages)
       go : (a : After) → Kept s.nodes (links_at s.pages) (pages_length s) N P a
           → ((N' P' : List ℕ) (free' : ℕ) → KeptAll N' P' (insert_from s S x p k (suc j) N' P' free'))
           → KeptAll N P (on_insert (λ N' P' free'. insert_from s S x p k (suc j) N' P' free') a)
-      go (after N' P' (Node n free')) h ih = more N' P' h (insert_from s S x p k (suc j) N' P' free') (ih N' P' free')
-      go (after N' P' Full) h ih = h
-      go (after N' P' got.Broken) h ih = h
+      go (after N' P' (Ok g)) h ih = more N' P' h (insert_from s S x p k (suc j) N' P' g.free) (ih N' P' g.free)
+      go (after N' P' (Err why)) h ih = h
 
   pub all-kept : s.blocks ≤ s.nodes → (N P : List ℕ) (free : ℕ) → KeptAll N P (insert_all s S x p N P free)
   unfolding insert_all

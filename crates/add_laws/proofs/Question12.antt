@@ -1,4 +1,5 @@
 -- On a sound store `room_of` answers question 12.
+use Rattle.std.specs.Prelude.{Some, Ok, Err}
 use Prim.Native.Nat.{ℕ, ◌+◌}
 use native.Mathlib.Omega.{arith}
 use mathlib.Core.Path.{◌≡◌, refl, sym, ap, ◌∙◌}
@@ -12,15 +13,14 @@ use Rattle.meaning.specs.Trie.{Tree}
 use Rattle.meaning.specs.Ledger.{add}
 use Rattle.meaning.specs.Forest.{forest_after, total_nodes}
 use Rattle.layout.specs.Settings.{free_at}
-use Rattle.trie.specs.declared.span.Span.TheVariants.{Enough, Short}
 use Rattle.children.specs.Heap.{nil}
 use Rattle.children.proofs.Frame.{less}
+use Rattle.trie.specs.declared.Stop.TheVariants.{Full}
 use Rattle.trie.proofs.Spans.{free-span}
 use Rattle.trie_laws.specs.Block.{SoundBlock, EachFrom}
 use Rattle.trie_laws.specs.Needed.{sum_from}
 use Rattle.trie_laws.proofs.Forest.{total-add}
 use Rattle.trie_laws.proofs.Block.{agree-forest}
-use Rattle.leaf_bytes.specs.declared.Needed.TheVariants.{Nodes}
 use Rattle.blocks.specs.Tables.{Roomy}
 use Rattle.promises.specs.Tables.{Tables, given, rows_of}
 use Rattle.promises.specs.Sound.{Sound, live_page, page_bytes}
@@ -48,7 +48,7 @@ module _ (T : Tables) (F : List Tree) (sound : Sound T F) (roomy : Roomy (given 
   pub new_needs : ℕ
   new_needs = sum_from (needs (given T) (new_bytes T p c x) p) 0 F
 
-  all_right : all_needed (given T) T.nodes T.pages T.sketches x ≡ Nodes new_needs
+  all_right : all_needed (given T) T.nodes T.pages T.sketches x ≡ Some new_needs
   unfolding all_needed new_needs
   all_right =
       let H = sound.holding in
@@ -57,16 +57,16 @@ module _ (T : Tables) (F : List Tree) (sound : Sound T F) (roomy : Roomy (given 
       T.sketches (λ j q l live. new-rows T p c x dead sound.pages j q live)
       roomy sound.free H.chain H.below sound.tries 0 0 nil (omega (arith, H.blocks)) (less (beside_none _ _) H.words) H.roots
       (rw sound.forest new-blocks)
-      ∙ ap Nodes (omega (arith, ap (sum_from (needs (given T) (new_bytes T p c x) p) 0) sound.forest))
+      ∙ ap Some (omega (arith, ap (sum_from (needs (given T) (new_bytes T p c x) p) 0) sound.forest))
 
   pub room-right : room_of (given T) T.nodes T.pages T.sketches x (get_or T.settings free_at 0)
-      ≡ cond (leb (total_nodes (forest_after (given T) (rows_of T) (add p c x) F)) (given T).nodes) Enough Short
+      ≡ cond (leb (total_nodes (forest_after (given T) (rows_of T) (add p c x) F)) (given T).nodes) (Ok tt) (Err Full)
   unfolding room_of new_needs new_bytes
   room-right =
       let H = sound.holding in
       rw (all_right)
       (free-span T.nodes T.pages (given T).nodes sound.free (get_or T.settings free_at 0) new_needs H.words.holds.1 H.below H.chain
-      ∙ ap (λ t. cond t Enough Short)
+      ∙ ap (λ t. cond t (Ok tt) (Err Full))
       (sym (ap (λ n. leb n (given T).nodes) (total-add (given T) (rows_of T) p c x F)
       ∙ leb-sum (total_nodes F) new_needs (length sound.free) (given T).nodes
       (ap (λ f. total_nodes f + length sound.free) (sym sound.forest) ∙ H.all))))

@@ -1,17 +1,14 @@
 -- What an add does with any tables: T are those at entry, p the page, c its class, x its sketch.
+use Rattle.std.specs.Prelude.{ℕ, List, get_or, set, Some, None, Result, Ok, Err}
 use Rattle.layout.specs.declared.Header.{Header}
-use Rattle.std.specs.Prelude.{ℕ, List, get_or, set, Result, Ok, Err}
 use Rattle.meaning.specs.Ledger.{add}
 use Rattle.layout.specs.Settings.{free_at}
 use Rattle.layout.specs.Pages.{with_row, with_page}
 use Rattle.layout.specs.Signature.{signature}
-use Rattle.trie.specs.declared.span.Span.{Span}
-use Rattle.trie.specs.declared.span.Span.TheVariants.{Enough, Short}
-use Rattle.trie.specs.declared.span.Span.TheVariants as spans
+use Rattle.trie.specs.declared.Stop.{Stop}
+use Rattle.trie.specs.declared.Stop.TheVariants.{Full, Broken}
 use Rattle.promises.specs.Tables.{Tables, tables, given}
 use Rattle.promises.specs.Store.{Outcome, outcome}
-use Rattle.add_laws.specs.declared.Inserted.TheVariants.{Free}
-use Rattle.add_laws.specs.declared.Inserted.TheVariants as insertion
 use Rattle.entry.specs.Admission.{admission}
 use Rattle.add_laws.specs.Room.{room_of}
 use Rattle.add_laws.specs.Insert.{Filled, filled, insert_all}
@@ -31,17 +28,17 @@ module _ (T : Tables) (p c : ℕ) (x : List ℕ) where
 
   -- 14 where an insertion stops on unsound tables: the promise of an add names the causes
   abbrev pub on_filled : Filled → Outcome
-  on_filled (filled N P (Free link)) = outcome 0 (page_added N P link)
-  on_filled (filled N P insertion.Broken) = outcome 14 (tables T.settings N P row_added T.working)
+  on_filled (filled N P (Some link)) = outcome 0 (page_added N P link)
+  on_filled (filled N P None) = outcome 14 (tables T.settings N P row_added T.working)
 
   unfoldable pub put_page : Outcome
   put_page = on_filled (insert_all (given T) row_added x p T.nodes T.pages (get_or T.settings free_at 0))
 
   -- 12 where the nodes do not suffice
-  abbrev pub on_room : Span → Outcome
-  on_room Enough = put_page
-  on_room Short = outcome 12 T
-  on_room spans.Broken = outcome 14 T
+  abbrev pub on_room : Result (Unit {0}) Stop → Outcome
+  on_room (Ok u) = put_page
+  on_room (Err Full) = outcome 12 T
+  on_room (Err Broken) = outcome 14 T
 
   unfoldable pub place_page : Outcome
   place_page = on_room (room_of (given T) T.nodes T.pages T.sketches x (get_or T.settings free_at 0))

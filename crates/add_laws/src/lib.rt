@@ -1,9 +1,2 @@
-// A page put into the trie of each block, as definitions and their laws. Of code there is the answer alone.
+// A page put into the trie of each block, as definitions and their laws. No code.
 #![tactic(auto)]
-
-// The free link then; or the insertion stopped on unsound tables.
-#[derive(Clone, Copy)]
-pub enum Inserted {
-    Free(u32),
-    Broken,
-}

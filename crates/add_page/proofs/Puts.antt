@@ -1,5 +1,5 @@
 -- The steps of an add past 15, as the code takes them.
-use Rattle.std.specs.Prelude.{Result, Ok, Err}
+use Rattle.std.specs.Prelude.{Option, Some, None, Result, Ok, Err}
 use Prim.Native.Nat.{ℕ}
 use mathlib.Core.Path.{◌≡◌, sym, ap, ◌∙◌}
 use mathlib.Core.Bool.{true}
@@ -12,16 +12,12 @@ use Rattle.layout.specs.Settings.{free_at}
 use Rattle.layout.specs.Header.{header_of, with_thresholds}
 use Rattle.layout.specs.Pages.{with_row, with_page}
 use Rattle.layout.specs.Signature.{signature}
-use Rattle.trie.specs.declared.span.Span.{Span}
-use Rattle.trie.specs.declared.span.Span.TheVariants.{Enough, Short}
-use Rattle.trie.specs.declared.span.Span.TheVariants as spans
+use Rattle.trie.specs.declared.Stop.{Stop}
+use Rattle.trie.specs.declared.Stop.TheVariants.{Full, Broken}
 use Rattle.promises.specs.Tables.{Tables, tables, given}
 use Rattle.promises.specs.Store.{outcome}
 use Rattle.blocks.specs.RowBytes.{reduced}
 use Rattle.signature.proofs.Rows.{signature-same}
-use Rattle.add_laws.specs.declared.Inserted.{Inserted}
-use Rattle.add_laws.specs.declared.Inserted.TheVariants.{Free}
-use Rattle.add_laws.specs.declared.Inserted.TheVariants as insertion
 use Rattle.entry.specs.Admission.{admission}
 use Rattle.add_laws.specs.Room.{room_of}
 use Rattle.add_laws.specs.Insert.{filled, insert_all}
@@ -31,22 +27,22 @@ use Rattle.add_laws.proofs.Passed.{same-settings}
 module _ (T : Tables) (h : Header) (header : header_of (given T) ≡ h) (p c : ℕ) (x τ : List ℕ) (levels : τ ≡ (given T).thresholds)
     (free : ℕ) (link : free ≡ get_or T.settings free_at 0) where
   -- question 12
-  module _ (q : Span) (e : q ≡ room_of (with_thresholds h τ) T.nodes T.pages T.sketches x free) where
+  module _ (q : Result (Unit {0}) Stop) (e : q ≡ room_of (with_thresholds h τ) T.nodes T.pages T.sketches x free) where
     answered : on_room T p c x q ≡ place_page T p c x
     unfolding place_page
     answered = ap (on_room T p c x) (rw (same-settings T h τ header levels, link) at e)
 
-    pub place_short : q ≡ Short → outcome 12 T ≡ place_page T p c x
+    pub place_short : q ≡ Err Full → outcome 12 T ≡ place_page T p c x
     place_short m = rw m at answered
 
-    pub place-broken : q ≡ spans.Broken → outcome 14 T ≡ place_page T p c x
+    pub place-broken : q ≡ Err Broken → outcome 14 T ≡ place_page T p c x
     place-broken m = rw m at answered
 
-    pub place-enough : q ≡ Enough → put_page T p c x ≡ place_page T p c x
+    pub place-enough : q ≡ Ok tt → put_page T p c x ≡ place_page T p c x
     place-enough m = rw m at answered
 
   -- the row is written, and the page is put into each trie
-  module _ (S : List ℕ) (row : S ≡ with_row h.m T.sketches p x) (N P : List ℕ) (i : Inserted)
+  module _ (S : List ℕ) (row : S ≡ with_row h.m T.sketches p x) (N P : List ℕ) (i : Option ℕ)
       (e : filled N P i ≡ insert_all (with_thresholds h τ) S x p T.nodes T.pages free) where
     rowed : S ≡ row_added T p c x
     rowed = row ∙ ap (λ (g : Header). with_row g.m T.sketches p x) (sym header)
@@ -55,10 +51,10 @@ module _ (T : Tables) (h : Header) (header : header_of (given T) ≡ h) (p c : �
     unfolding put_page
     inserted = ap (on_filled T p c x) (rw (same-settings T h τ header levels, rowed, link) at e)
 
-    pub put-broken : i ≡ insertion.Broken → outcome 14 (tables T.settings N P S T.working) ≡ put_page T p c x
+    pub put-broken : i ≡ None → outcome 14 (tables T.settings N P S T.working) ≡ put_page T p c x
     put-broken m = rw rowed (rw m at inserted)
 
-    pub put-free : (l : ℕ) → i ≡ Free l → (ws : List ℕ) → ws ≡ set T.settings free_at l →
+    pub put-free : (l : ℕ) → i ≡ Some l → (ws : List ℕ) → ws ≡ set T.settings free_at l →
         in_range h.b x ≡ true → (g : ℕ) → g ≡ signature h.b (reduced h.b x) → (P' : List ℕ) → P' ≡ with_page h.pages P p c g →
         outcome 0 (tables ws N P' S T.working) ≡ put_page T p c x
     put-free l m ws w range g stored P' f =

@@ -8,7 +8,6 @@ ghost use Rattle.entry.specs.Admission.{admission};
 ghost use Rattle.add_laws.specs.Add.{put_page, place_page, add_page};
 
 use crate::insert::insert_all;
-use add_laws::Inserted;
 use add_questions::questions::admit;
 use add_questions::room::room;
 use layout::{Header, Opening};
@@ -34,13 +33,13 @@ fn put_page(
     let thresholds = settings::thresholds(settings);
     let inserted = insert_all(nodes, pages, sketches, thresholds, h, sketch, p, free);
     match inserted {
-        Inserted::Free(link) => {
+        Some(link) => {
             settings::set_free_link(settings, link);
             let signature = signature_of(h.b as u32, sketch);
             layout::pages::write_page(pages, h.pages, p, class, signature);
             0
         }
-        Inserted::Broken => 14,
+        None => 14,
     }
 }
 

@@ -5,7 +5,6 @@ ghost use Rattle.layout.specs.Tables.{Lent, Fits};
 ghost use Rattle.trie_insert.specs.Pages.{after};
 ghost use Rattle.add_laws.specs.Insert.{filled, insert_block, insert_all};
 
-use add_laws::Inserted;
 use blocks::packed::block_bytes;
 use blocks::{block_of, rows_of};
 use layout::Header;
@@ -58,7 +57,7 @@ pub fn insert_all(
     sketch: &[u8],
     p: usize,
     free: u32,
-) -> Inserted
+) -> Option<u32>
     requires lent { Lent h nodes.old pages.old sketches.now }
     requires thresholds_len { length thresholds.now ≡ 64 }
     requires fits { Fits h sketch.now }
@@ -76,12 +75,12 @@ pub fn insert_all(
                 j += 1;
             }
             Got::Full => {
-                return Inserted::Broken;
+                return None;
             }
             Got::Broken => {
-                return Inserted::Broken;
+                return None;
             }
         }
     }
-    Inserted::Free(link)
+    Some(link)
 }

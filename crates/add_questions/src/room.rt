@@ -7,7 +7,6 @@ ghost use Rattle.add_laws.specs.Room.{block_needs, all_needed, room_of};
 use blocks::packed::block_bytes;
 use blocks::{block_of, rows_of};
 use layout::Header;
-use leaf_bytes::Needed;
 use trie::span::{Span, enough_free};
 use trie_room::needed::nodes_needed;
 
@@ -20,7 +19,7 @@ fn block_needs(
     h: Header,
     sketch: &[u8],
     j: usize,
-) -> Needed
+) -> Option<usize>
     requires lent { Lent h nodes.now pages.now sketches.now }
     requires thresholds_len { length thresholds.now ≡ 64 }
     requires fits { Fits h sketch.now }
@@ -51,7 +50,7 @@ fn all_needed(
     sketches: &[u8],
     h: Header,
     sketch: &[u8],
-) -> Needed
+) -> Option<usize>
     requires lent { Lent h nodes.now pages.now sketches.now }
     requires thresholds_len { length thresholds.now ≡ 64 }
     requires fits { Fits h sketch.now }
@@ -63,16 +62,16 @@ fn all_needed(
     while j < q {
         let needed = block_needs(thresholds, nodes, pages, sketches, h, sketch, j);
         match needed {
-            Needed::Nodes(n) => {
+            Some(n) => {
                 sum += n;
                 j += 1;
             }
-            Needed::Broken => {
-                return Needed::Broken;
+            None => {
+                return None;
             }
         }
     }
-    Needed::Nodes(sum)
+    Some(sum)
 }
 
 // Are so many free, from the free link on?
@@ -93,7 +92,7 @@ pub fn room(
 {
     let needed = all_needed(thresholds, nodes, pages, sketches, h, sketch);
     match needed {
-        Needed::Nodes(n) => enough_free(nodes, h.nodes, free, n),
-        Needed::Broken => Span::Broken,
+        Some(n) => enough_free(nodes, h.nodes, free, n),
+        None => Span::Broken,
     }
 }

@@ -11,6 +11,8 @@ ghost use Rattle.promises.specs.Relation.{with_lists, with_verdict, Promised, On
 ghost use Rattle.search_laws.specs.Answer.{AnsweredBy};
 ghost use Rattle.fresh_tables.specs.Lengths.{lengths_of};
 
+use lent::View;
+
 #[unsafe(no_mangle)]
 pub extern "C" fn vetch_lengths(
     b: u32,
@@ -98,7 +100,20 @@ pub extern "C" fn vetch_check(
     ensures promised { Promised (reading check) (tables settings.now nodes.now pages.now sketches.now working.old) (with_verdict result (eqb sound.new 1)) (tables settings.now nodes.now pages.now sketches.now working.new) }
     ensures sound_bound { sound.new ≤ 1 }
 {
-    let verdict = check_store::check(settings, nodes, pages, sketches, working);
-    *sound = verdict.sound as u32;
-    verdict.number
+    let view = View {
+        settings,
+        nodes,
+        pages,
+        sketches,
+    };
+    match check_store::check(view, working) {
+        Ok(verdict) => {
+            *sound = verdict as u32;
+            0
+        }
+        Err(refusal) => {
+            *sound = 0;
+            refusal.number()
+        }
+    }
 }

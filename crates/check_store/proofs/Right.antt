@@ -1,4 +1,5 @@
 -- Where the test says yes, the store is sound.
+use Rattle.std.specs.Prelude.{Option, Some, None}
 use Prim.Native.Nat.{ℕ, suc, ◌*◌, ◌≤◌, ◌<◌}
 use native.Mathlib.Omega.{arith}
 use mathlib.Core.Path.{◌≡◌, refl, sym, ◌∙◌}
@@ -26,8 +27,6 @@ use Rattle.trie_laws.proofs.Walk.{walk-sound}
 use Rattle.trie_laws.proofs.Agree.{sound-agree}
 use Rattle.blocks.specs.RowBytes.{row_bytes}
 use Rattle.blocks.proofs.RowBytes.{row_same}
-use Rattle.node_check.specs.declared.leaf.Left.{Left}
-use Rattle.node_check.specs.declared.leaf.Left.TheVariants.{Some, Failed}
 use Rattle.trie_check_laws.proofs.Once.{pages-stand}
 use Rattle.trie_check_laws.proofs.Once.{pages-once as page-once}
 use Rattle.rights.specs.Entries.{all_current}
@@ -143,9 +142,9 @@ module _ (T : Tables) where
         no : passed map false ≡ passed map' true → ⊥
         no = passed-no s T.nodes T.pages T.sketches 0 lent (window_at 0 0) map map'
 
-        go : (a : Left) → test_pages s T.pages T.sketches ≡ a → (b : Left) → test_free T.nodes s.nodes free ≡ b →
+        go : (a : Option ℕ) → test_pages s T.pages T.sketches ≡ a → (b : Option ℕ) → test_free T.nodes s.nodes free ≡ b →
             on_left map (λ live. on_left map (λ left. test_windows s T.nodes T.pages T.sketches words left live map) b) a ≡ passed map' true →
             (F : List Tree) × Sound T F
-        go Failed p b f e = absurd (no e)
-        go (Some live) p Failed f e = absurd (no e)
+        go None p b f e = absurd (no e)
+        go (Some live) p None f e = absurd (no e)
         go (Some live) p (Some left) f e = from_parts live p left f e

@@ -1,23 +1,22 @@
 -- The parts of the test of a store.
+use Rattle.std.specs.Prelude.{Option, Some, None}
 use Prim.Native.Nat.{ℕ}
 use mathlib.Core.Path.{◌≡◌, refl}
 use mathlib.Core.Bool.{false}
 use mathlib.Core.List.{List}
 use Rattle.meaning.specs.Ledger.{Settings}
-use Rattle.node_check.specs.declared.leaf.Left.{Left}
-use Rattle.node_check.specs.declared.leaf.Left.TheVariants.{Some, Failed}
 use Rattle.check_tables.specs.Pages.{test_pages}
 use Rattle.check_tables.specs.Free.{test_free}
 use Rattle.check_tries.specs.Windows.{Passed, passed, test_windows}
 use Rattle.check_store.specs.Store.{test_store}
 
-module _ (s : Settings) (N P S : List ℕ) (free words : ℕ) (map : List ℕ) (a : Left) (pages : a ≡ test_pages s P S) where
-  pub store-pages : a ≡ Failed → passed map false ≡ test_store s N P S free words map
+module _ (s : Settings) (N P S : List ℕ) (free words : ℕ) (map : List ℕ) (a : Option ℕ) (pages : a ≡ test_pages s P S) where
+  pub store-pages : a ≡ None → passed map false ≡ test_store s N P S free words map
   unfolding test_store
   store-pages e = rw (← pages, e) refl
 
-  module _ (live : ℕ) (e : a ≡ Some live) (b : Left) (chain : b ≡ test_free N s.nodes free) where
-    pub store-free : b ≡ Failed → passed map false ≡ test_store s N P S free words map
+  module _ (live : ℕ) (e : a ≡ Some live) (b : Option ℕ) (chain : b ≡ test_free N s.nodes free) where
+    pub store-free : b ≡ None → passed map false ≡ test_store s N P S free words map
     unfolding test_store
     store-free f = rw (← pages, e, ← chain, f) refl
 

@@ -1,4 +1,5 @@
 -- Where the store is sound, the test says yes.
+use Rattle.std.specs.Prelude.{Some}
 use Prim.Native.Nat.{ℕ, suc, ◌≤◌, ◌<◌}
 use native.Mathlib.Omega.{arith}
 use native.Mathlib.Decide.{dec_lt}
@@ -29,7 +30,6 @@ use Rattle.trie_laws.proofs.Walk.{walk-sound}
 use Rattle.trie_laws.proofs.Agree.{sound-agree}
 use Rattle.blocks.specs.RowBytes.{row_bytes}
 use Rattle.blocks.proofs.RowBytes.{row_same}
-use Rattle.node_check.specs.declared.leaf.Left.TheVariants.{Some}
 use Rattle.promises.specs.Tables.{Tables, given, page_class, page_row}
 use Rattle.promises.specs.Sound.{tries_cells, Rooted, live_page, page_bytes, Sound}
 use Rattle.promises.proofs.Stores.{live_below}

@@ -5,75 +5,44 @@ ghost use Rattle.std.specs.Prelude.{◌≡◌, ◌≤◌, length};
 ghost use Rattle.meaning.specs.Ledger.{check, reading};
 ghost use Rattle.layout.specs.Header.{bare};
 ghost use Rattle.layout.specs.Tables.{Lent};
-ghost use Rattle.promises.specs.Tables.{tables};
+ghost use Rattle.lent.specs.Lists.{held_with};
+ghost use Rattle.refusals.specs.Refusals.{answer_number, says_yes};
 ghost use Rattle.check_tries.specs.Windows.{passed};
 ghost use Rattle.check_store.specs.Store.{test_store};
 ghost use Rattle.promises.specs.Relation.{with_verdict, Promised};
 
 use check_tables::{free, pages};
 use check_tries::windows;
-use layout::{Header, Opening};
-use node_check::leaf::Left;
-
-// The number of the question that says no, or 0; and whether the store is sound.
-#[derive(Clone, Copy)]
-pub struct Verdict {
-    pub number: u32,
-    pub sound: bool,
-}
+use layout::Header;
+use lent::View;
+use refusals::Refusal;
 
 // The pages, the free chain and the tries, with the first free link. The map is for marks.
 #[tactic(auto, unfolding(layout::specs::Lengths::nodes_length, crate::specs::Store::test_store))]
-fn test_store(
-    nodes: &[u32],
-    pages: &[u32],
-    sketches: &[u8],
-    map: &mut [u32],
-    h: Header,
-    free: u32,
-) -> bool
-    requires lent { Lent h nodes.now pages.now sketches.now }
+fn test_store(view: View<'_>, map: &mut [u32], h: Header, free: u32) -> bool
+    requires lent { Lent h view.nodes.now view.pages.now view.sketches.now }
     requires map_len_bound { length map.old ≤ 2048 }
-    ensures { passed map.new result ≡ test_store (bare h) nodes.now pages.now sketches.now free (length map.old) map.old }
+    ensures { passed map.new result ≡ test_store (bare h) view.entry.nodes.now view.entry.pages.now view.entry.sketches.now free (length map.old) map.old }
 {
-    let live = match pages::test_pages(pages, sketches, h) {
-        Left::Failed => return false,
-        Left::Some(n) => n,
+    let Some(live) = pages::test_pages(view.pages, view.sketches, h) else {
+        return false;
     };
-    let left = match free::test_free(nodes, h.nodes, free) {
-        Left::Failed => return false,
-        Left::Some(n) => n,
+    let Some(left) = free::test_free(view.nodes, h.nodes, free) else {
+        return false;
     };
-    windows::test_windows(nodes, pages, sketches, map, h, left, live)
+    windows::test_windows(view.nodes, view.pages, view.sketches, map, h, left, live)
 }
 
 // Past 6 the answer is yes exactly where the store is sound, and the needed part of the working table is left zero.
-pub fn check(
-    settings: &[u32],
-    nodes: &[u32],
-    pages: &[u32],
-    sketches: &[u8],
-    working: &mut [u32],
-) -> Verdict
-    ensures { Promised (reading check) (tables settings.now nodes.now pages.now sketches.now working.old) (with_verdict result.number result.sound) (tables settings.now nodes.now pages.now sketches.now working.new) }
+pub fn check(view: View<'_>, working: &mut [u32]) -> Result<bool, Refusal>
+    ensures { Promised (reading check) (held_with view.entry working.old) (with_verdict (answer_number result) (says_yes result)) (held_with view.entry working.new) }
 {
-    let h = match entry::enter(settings, nodes, pages, sketches, working) {
-        Opening::Refused(number) => {
-            return Verdict {
-                number,
-                sound: false,
-            };
-        }
-        Opening::Shown(h) => h,
-    };
-    let free = settings::free_link(settings);
+    let h = entry::enter(view, working)?;
+    let free = settings::free_link(view.settings);
     let words = layout::lengths::map_words(h);
-    let sound = test_store(nodes, pages, sketches, &mut working[..words], h, free);
-    let current = rights::current::all_current(settings);
+    let sound = test_store(view, &mut working[..words], h, free);
+    let current = rights::current::all_current(view.settings);
     let needed = layout::lengths::working_length(h);
     words::zero_run(working, 0, needed);
-    Verdict {
-        number: 0,
-        sound: sound & current,
-    }
+    Ok(sound & current)
 }

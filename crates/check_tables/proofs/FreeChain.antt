@@ -1,4 +1,5 @@
 -- What the test of the free chain says: the nodes on it are free, and each stands in it once.
+use Rattle.std.specs.Prelude.{Some, None}
 use Prim.Native.Nat.{ℕ, zero, suc, ◌+◌, ◌-◌, ◌≤◌, ◌<◌}
 use native.Mathlib.Omega.{arith}
 use mathlib.Core.Path.{◌≡◌, refl, sym, ap, ap₂, ◌∙◌}
@@ -12,7 +13,6 @@ use Rattle.layout.specs.Nodes.{state_at, free_state}
 use Rattle.children.specs.Heap.{Holds}
 use Rattle.children.specs.Phys.{first, free_cells, Below}
 use Rattle.meaning.proofs.Lists.{and_first, and_second}
-use Rattle.node_check.specs.declared.leaf.Left.TheVariants.{Some, Failed}
 use Rattle.children.specs.Order.{bare}
 use Rattle.children.proofs.Tests.{refused, passed}
 use Rattle.children.proofs.Bare.{bare-holds, held-bare}
@@ -27,7 +27,7 @@ module _ (N P : List ℕ) (cap : ℕ) where
     pub count : g + length fs ≡ f
 
   -- ---- where it says yes
-  failed : (g : ℕ) → Failed ≡ Some g → ⊥
+  failed : (g : ℕ) → None ≡ Some g → ⊥
   failed g z = let o : ◌≡◌ {A = ℕ} 0 1 = cc in omega arith
 
   none : (link n g : ℕ) → eqb link 0 ≡ true → Some n ≡ Some g → (fs : List ℕ) × Chain link n g fs
@@ -41,8 +41,8 @@ module _ (N P : List ℕ) (cap : ℕ) where
   chain zero link g false z e = absurd (failed g (rw z at e))
   chain (suc n) link g true z e = none link (suc n) g z (rw z at e)
   chain (suc n) link g false z e =
-      let t = refused Failed (Some g) (failed g) (ltb cap link) _ (rw z at e) in
-      let u = passed Failed (Some g) (failed g) (is_free N cap (link - 1)) _ t.1 in
+      let t = refused None (Some g) (failed g) (ltb cap link) _ (rw z at e) in
+      let u = passed None (Some g) (failed g) (is_free N cap (link - 1)) _ t.1 in
       let r = chain n (get_or N (link - 1) 0) g (eqb (get_or N (link - 1) 0) 0) refl u.1 in
       let some : link ≡ 0 → ⊥ = eqb-false link 0 z in
       let back : link ≡ link - 1 + 1 = omega arith in (

@@ -1,4 +1,5 @@
 -- The test of the free chain, step by step.
+use Rattle.std.specs.Prelude.{Option, Some, None}
 use Prim.Native.Nat.{ℕ, zero, suc, ◌-◌, ◌≤◌, ◌<◌}
 use native.Mathlib.Omega.{arith}
 use mathlib.Core.Path.{◌≡◌, refl, sym, ap, ◌∙◌}
@@ -11,8 +12,6 @@ use Rattle.layout.specs.Nodes.{free_state}
 use Rattle.layout.specs.States.{kind_of, next_free}
 use Rattle.layout.specs.declared.nodes.Kind.TheVariants.{Free, Inner, Leaf}
 use Rattle.layout.proofs.States.{free-state, inner-state, leaf-used as used}
-use Rattle.node_check.specs.declared.leaf.Left.{Left}
-use Rattle.node_check.specs.declared.leaf.Left.TheVariants.{Some, Failed}
 use Rattle.children.specs.Order.{bare}
 use Rattle.check_tables.specs.Free.{is_free, free_from}
 
@@ -31,7 +30,7 @@ module _ (N : List ℕ) (cap x : ℕ) where
   leaf-used first e = rw (ne_eqb _ free_state (used N cap x first e)) refl
 
 -- ---- the loop
-module _ (N : List ℕ) (cap link f : ℕ) (R : Left) (inv : free_from N cap link f ≡ R) where
+module _ (N : List ℕ) (cap link f : ℕ) (R : Option ℕ) (inv : free_from N cap link f ≡ R) where
   pub chain-end : link ≡ 0 → Some f ≡ R
   unfolding free_from
   chain-end z = sym (go f) ∙ inv
@@ -41,25 +40,25 @@ module _ (N : List ℕ) (cap link f : ℕ) (R : Left) (inv : free_from N cap lin
       go (suc n) = rw (eq-eqb link 0 z) refl
 
   module _ (some : link ≢ 0) where
-    pub chain-spent : f ≡ 0 → Failed ≡ R
+    pub chain-spent : f ≡ 0 → None ≡ R
     unfolding free_from
     chain-spent z = rw (← inv, z, ne_eqb link 0 some) refl
 
     module _ (more : f ≢ 0) where
-      step : cond (ltb cap link) Failed (cond (is_free N cap (link - 1)) (free_from N cap (next_free N (link - 1)) (f - 1)) Failed) ≡ R
+      step : cond (ltb cap link) None (cond (is_free N cap (link - 1)) (free_from N cap (next_free N (link - 1)) (f - 1)) None) ≡ R
       unfolding free_from
       step =
           let q : f ≡ suc (f - 1) = omega arith in
           sym (ap (λ n. free_from N cap link n) q ∙ rw (ne_eqb link 0 some) refl) ∙ inv
 
-      pub chain-broken : cap ≤ link - 1 → Failed ≡ R
+      pub chain-broken : cap ≤ link - 1 → None ≡ R
       chain-broken h = rw (lt-ltb cap link (omega arith)) at step
 
       module _ (inside : link - 1 < cap) (r : Bool) (free : r ≡ is_free N cap (link - 1)) where
-        tested : cond r (free_from N cap (next_free N (link - 1)) (f - 1)) Failed ≡ R
+        tested : cond r (free_from N cap (next_free N (link - 1)) (f - 1)) None ≡ R
         tested = rw free (rw (le-ltb cap link (omega arith)) at step)
 
-        pub chain-used : not r ≡ true → Failed ≡ R
+        pub chain-used : not r ≡ true → None ≡ R
         chain-used e = rw (not-true r e) at tested
 
         pub chain_next : not r ≡ false → (next : ℕ) → next ≡ next_free N (link - 1) → free_from N cap next (f - 1) ≡ R

@@ -1,4 +1,5 @@
 -- What the test of the pages says.
+use Rattle.std.specs.Prelude.{Some, None}
 use Prim.Native.Nat.{ℕ, zero, suc, ◌+◌, ◌≤◌, ◌<◌}
 use native.Mathlib.Omega.{arith}
 use native.Mathlib.Decide.{dec_lt}
@@ -14,7 +15,6 @@ use Rattle.meaning.specs.Ledger.{Settings}
 use Rattle.layout.specs.Pages.{is_live, class_of, signature_at, row_of}
 use Rattle.layout.specs.Signature.{signature}
 use Rattle.meaning.proofs.Lists.{and_first, and_second}
-use Rattle.node_check.specs.declared.leaf.Left.TheVariants.{Some, Failed}
 use Rattle.children.proofs.Tests.{passed}
 use Rattle.check_tables.specs.Pages.{row_fits, page_fits, count_from, test_pages}
 
@@ -27,7 +27,7 @@ module _ (fits live : ℕ → Bool) where
   unfolding count_from count from
   count-right zero k a b e = record { fit = λ p l m. absurd (omega arith); total = let z : a ≡ b = cc in omega arith }
   count-right (suc n) k a b e =
-      let t = passed Failed (Some b) (λ z. let o : ◌≡◌ {A = ℕ} 0 1 = cc in omega arith) (fits k) _ e in
+      let t = passed None (Some b) (λ z. let o : ◌≡◌ {A = ℕ} 0 1 = cc in omega arith) (fits k) _ e in
       let r = count-right n (suc k) (a + cond (live k) 1 0) b t.1 in record {
         fit = λ p l m. by_cases (dec_lt k p) (λ d. r.fit p (omega arith) (omega arith)) (λ d. let same : p ≡ k = omega arith in rw same t.0);
         total = omega (arith, r.total);

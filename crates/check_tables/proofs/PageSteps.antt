@@ -1,4 +1,5 @@
 -- The test of the pages, step by step.
+use Rattle.std.specs.Prelude.{Option, Some, None}
 use Prim.Native.Nat.{ℕ, suc, ◌+◌, ◌-◌, ◌≤◌, ◌<◌}
 use native.Mathlib.Omega.{arith}
 use native.Mathlib.Numerals.{add-one}
@@ -14,8 +15,6 @@ use Rattle.layout.specs.Pages.{is_live, class_of, signature_at, row_of}
 use Rattle.layout.specs.Signature.{signature}
 use Rattle.blocks.specs.RowBytes.{reduced}
 use Rattle.signature.proofs.Rows.{signature-same}
-use Rattle.node_check.specs.declared.leaf.Left.{Left}
-use Rattle.node_check.specs.declared.leaf.Left.TheVariants.{Some, Failed}
 use Rattle.check_tables.specs.Pages.{row_fits, page_fits, count_from, test_pages}
 
 -- ---- a page
@@ -44,17 +43,17 @@ module _ (s : Settings) (P S : List ℕ) (p : ℕ) (l : Bool) (live : l ≡ is_l
           rw (← fits-row, in-range, word, own, signature-same s.bits x in-range) refl
 
 -- ---- the loop
-module _ (s : Settings) (P S : List ℕ) (a p : ℕ) (R : Left) (inv : count_from (page_fits s P S) (is_live P) (s.pages - p) p a ≡ R) where
+module _ (s : Settings) (P S : List ℕ) (a p : ℕ) (R : Option ℕ) (inv : count_from (page_fits s P S) (is_live P) (s.pages - p) p a ≡ R) where
   pub count-done : s.pages ≤ p → Some a ≡ R
   unfolding count_from
   count-done h = let e : s.pages - p ≡ 0 = omega arith in rw (← inv, e) refl
 
   module _ (h : p < s.pages) (r : Bool) (fits : r ≡ page_fits s P S p) where
-    step : cond r (count_from (page_fits s P S) (is_live P) (s.pages - (p + 1)) (p + 1) (a + cond (is_live P p) 1 0)) Failed ≡ R
+    step : cond r (count_from (page_fits s P S) (is_live P) (s.pages - (p + 1)) (p + 1) (a + cond (is_live P p) 1 0)) None ≡ R
     unfolding count_from
     step = let q : s.pages - p ≡ suc (s.pages - (p + 1)) = omega arith in rw (← inv, fits, q, add-one p) refl
 
-    pub count-fails : not r ≡ true → Failed ≡ R
+    pub count-fails : not r ≡ true → None ≡ R
     count-fails e = rw (not-true r e) at step
 
     pub count-more : not r ≡ false → (l : Bool) → l ≡ is_live P p →

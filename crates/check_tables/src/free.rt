@@ -4,7 +4,6 @@ ghost use Rattle.layout.specs.Tables.{NodeTable};
 ghost use Rattle.check_tables.specs.Free.{is_free, test_free};
 
 use layout::nodes::{Kind, next_free};
-use node_check::leaf::Left;
 
 #[tactic(auto, unfolding(crate::specs::Free::is_free))]
 fn is_free(nodes: &[u32], cap: usize, x: usize) -> bool
@@ -19,9 +18,10 @@ fn is_free(nodes: &[u32], cap: usize, x: usize) -> bool
     }
 }
 
-// How many nodes are not free, where all on the chain are.
+// How many nodes are not free, where all on the chain are; none where one is not.
+// No `for`: what is left of the budget is the answer.
 #[tactic(auto, unfolding(crate::specs::Free::test_free))]
-pub fn test_free(nodes: &[u32], cap: usize, first: u32) -> Left
+pub fn test_free(nodes: &[u32], cap: usize, first: u32) -> Option<u32>
     requires { NodeTable cap nodes.now }
     ensures { result ≡ test_free nodes.now cap first }
 {
@@ -29,17 +29,17 @@ pub fn test_free(nodes: &[u32], cap: usize, first: u32) -> Left
     let mut left = cap as u32;
     loop {
         if link == 0 {
-            return Left::Some(left);
+            return Some(left);
         }
         if left == 0 {
-            return Left::Failed;
+            return None;
         }
         let x = (link as usize) - 1;
         if x >= cap {
-            return Left::Failed;
+            return None;
         }
         if !is_free(nodes, cap, x) {
-            return Left::Failed;
+            return None;
         }
         link = next_free(nodes, cap, x);
         left -= 1;

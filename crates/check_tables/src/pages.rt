@@ -6,7 +6,6 @@ ghost use Rattle.layout.specs.Lengths.{pages_length, sketches_length};
 ghost use Rattle.check_tables.specs.Pages.{page_fits, test_pages};
 
 use layout::Header;
-use node_check::leaf::Left;
 use signature::signature_of;
 use sketch::symbols::in_range;
 
@@ -34,23 +33,20 @@ fn page_fits(pages: &[u32], sketches: &[u8], h: Header, p: usize) -> bool
     layout::pages::signature_word(pages, h.pages, p) == signature_of(b, row)
 }
 
-// How many pages are live, where all pass.
+// How many pages are live, where all pass; none where one does not.
 #[tactic(auto, unfolding(crate::specs::Pages::test_pages))]
-pub fn test_pages(pages: &[u32], sketches: &[u8], h: Header) -> Left
+pub fn test_pages(pages: &[u32], sketches: &[u8], h: Header) -> Option<u32>
     requires header_limits { HeaderLimits h }
     requires h_in_bounds { pages_length (bare h) ≤ length pages.now }
     requires h_in_bounds_2 { sketches_length (bare h) ≤ length sketches.now }
     ensures { result ≡ test_pages (bare h) pages.now sketches.now }
 {
-    let cap = h.pages;
     let mut live: u32 = 0;
-    let mut p = 0;
-    while p < cap {
+    for p in 0..h.pages {
         if !page_fits(pages, sketches, h, p) {
-            return Left::Failed;
+            return None;
         }
         live += layout::pages::is_live(pages, p) as u32;
-        p += 1;
     }
-    Left::Some(live)
+    Some(live)
 }

@@ -1,4 +1,5 @@
 -- The tries of all blocks, as they lie in the tables, and what the test of a window says of them.
+use Rattle.std.specs.Prelude.{Option, Some, None}
 use Prim.Native.Nat.{ℕ, zero, suc, ◌+◌, ◌-◌, ◌*◌, ◌≤◌, ◌<◌}
 use native.Mathlib.Omega.{arith}
 use mathlib.Core.Path.{◌≡◌, refl, sym, ap, ap₂, ◌∙◌}
@@ -23,8 +24,6 @@ use Rattle.meaning.specs.Trie.{pages_in}
 use Rattle.trie_laws.specs.Walk.{sound_walk}
 use Rattle.blocks.specs.RowBytes.{row_bytes, rows_of}
 use Rattle.blocks.proofs.RowBytes.{level-byte}
-use Rattle.node_check.specs.declared.leaf.Left.{Left}
-use Rattle.node_check.specs.declared.leaf.Left.TheVariants.{Some, Failed}
 use Rattle.node_check.specs.declared.mark.Window.{Window}
 use Rattle.trie_visit.specs.Visit.{Given}
 use Rattle.trie_check.specs.Trie.{tested, test_trie}
@@ -130,11 +129,11 @@ module _ (s : Settings) (N P S : List ℕ) (live : ℕ) where
         map₁ : List ℕ
         map₁ = (test_trie g j map left live).map
 
-        go : (a : Left) → (test_trie g j map left live).answer ≡ a →
+        go : (a : Option ℕ) → (test_trie g j map left live).answer ≡ a →
             on_left map₁ (λ left₁. blocks_from (block_given s N P S w) live k (suc j) map₁ left₁) a ≡ passed map' true →
             ((left₁ : ℕ) → w.size ≤ 32 * length map₁ → blocks_from (block_given s N P S w) live k (suc j) map₁ left₁ ≡ passed map' true → Right k (suc j) map₁ map' left₁) →
             Right (suc k) j map map' left
-        go Failed f e later = absurd (passed-no map₁ map' e)
+        go None f e later = absurd (passed-no map₁ map' e)
         go (Some left₁) f e later =
             let t = test-right g (row_bytes s j S) j left live map map₁ left₁ (fitting s N P S lent j (omega arith) w map room)
             (reads w j (omega arith)) (root-inside s N P S lent j (omega arith)) (ap (tested map₁) f) in

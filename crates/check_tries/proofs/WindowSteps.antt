@@ -1,4 +1,5 @@
 -- The tests of the tries, step by step.
+use Rattle.std.specs.Prelude.{Option, Some, None}
 use Prim.Native.Nat.{ℕ, suc, ◌+◌, ◌-◌, ◌*◌, ◌≤◌, ◌<◌}
 use native.Mathlib.Omega.{arith}
 use native.Mathlib.Numerals.{add-one}
@@ -10,8 +11,6 @@ use lib.Dec.{ltb, eqb}
 use lib.ListN.{length}
 use Rattle.meaning.specs.Ledger.{Settings}
 use Rattle.words.specs.Bits.{zeroed}
-use Rattle.node_check.specs.declared.leaf.Left.{Left}
-use Rattle.node_check.specs.declared.leaf.Left.TheVariants.{Some, Failed}
 use Rattle.trie_visit.specs.Visit.{Given}
 use Rattle.trie_check.specs.Trie.{tested, test_trie}
 use Rattle.check_tries.specs.Windows.{Passed, passed, on_tested, on_yes, window_at, blocks_from, block_given, test_window, windows_from, test_windows}
@@ -22,7 +21,7 @@ module _ (w : ℕ → Given) (live q j : ℕ) (map : List ℕ) (left : ℕ) (R :
   unfolding blocks_from
   blocks-done h = let e : q - j ≡ 0 = omega arith in rw (← inv, e) refl
 
-  module _ (h : j < q) (map' : List ℕ) (a : Left) (e : tested map' a ≡ test_trie (w j) j map left live) where
+  module _ (h : j < q) (map' : List ℕ) (a : Option ℕ) (e : tested map' a ≡ test_trie (w j) j map left live) where
     step : on_tested (λ m n. blocks_from w live (q - (j + 1)) (j + 1) m n) (tested map' a) ≡ R
     unfolding blocks_from
     step =
@@ -32,7 +31,7 @@ module _ (w : ℕ → Given) (live q j : ℕ) (map : List ℕ) (left : ℕ) (R :
     pub blocks_more : (n : ℕ) → a ≡ Some n → blocks_from w live (q - (j + 1)) (j + 1) map' n ≡ R
     blocks_more n m = rw m at step
 
-    pub blocks-failed : a ≡ Failed → passed map' false ≡ R
+    pub blocks-failed : a ≡ None → passed map' false ≡ R
     blocks-failed m = rw m at step
 
 pub blocks_start : (w : ℕ → Given) (live q : ℕ) (map : List ℕ) (left : ℕ) → blocks_from w live (q - 0) 0 map left ≡ blocks_from w live q 0 map left

@@ -1,11 +1,9 @@
 -- The test of the tries, once for each window of nodes: each node of the window stands in one place. N is the node table, P the page
 -- table, S the sketch table.
-use Rattle.std.specs.Prelude.{ℕ, zero, suc, ◌*◌, Bool, true, false, cond, List, ltb, eqb}
+use Rattle.std.specs.Prelude.{ℕ, zero, suc, ◌*◌, Bool, true, false, cond, List, ltb, eqb, Option, Some, None}
 use Rattle.meaning.specs.Ledger.{Settings}
 use Rattle.words.specs.Bits.{zeroed}
 use Rattle.blocks.specs.RowBytes.{rows_of, block_of}
-use Rattle.node_check.specs.declared.leaf.Left.{Left}
-use Rattle.node_check.specs.declared.leaf.Left.TheVariants.{Some, Failed}
 use Rattle.node_check.specs.declared.mark.Window.{Window}
 use Rattle.trie_visit.specs.Visit.{Given, given}
 use Rattle.trie_check.specs.Trie.{Tested, test_trie}
@@ -22,9 +20,9 @@ abbrev pub passed : List ℕ → Bool → Passed
 passed map answer = record { map = map; answer = answer }
 
 -- what follows a test that left something of its budget
-abbrev pub on_left : List ℕ → (ℕ → Passed) → Left → Passed
+abbrev pub on_left : List ℕ → (ℕ → Passed) → Option ℕ → Passed
 on_left map go (Some n) = go n
-on_left map go Failed = passed map false
+on_left map go None = passed map false
 
 abbrev pub on_tested : (List ℕ → ℕ → Passed) → Tested → Passed
 on_tested go t = on_left t.map (go t.map) t.answer

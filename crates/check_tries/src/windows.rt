@@ -8,7 +8,6 @@ ghost use Rattle.check_tries.specs.Windows.{passed, blocks_from, block_given, te
 
 use blocks::{block_of, rows_of};
 use layout::Header;
-use node_check::leaf::Left;
 use node_check::mark::Window;
 use trie_check::test::test_trie;
 use trie_visit::Scope;
@@ -27,7 +26,7 @@ fn test_block(
     j: usize,
     left: u32,
     live: u32,
-) -> Left
+) -> Option<u32>
     requires lent { Lent h nodes.now pages.now sketches.now }
     requires size_bound { window.size ≤ 32 * length map.old }
     requires j_lt_q { j < h.q }
@@ -57,20 +56,12 @@ fn test_blocks(
     requires size_bound { window.size ≤ 32 * length map.old }
     ensures { passed map.new result ≡ blocks_from (block_given (bare h) nodes.now pages.now sketches.now window) live h.q 0 map.old budget }
 {
-    let q = h.q;
     let mut left = budget;
-    let mut j = 0;
-    while j < q {
-        let tested = test_block(nodes, pages, sketches, map, h, window, j, left, live);
-        match tested {
-            Left::Some(n) => {
-                left = n;
-                j += 1;
-            }
-            Left::Failed => {
-                return false;
-            }
-        }
+    for j in 0..h.q {
+        let Some(rest) = test_block(nodes, pages, sketches, map, h, window, j, left, live) else {
+            return false;
+        };
+        left = rest;
     }
     left == 0
 }
@@ -114,8 +105,7 @@ pub fn test_windows(
     ensures { passed map.new result ≡ test_windows (bare h) nodes.now pages.now sketches.now (length map.old) left live map.old }
 {
     let size = 32 * map.len();
-    let mut k = 0;
-    while k < WINDOWS {
+    for k in 0..WINDOWS {
         let from = k * size;
         if h.nodes <= from {
             return true;
@@ -123,7 +113,6 @@ pub fn test_windows(
         if !test_window(nodes, pages, sketches, map, h, from, left, live) {
             return false;
         }
-        k += 1;
     }
     true
 }

@@ -1,4 +1,5 @@
 -- Going through the children of a node as `order` does, by what lies in the tables; and back: what lies there, by the steps that were taken.
+use Rattle.std.specs.Prelude.{Some}
 use Prim.Native.Nat.{ℕ, zero, suc, ◌+◌, ◌-◌, ◌*◌, ◌/◌, ◌<◌, ◌≤◌}
 use native.Mathlib.Decide.{ℕ_discrete}
 use native.Mathlib.Numerals.{add-one}
@@ -39,17 +40,17 @@ module _ (cap pcap base : ℕ) (N P : List ℕ) where
 
   -- where a child is to come: to the next chain, or to the child
   pub data StepKid (f : Frame) (b : ℕ) (t : Phys) (ks : Kids) : Type 0 where
-    to_chain : (l : ℕ) → f.group < 7 → next_child N cap f ≡ Chain l → AheadF (next_chain f l) (kid b t ks) → StepKid f b t ks
-    to_kid : (l : ℕ) → next_child N cap f ≡ Child (root t) b l → Holds (cells cap base t) N P → Sound cap pcap t → AheadF (past_child f b l) ks → StepKid f b t ks
+    to_chain : (l : ℕ) → f.group < 7 → next_child N cap f ≡ Some (Chain l) → AheadF (next_chain f l) (kid b t ks) → StepKid f b t ks
+    to_kid : (l : ℕ) → next_child N cap f ≡ Some (Child (root t) b l) → Holds (cells cap base t) N P → Sound cap pcap t → AheadF (past_child f b l) ks → StepKid f b t ks
 
   -- where none is: to the next chain, or up
   pub data StepEnd (f : Frame) : Type 0 where
-    end_chain : (l : ℕ) → f.group < 7 → next_child N cap f ≡ Chain l → AheadF (next_chain f l) no_kid → StepEnd f
-    to_up : next_child N cap f ≡ Up → StepEnd f
+    end_chain : (l : ℕ) → f.group < 7 → next_child N cap f ≡ Some (Chain l) → AheadF (next_chain f l) no_kid → StepEnd f
+    to_up : next_child N cap f ≡ Some Up → StepEnd f
 
   module _ (f : Frame) where
-    next-chain : (ks : Kids) → AheadF f ks → f.link ≡ 0 → f.group < 7 → next_child N cap f ≡ Chain (first_in ks (f.group + 1))
-    next-chain ks a e l = to-chain N cap f e l ∙ ap Chain (a.later (f.group + 1) (omega arith) (omega arith))
+    next-chain : (ks : Kids) → AheadF f ks → f.link ≡ 0 → f.group < 7 → next_child N cap f ≡ Some (Chain (first_in ks (f.group + 1)))
+    next-chain ks a e l = to-chain N cap f e l ∙ ap (λ n. Some (Chain n)) (a.later (f.group + 1) (omega arith) (omega arith))
 
     pub step-kid : (b : ℕ) (t : Phys) (ks : Kids) → cap ≤ most_nodes → AheadF f (kid b t ks) → StepKid f b t ks
     step-kid b t ks small a = elim (truth (eqb f.link 0)) [

@@ -1,47 +1,29 @@
--- Steps from child to child, by what the tests of the link and the byte say; and that they stay in the table.
-use Prim.Native.Nat.{ℕ, ◌+◌, ◌*◌, ◌-◌, ◌<◌, ◌≤◌}
+-- Steps from child to child: they stay in the table.
+use Rattle.std.specs.Prelude.{Option, Some, None}
+use Prim.Native.Nat.{ℕ, ◌+◌, ◌*◌, ◌-◌, ◌<◌}
 use native.Mathlib.Omega.{arith}
 use mathlib.Core.Path.{◌≡◌, refl, subst}
 use mathlib.Core.Bool.{Bool, true, false, cond}
 use mathlib.Core.List.{List}
 use lib.Dec.{ltb, eqb}
 use lib.ListN.{get_or}
-use borrow.Author.Tests.{lt-ltb, le-ltb, ltb-true, ltb-false, eqb-false}
+use borrow.Author.Tests.{ltb-true, ltb-false, eqb-false}
 use Rattle.layout.specs.Nodes.{link_of, byte_of, head_at}
 use Rattle.children.specs.declared.order.Frame.{Frame}
 use Rattle.children.specs.declared.order.Step.{Step}
-use Rattle.children.specs.declared.order.Step.TheVariants.{Chain, Child, Up, Broken}
+use Rattle.children.specs.declared.order.Step.TheVariants.{Chain, Child, Up}
 use Rattle.children.specs.Order.{step_along, next_child}
 
 -- head g of node x is 0
 abbrev pub bare_at : List ℕ → ℕ → ℕ → ℕ → Bool
 bare_at N cap x g = eqb (get_or N (head_at cap x g) 0) 0
 
-module _ (N : List ℕ) (cap : ℕ) (f : Frame) where
-  pub along-outside : cap < f.link → step_along N cap f ≡ Broken
-  unfolding step_along
-  along-outside o = rw (lt-ltb cap f.link o)
-
-  module _ (word byte : ℕ) (i : f.link ≤ cap) (e : word ≡ get_or N (f.link - 1) 0) (g : byte ≡ byte_of word) where
-    pub along-low : byte < f.least → step_along N cap f ≡ Broken
-    unfolding step_along
-    along-low l = rw (le-ltb cap f.link i, ← e, ← g, lt-ltb byte f.least l)
-
-    pub along-high : f.least ≤ byte → 32 * f.group + 31 < byte → step_along N cap f ≡ Broken
-    unfolding step_along
-    along-high l h = rw (le-ltb cap f.link i, ← e, ← g, le-ltb byte f.least l, lt-ltb (32 * f.group + 31) byte h)
-
-    pub along-child : (link : ℕ) → f.least ≤ byte → byte ≤ 32 * f.group + 31 → link ≡ link_of word
-        → step_along N cap f ≡ Child (f.link - 1) byte link
-    unfolding step_along
-    along-child link l h j = rw (le-ltb cap f.link i, ← e, ← g, le-ltb byte f.least l, le-ltb (32 * f.group + 31) byte h, j)
-
 -- a step leads to a chain of the eight, or to a node of the table, with a byte
-abbrev Within : ℕ → Frame → Step → Type 0
-Within cap f (Chain link) = f.group < 7
-Within cap f (Child x byte link) = (x < cap) × (byte < 256)
-Within cap f Up = Unit {0}
-Within cap f Broken = Unit {0}
+abbrev Within : ℕ → Frame → Option Step → Type 0
+Within cap f (Some (Chain link)) = f.group < 7
+Within cap f (Some (Child x byte link)) = (x < cap) × (byte < 256)
+Within cap f (Some Up) = Unit {0}
+Within cap f None = Unit {0}
 
 module _ (N : List ℕ) (cap : ℕ) (f : Frame) (m : f.group < 8) where
   within-along : 0 < f.link → Within cap f (step_along N cap f)
@@ -52,9 +34,9 @@ module _ (N : List ℕ) (cap : ℕ) (f : Frame) (m : f.group < 8) where
     where
       go : (outside low high : Bool) → ltb cap f.link ≡ outside → ltb (32 * f.group + 31) (byte_of (get_or N (f.link - 1) 0)) ≡ high
           → Within cap f
-          (cond outside Broken
-          (cond low Broken
-          (cond high Broken (Child (f.link - 1) (byte_of (get_or N (f.link - 1) 0)) (link_of (get_or N (f.link - 1) 0))))))
+          (cond outside None
+          (cond low None
+          (cond high None (Some (Child (f.link - 1) (byte_of (get_or N (f.link - 1) 0)) (link_of (get_or N (f.link - 1) 0)))))))
       go true low high e g = tt
       go false true high e g = tt
       go false false true e g = tt
@@ -68,13 +50,13 @@ module _ (N : List ℕ) (cap : ℕ) (f : Frame) (m : f.group < 8) where
   step-within = go (eqb f.link 0) (ltb f.group 7) refl refl
     where
       go : (q r : Bool) → eqb f.link 0 ≡ q → ltb f.group 7 ≡ r
-          → Within cap f (cond q (cond r (Chain (get_or N (head_at cap f.node (f.group + 1)) 0)) Up) (step_along N cap f))
+          → Within cap f (cond q (cond r (Some (Chain (get_or N (head_at cap f.node (f.group + 1)) 0))) (Some Up)) (step_along N cap f))
       go true true e g = ltb-true f.group 7 g
       go true false e g = tt
       go false r e g = within-along (omega (arith, eqb-false f.link 0 e))
 
-  pub chain-within : (link : ℕ) → next_child N cap f ≡ Chain link → f.group < 7
+  pub chain-within : (link : ℕ) → next_child N cap f ≡ Some (Chain link) → f.group < 7
   chain-within link e = subst (Within cap f) e step-within
 
-  pub child-within : (x byte link : ℕ) → next_child N cap f ≡ Child x byte link → (x < cap) × (byte < 256)
+  pub child-within : (x byte link : ℕ) → next_child N cap f ≡ Some (Child x byte link) → (x < cap) × (byte < 256)
   child-within x byte link e = subst (Within cap f) e step-within

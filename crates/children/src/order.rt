@@ -12,18 +12,17 @@ pub fn is_bare(nodes: &[u32], cap: usize, x: usize) -> bool
     requires x_lt_cap { x < cap }
     ensures { result ≡ bare nodes.now cap x }
 {
-    let mut g = 0;
-    while g < 8 {
+    for g in 0..8 {
         if nodes[head_at(cap, x, g)] != 0 {
             return false;
         }
-        g += 1;
     }
     true
 }
 
 // The children of a node from `link` on in chain `group`, whose bytes are to be `least` or more, and those in the later chains.
-#[derive(Clone, Copy)]
+// Not generic with `cursor`, which reads a head's link alone and tests no byte: each test here would be a branch on the type.
+#[derive(Clone, Copy, Debug, PartialEq, Eq)]
 pub struct Frame {
     pub node: u32,
     pub group: u32,
@@ -31,16 +30,15 @@ pub struct Frame {
     pub least: u32,
 }
 
-#[derive(Clone, Copy)]
+// A step to what is still to come of a frame.
+#[derive(Clone, Copy, Debug, PartialEq, Eq)]
 pub enum Step {
     // to the next chain, by its first link
     Chain(u32),
-    // to a child: its number, its byte, and the link after it
-    Child(u32, u32, u32),
+    // to a child; `link` is the one after it
+    Child { node: u32, byte: u32, link: u32 },
     // no child is left
     Up,
-    // a link or a byte is not in order
-    Broken,
 }
 
 // All children of node x.
@@ -85,29 +83,35 @@ pub fn next_chain(frame: Frame, link: u32) -> Frame
     }
 }
 
-// The step to the next child of a chain.
-fn step_along(nodes: &[u32], cap: usize, frame: Frame) -> Step
+// The step to the next child of a chain; none where a link or a byte is not in order.
+#[tactic(auto, unfolding(crate::specs::Order::step_along))]
+fn step_along(nodes: &[u32], cap: usize, frame: Frame) -> Option<Step>
     requires node_table { NodeTable cap nodes.now }
     requires link_nonzero { (0 < frame.link) × (frame.group < 8) }
     ensures { result ≡ step_along nodes.now cap frame }
 {
     let x = frame.link - 1;
     if x as usize >= cap {
-        return Step::Broken;
+        return None;
     }
     let w = nodes[x as usize];
     let byte = byte_of(w);
     if byte < frame.least {
-        return Step::Broken;
+        return None;
     }
     if 32 * frame.group + 31 < byte {
-        return Step::Broken;
+        return None;
     }
-    Step::Child(x, byte, link_of(w))
+    Some(Step::Child {
+        node: x,
+        byte,
+        link: link_of(w),
+    })
 }
 
-// The next step: along the chain, else to the next chain, else up.
-pub fn next_child(nodes: &[u32], cap: usize, frame: Frame) -> Step
+// The next step: along the chain, else to the next chain, else up; none where a link or a byte is not in order.
+#[tactic(auto, unfolding(crate::specs::Order::next_child))]
+pub fn next_child(nodes: &[u32], cap: usize, frame: Frame) -> Option<Step>
     requires node_table { NodeTable cap nodes.now }
     requires node_lt_cap { (frame.node < cap) × (frame.group < 8) }
     ensures { result ≡ next_child nodes.now cap frame }
@@ -116,8 +120,8 @@ pub fn next_child(nodes: &[u32], cap: usize, frame: Frame) -> Step
         return step_along(nodes, cap, frame);
     }
     if frame.group >= 7 {
-        return Step::Up;
+        return Some(Step::Up);
     }
     let g = frame.group as usize + 1;
-    Step::Chain(nodes[head_at(cap, frame.node as usize, g)])
+    Some(Step::Chain(nodes[head_at(cap, frame.node as usize, g)]))
 }

@@ -1,6 +1,7 @@
 -- A small store, computed: the laws' hypotheses can be met. Two blocks of a symbol each, three nodes, one page: it stands in a leaf below
 -- the first root, and in the second root itself. Its class is 0, and its row is blank, as stores from before question 15 may have it: the
 -- store is sound. It is dropped.
+use Rattle.std.specs.Prelude.{Some}
 use Prim.Native.Nat.{ℕ, zero, suc, ◌+◌, ◌-◌, ◌≤◌, ◌<◌}
 use native.Mathlib.Omega.{arith}
 use mathlib.Core.Path.{◌≡◌, refl, sym, ◌∙◌}
@@ -30,8 +31,8 @@ use Rattle.children.specs.Places.{place_from, find_place}
 use Rattle.children.specs.Phys.{Phys, no_kid, kid, heads_from, leaf_p, inner_p}
 use Rattle.trie_laws.specs.Sound.{filled, sound_trie, Stands}
 use Rattle.trie.specs.Descend.{step_to, descend, descend_to, passed_at}
-use Rattle.blocks.specs.RowBytes.{reduced, row_bytes}
-use Rattle.trie_remove.specs.declared.Removed.TheVariants.{Done}
+use Rattle.sketch.specs.Reduced.{reduced}
+use Rattle.blocks.specs.RowBytes.{row_bytes}
 use Rattle.trie_remove.specs.Take.{take_page}
 use Rattle.trie.specs.Model.{free_child}
 use Rattle.trie_remove.specs.Prune.{prune_up}
@@ -124,6 +125,6 @@ sound = record {
 done : DropSound T 0 (forest_after (given T) (rows_of T) (drop 0) F)
 done = drop-sound T F sound 0 (admitted T 0 passes)
 
-computed : remove_all (given T) T.sketches 0 N T.pages 0 ≡ gone (0 ∷ 0 ∷ 0 ∷ 131072 ∷ 131072 ∷ 0 ∷ 0 ∷ replicate 23 0) T.pages (Done 3)
+computed : remove_all (given T) T.sketches 0 N T.pages 0 ≡ gone (0 ∷ 0 ∷ 0 ∷ 131072 ∷ 131072 ∷ 0 ∷ 0 ∷ replicate 23 0) T.pages (Some 3)
 unfolding remove_all remove_from remove_block remove_page remove_at shorten_leaf prune_up bare all upto from free_child kind_of take_page descend_to descend step_to passed_at find_place place_from settings settings_of header given₁ row_bytes reduced row_of bytes_of_sketch pack pack_bytes pack_byte packed_length per_byte block block_length block_start
 computed = refl

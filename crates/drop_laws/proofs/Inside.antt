@@ -1,4 +1,5 @@
 -- On any tables a removal writes words of the tries only: the tables keep their lengths, and the words outside stay.
+use Rattle.std.specs.Prelude.{Some, None, Ok, Err}
 use Prim.Native.Nat.{ℕ, zero, suc, ◌+◌, ◌-◌, ◌≤◌, ◌<◌}
 use native.Mathlib.Omega.{arith}
 use mathlib.Core.Path.{◌≡◌, refl}
@@ -18,15 +19,14 @@ use Rattle.children.specs.Places.{link_at}
 use Rattle.trie.specs.declared.path.Reach.{Reach}
 use Rattle.trie.specs.declared.path.Reach.TheVariants.{Leaf, Gap}
 use Rattle.trie.specs.declared.path.Reach.TheVariants as reach
-use Rattle.trie.specs.Descend.{descend_to, Inside as ReachInside, Passed, passed_at}
+use Rattle.trie.specs.declared.path.Passed.{Passed}
+use Rattle.trie.specs.Descend.{descend_to, Inside as ReachInside, passed_at}
 use Rattle.trie.proofs.Inside.{descend-inside}
 use Rattle.trie.proofs.Notes.{passed-inside}
 use Rattle.blocks.specs.RowBytes.{row_bytes}
 use Rattle.blocks.proofs.BlockBytes.{row-octets}
 use Rattle.blocks.proofs.Tables.{links-high}
-use Rattle.trie_remove.specs.declared.Taken.TheVariants.{Out}
-use Rattle.trie_remove.specs.declared.Taken.TheVariants as taken
-use Rattle.trie_remove.specs.declared.Removed.TheVariants.{Done, Broken}
+use Rattle.trie_remove.specs.declared.Lost.TheVariants.{Missing, Broken}
 use Rattle.trie_remove.specs.Take.{Took, took, take_from, take_page}
 use Rattle.trie.specs.Model.{free_child}
 use Rattle.trie_remove.specs.Prune.{Freed, freed, prune_up, InTable}
@@ -46,7 +46,7 @@ module _ (lo hi pcap base p : ℕ) (low : lo ≤ base) (high : base + pcap ≤ h
   behind-within (suc f) P a l = go (eqb l 0) refl (ltb pcap l) refl (eqb (get_or P (base + (l - 1)) 0) (p + 1)) (behind-within f P a (get_or P (base + (l - 1)) 0))
     where
       go : (z : Bool) → eqb l 0 ≡ z → (w : Bool) → ltb pcap l ≡ w → (h : Bool) → TookIn P (take_from P pcap base p a (get_or P (base + (l - 1)) 0) f) →
-          TookIn P (cond z (took P taken.Missing) (cond w (took P taken.Broken) (cond h (took (set P (base + (l - 1)) (get_or P (base + p) 0)) (Out a))
+          TookIn P (cond z (took P (Err Missing)) (cond w (took P (Err Broken)) (cond h (took (set P (base + (l - 1)) (get_or P (base + p) 0)) (Ok a))
           (take_from P pcap base p a (get_or P (base + (l - 1)) 0) f))))
       go true e w m h ih = within_none
       go false e true m h ih = within_none
@@ -60,7 +60,7 @@ module _ (lo hi pcap base p : ℕ) (low : lo ≤ base) (high : base + pcap ≤ h
   unfolding take_page
   take_within P l = go (eqb l (p + 1)) (ltb pcap (get_or P (base + p) 0))
     where
-      go : (z w : Bool) → TookIn P (cond z (cond w (took P taken.Broken) (took P (Out (get_or P (base + p) 0)))) (take_from P pcap base p l l pcap))
+      go : (z w : Bool) → TookIn P (cond z (cond w (took P (Err Broken)) (took P (Ok (get_or P (base + p) 0)))) (take_from P pcap base p l l pcap))
       go true true = within_none
       go true false = within_none
       go false w = behind-within pcap P l l
@@ -135,17 +135,16 @@ module _ (cap lo hi pcap base p : ℕ) (low : lo ≤ base) (high : base + pcap �
       left P' (freed N' free') h g = (h, g)
 
       go : (t : Took) → TookIn lo hi pcap base p low high P t → GoneIn cap lo hi N P (remove_taken N cap way n s k free t)
-      go (took P' (Out l)) h = left P' (shorten_leaf N cap way n s k l free) (leaf-within cap way N n s k l free ln ls w) h
-      go (took P' taken.Missing) h = (within_none, h)
-      go (took P' taken.Broken) h = (within_none, h)
+      go (took P' (Ok l)) h = left P' (shorten_leaf N cap way n s k l free) (leaf-within cap way N n s k l free ln ls w) h
+      go (took P' (Err why)) h = (within_none, h)
 
   page-within : (N P Y : List ℕ) (root free : ℕ) → root < cap → ((k : ℕ) → get_or Y k 0 < 256) → GoneIn cap lo hi N P (remove_page N P cap pcap base root Y p free)
   unfolding remove_page
   page-within N P Y root free lr o = go (descend_to N cap root Y) (descend-inside N cap Y o root lr)
     where
       go : (r : Reach) → ReachInside cap (length Y) r → GoneIn cap lo hi N P (remove_reached N P cap pcap base (passed_at N cap root Y) p free r)
-      go (Leaf n s k) h = at-within N P (passed_at N cap root Y) n s k free h.0 h.1 (λ j l. passed-inside N cap root Y lr o j)
-      go (Gap n s k) h = (within_none, within_none)
+      go (Leaf at) h = at-within N P (passed_at N cap root Y) at.node at.slot at.level free h.0 h.1 (λ j l. passed-inside N cap root Y lr o j)
+      go (Gap at) h = (within_none, within_none)
       go reach.Broken h = (within_none, within_none)
 
 -- ---- all blocks
@@ -170,8 +169,8 @@ module _ (s : Settings) (S : List ℕ) (p : ℕ) (enough : s.blocks ≤ s.nodes)
 
       go : (r : Gone) → InTries N P r → ((N' P' : List ℕ) (free' : ℕ) → InTries N' P' (remove_from s S p k (suc j) N' P' free')) →
           InTries N P (on_removed (λ N' P' free'. remove_from s S p k (suc j) N' P' free') r)
-      go (gone N' P' (Done free')) h ih = next N' P' h (remove_from s S p k (suc j) N' P' free') (ih N' P' free')
-      go (gone N' P' Broken) h ih = h
+      go (gone N' P' (Some free')) h ih = next N' P' h (remove_from s S p k (suc j) N' P' free') (ih N' P' free')
+      go (gone N' P' None) h ih = h
 
   pub all-within : (N P : List ℕ) (free : ℕ) → InTries N P (remove_all s S p N P free)
   unfolding remove_all

@@ -1,4 +1,5 @@
 -- On tables that hold a trie for each block, in which the page stands, `remove_from` takes the page out of each.
+use Rattle.std.specs.Prelude.{Some}
 use Prim.Native.Nat.{ℕ, suc, ◌+◌, ◌*◌, ◌≤◌, ◌<◌}
 use native.Mathlib.Omega.{arith}
 use mathlib.Core.Path.{◌≡◌, refl, ap, ◌∙◌}
@@ -20,7 +21,6 @@ use Rattle.trie.proofs.Arrival.{Leads, sound-leads}
 use Rattle.blocks.specs.Tables.{Roomy}
 use Rattle.blocks.specs.RowBytes.{row_bytes}
 use Rattle.blocks.proofs.BlockBytes.{row-length, row-octets}
-use Rattle.trie_remove.specs.declared.Removed.TheVariants.{Done}
 use Rattle.trie_remove.specs.Remove.{Gone, gone}
 use Rattle.trie_remove.proofs.Removal.{RemoveDone, remove-right}
 use Rattle.promises.specs.Sound.{tries_cells, Rooted}
@@ -42,7 +42,7 @@ pub record LeftFrom (s : Settings) (j total : ℕ) (want : List Tree) (G : Cells
   pub free_to : ℕ
   pub to : List Phys
   pub frees_to : List ℕ
-  pub is : R ≡ gone nodes_to pages_to (Done free_to)
+  pub is : R ≡ gone nodes_to pages_to (Some free_to)
   pub heap : Heap nodes_to pages_to (tries_cells s.nodes s.pages j to ⊕ free_cells s.nodes frees_to ⊕ G)
   pub roots : Rooted s.nodes s.pages j to
   pub chain : free_to ≡ first frees_to

@@ -1,5 +1,5 @@
 -- `drop_page` keeps the promise of a drop.
-use Rattle.std.specs.Prelude.{Result, Ok, Err}
+use Rattle.std.specs.Prelude.{Option, Some, None, Result, Ok, Err}
 use Rattle.layout.specs.declared.Header.{Header}
 use Prim.Native.Nat.{ℕ}
 use native.Mathlib.Omega.{arith}
@@ -13,8 +13,6 @@ use Rattle.meaning.specs.Forest.{forest_after}
 use Rattle.layout.specs.Pages.{links_at}
 use Rattle.layout.specs.Lengths.{pages_length}
 use Rattle.layout.specs.Settings.{free_at}
-use Rattle.trie_remove.specs.declared.Removed.{Removed}
-use Rattle.trie_remove.specs.declared.Removed.TheVariants.{Done, Broken}
 use Rattle.trie_remove.specs.Remove.{Gone, gone}
 use Rattle.promises.specs.Tables.{Tables, given, rows_of}
 use Rattle.promises.specs.Answers.{number}
@@ -46,14 +44,14 @@ drop-refused T p n e h =
 
 -- the tables that a drop leaves are those that the law tells of
 told : (T : Tables) (p : ℕ) (F : List Tree) (D : DropSound T p F) (N P : List ℕ) (free : ℕ) →
-    gone N P (Done free) ≡ gone D.nodes_to D.pages_to (Done D.free_to) → Sound (dropped T p N P free) F
+    gone N P (Some free) ≡ gone D.nodes_to D.pages_to (Some D.free_to) → Sound (dropped T p N P free) F
 told T p F D N P free e =
     let en : N ≡ D.nodes_to = cc in
     let ep : P ≡ D.pages_to = cc in
     let ef : free ≡ D.free_to = cc in
     rw (en, ep, ef) D.sound
 
-module _ (T : Tables) (p : ℕ) (z : number T [] (drop p) ≡ 0) (N P : List ℕ) (r : Removed)
+module _ (T : Tables) (p : ℕ) (z : number T [] (drop p) ≡ 0) (N P : List ℕ) (r : Option ℕ)
     (is : remove_all (given T) T.sketches p T.nodes T.pages (get_or T.settings free_at 0) ≡ gone N P r) where
   known : Admitted T p
   known = admitted T p z
@@ -64,7 +62,7 @@ module _ (T : Tables) (p : ℕ) (z : number T [] (drop p) ≡ 0) (N P : List ℕ
       (all-within (given T) T.sketches p known.opened.lent.limits.nodes-least T.nodes T.pages (get_or T.settings free_at 0))
 
   -- the page left every trie
-  drop-done : (free : ℕ) → r ≡ Done free → DropPromise T p 0 (dropped T p N P free)
+  drop-done : (free : ℕ) → r ≡ Some free → DropPromise T p 0 (dropped T p N P free)
   drop-done free e =
       record {
         early = λ h. absurd (h z);
@@ -86,7 +84,7 @@ module _ (T : Tables) (p : ℕ) (z : number T [] (drop p) ≡ 0) (N P : List ℕ
           told T p (forest_after (given T) (rows_of T) (drop p) F) D N P free (ap (gone N P) (sym e) ∙ sym is ∙ D.is)
 
   -- a removal stopped: the store was not sound
-  drop-broken : r ≡ Broken → DropPromise T p 14 (with_tries T N P)
+  drop-broken : r ≡ None → DropPromise T p 14 (with_tries T N P)
   drop-broken e =
       record {
         early = λ h. absurd (h z);
@@ -102,7 +100,7 @@ module _ (T : Tables) (p : ℕ) (z : number T [] (drop p) ≡ 0) (N P : List ℕ
       never : (F : List Tree) → Sound T F → ⊥
       never F S =
           let D = drop-sound T F S p known in
-          let both : gone N P Broken ≡ gone D.nodes_to D.pages_to (Done D.free_to) = ap (gone N P) (sym e) ∙ sym is ∙ D.is in
+          let both : gone N P None ≡ gone D.nodes_to D.pages_to (Some D.free_to) = ap (gone N P) (sym e) ∙ sym is ∙ D.is in
           let x : ◌≡◌ {A = ℕ} 0 1 = cc in
           omega arith
 
@@ -117,8 +115,8 @@ module _ (T : Tables) (p : ℕ) where
     where
       taken : number T [] (drop p) ≡ 0 → (r : Gone) →
           remove_all (given T) T.sketches p T.nodes T.pages (get_or T.settings free_at 0) ≡ r → Keeps (on_gone T p r)
-      taken z (gone N P (Done free)) e = drop-done T p z N P (Done free) e free refl
-      taken z (gone N P Broken) e = drop-broken T p z N P Broken e refl
+      taken z (gone N P (Some free)) e = drop-done T p z N P (Some free) e free refl
+      taken z (gone N P None) e = drop-broken T p z N P None e refl
 
       go : (o : Result Header ℕ) → admission T (drop p) ≡ o → Keeps (on_opening T p o)
       go (Ok h) e = taken (admission-shown T (drop p) h e).0 (remove_all (given T) T.sketches p T.nodes T.pages (get_or T.settings free_at 0)) refl

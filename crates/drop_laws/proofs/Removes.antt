@@ -1,4 +1,5 @@
 -- The loop over the blocks that takes the page out of each trie.
+use Rattle.std.specs.Prelude.{Option, Some, None}
 use Prim.Native.Nat.{ℕ, zero, suc, ◌+◌, ◌-◌, ◌≤◌, ◌<◌}
 use native.Mathlib.Omega.{arith}
 use native.Mathlib.Numerals.{add-one}
@@ -8,8 +9,6 @@ use Rattle.meaning.specs.Ledger.{Settings}
 use Rattle.meaning.specs.Forest.{bytes_of_sketch}
 use Rattle.layout.specs.Header.{header_of, bare}
 use Rattle.blocks.specs.RowBytes.{row_bytes}
-use Rattle.trie_remove.specs.declared.Removed.{Removed}
-use Rattle.trie_remove.specs.declared.Removed.TheVariants.{Done, Broken}
 use Rattle.trie_remove.specs.Remove.{Gone, gone}
 use Rattle.drop_laws.specs.Removal.{on_removed, remove_block, remove_from, remove_all}
 
@@ -18,11 +17,11 @@ unfolding remove_all
 remove-start s S p N P free = ap (λ (k : ℕ). remove_from s S p k 0 N P free) (omega arith)
 
 module _ (s : Settings) (S : List ℕ) (p j : ℕ) (N P : List ℕ) (free : ℕ) (R : Gone) (inv : remove_from s S p (s.blocks - j) j N P free ≡ R) where
-  pub remove-done : s.blocks ≤ j → gone N P (Done free) ≡ R
+  pub remove-done : s.blocks ≤ j → gone N P (Some free) ≡ R
   unfolding remove_from
   remove-done h = let e : s.blocks - j ≡ 0 = omega arith in rw (← inv, e) refl
 
-  module _ (h : j < s.blocks) (N' P' : List ℕ) (r : Removed) (e : gone N' P' r ≡ remove_block s S p j N P free) where
+  module _ (h : j < s.blocks) (N' P' : List ℕ) (r : Option ℕ) (e : gone N' P' r ≡ remove_block s S p j N P free) where
     unroll : remove_from s S p (s.blocks - j) j N P free ≡ on_removed (λ N'' P'' free'. remove_from s S p (s.blocks - (j + 1)) (j + 1) N'' P'' free') (remove_block s S p j N P free)
     unfolding remove_from
     unroll = let q : s.blocks - j ≡ suc (s.blocks - (j + 1)) = omega arith in rw (q, add-one j) refl
@@ -30,10 +29,10 @@ module _ (s : Settings) (S : List ℕ) (p j : ℕ) (N P : List ℕ) (free : ℕ)
     step : on_removed (λ N'' P'' free'. remove_from s S p (s.blocks - (j + 1)) (j + 1) N'' P'' free') (gone N' P' r) ≡ R
     step = ap (on_removed (λ N'' P'' free'. remove_from s S p (s.blocks - (j + 1)) (j + 1) N'' P'' free')) e ∙ sym unroll ∙ inv
 
-    pub remove-more : (next : ℕ) → r ≡ Done next → remove_from s S p (s.blocks - (j + 1)) (j + 1) N' P' next ≡ R
+    pub remove-more : (next : ℕ) → r ≡ Some next → remove_from s S p (s.blocks - (j + 1)) (j + 1) N' P' next ≡ R
     remove-more next m = rw m at step
 
-    pub remove-broken : r ≡ Broken → gone N' P' Broken ≡ R
+    pub remove-broken : r ≡ None → gone N' P' None ≡ R
     remove-broken m = rw m at step
 
 -- nothing hangs on the thresholds
@@ -44,5 +43,5 @@ remove-bare s S p (suc k) j N P free = go (remove_block s S p j N P free) (remov
   where
     go : (r : Gone) → ((N' P' : List ℕ) (free' : ℕ) → remove_from (bare (header_of s)) S p k (suc j) N' P' free' ≡ remove_from s S p k (suc j) N' P' free') →
         on_removed (λ N' P' free'. remove_from (bare (header_of s)) S p k (suc j) N' P' free') r ≡ on_removed (λ N' P' free'. remove_from s S p k (suc j) N' P' free') r
-    go (gone N' P' (Done free')) ih = ih N' P' free'
-    go (gone N' P' Broken) ih = refl
+    go (gone N' P' (Some free')) ih = ih N' P' free'
+    go (gone N' P' None) ih = refl

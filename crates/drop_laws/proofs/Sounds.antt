@@ -1,4 +1,5 @@
 -- A drop on a sound store leaves a sound store, whose tries are without the page.
+use Rattle.std.specs.Prelude.{Some}
 use Prim.Native.Nat.{ℕ, ◌+◌, ◌≤◌, ◌<◌}
 use native.Mathlib.Decide.{ℕ_discrete}
 use native.Mathlib.Omega.{arith}
@@ -28,7 +29,6 @@ use Rattle.trie_laws.proofs.Forest.{each-length}
 use Rattle.blocks.specs.RowBytes.{row_bytes}
 use Rattle.blocks.proofs.RowBytes.{row_same}
 use Rattle.blocks.proofs.Tables.{roomy}
-use Rattle.trie_remove.specs.declared.Removed.TheVariants.{Done}
 use Rattle.trie_remove.specs.Remove.{gone}
 use Rattle.promises.specs.Tables.{Tables, given, page_class, page_row, rows_of}
 use Rattle.promises.specs.Sound.{tries_cells, live_page, page_bytes, SoundPage, Sound}
@@ -128,7 +128,7 @@ pub record DropSound (T : Tables) (p : ℕ) (F : List Tree) : Type 0 where
   pub nodes_to : List ℕ
   pub pages_to : List ℕ
   pub free_to : ℕ
-  pub is : remove_all (given T) T.sketches p T.nodes T.pages (get_or T.settings free_at 0) ≡ gone nodes_to pages_to (Done free_to)
+  pub is : remove_all (given T) T.sketches p T.nodes T.pages (get_or T.settings free_at 0) ≡ gone nodes_to pages_to (Some free_to)
   pub sound : Sound (dropped T p nodes_to pages_to free_to) F
 
 module _ (T : Tables) (F : List Tree) (S : Sound T F) (p : ℕ) (a : Admitted T p) where
@@ -147,7 +147,7 @@ module _ (T : Tables) (F : List Tree) (S : Sound T F) (p : ℕ) (a : Admitted T 
       remove-from (given T) T.sketches p (row_in T p a) (live_page T) here (page_bytes T) mine S.tries 0 (roomy (given T) T.nodes T.pages T.sketches a.opened.lent) S.free H.chain H.below nil
       (omega (arith, H.blocks)) (less (beside_none _ _) H.words) H.roots (rw S.forest S.blocks)
 
-  left_is : remove_all (given T) T.sketches p T.nodes T.pages (get_or T.settings free_at 0) ≡ gone left.nodes_to left.pages_to (Done left.free_to)
+  left_is : remove_all (given T) T.sketches p T.nodes T.pages (get_or T.settings free_at 0) ≡ gone left.nodes_to left.pages_to (Some left.free_to)
   unfolding remove_all
   left_is =
       ap (λ (k : ℕ). remove_from (given T) T.sketches p k 0 T.nodes T.pages (get_or T.settings free_at 0)) (sym S.holding.blocks) ∙ left.is

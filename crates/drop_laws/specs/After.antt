@@ -1,12 +1,11 @@
 -- What a drop does with any tables: T are those at entry, p the page.
+use Rattle.std.specs.Prelude.{ℕ, List, get_or, set, Some, None, Result, Ok, Err}
 use Rattle.layout.specs.declared.Header.{Header}
-use Rattle.std.specs.Prelude.{ℕ, List, get_or, set, Result, Ok, Err}
 use Rattle.meaning.specs.Ledger.{drop}
 use Rattle.layout.specs.Settings.{free_at}
 use Rattle.layout.specs.Pages.{without_page}
 use Rattle.promises.specs.Tables.{Tables, given}
 use Rattle.promises.specs.Store.{Outcome, outcome}
-use Rattle.trie_remove.specs.declared.Removed.TheVariants.{Done, Broken}
 use Rattle.trie_remove.specs.Remove.{Gone, gone}
 use Rattle.entry.specs.Admission.{admission}
 use Rattle.drop_laws.specs.Removal.{remove_all}
@@ -28,8 +27,8 @@ dropped T p N P free = record {
 module _ (T : Tables) (p : ℕ) where
   -- 14 where a removal stops on unsound tables: the promise of a drop names the causes
   abbrev pub on_gone : Gone → Outcome
-  on_gone (gone N P (Done free)) = outcome 0 (dropped T p N P free)
-  on_gone (gone N P Broken) = outcome 14 (with_tries T N P)
+  on_gone (gone N P (Some free)) = outcome 0 (dropped T p N P free)
+  on_gone (gone N P None) = outcome 14 (with_tries T N P)
 
   -- 5, 6, 8 and 9
   abbrev pub on_opening : Result Header ℕ → Outcome

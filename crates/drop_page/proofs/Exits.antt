@@ -1,5 +1,5 @@
 -- What `drop_page` knows past its questions, and its ways out.
-use Rattle.std.specs.Prelude.{Ok, Err}
+use Rattle.std.specs.Prelude.{Option, Some, None, Ok, Err}
 use Prim.Native.Nat.{ℕ, ◌<◌, ◌≤◌}
 use native.Mathlib.Omega.{arith}
 use mathlib.Core.Path.{◌≡◌, sym, ap, ◌∙◌}
@@ -16,8 +16,6 @@ use Rattle.layout.proofs.Words.{page-inside}
 use Rattle.promises.specs.Tables.{Tables, tables, given}
 use Rattle.promises.specs.Answers.{number}
 use Rattle.promises.specs.Store.{outcome, DropPromise}
-use Rattle.trie_remove.specs.declared.Removed.{Removed}
-use Rattle.trie_remove.specs.declared.Removed.TheVariants.{Done, Broken}
 use Rattle.trie_remove.specs.Remove.{gone}
 use Rattle.entry.specs.Admission.{admission}
 use Rattle.entry.proofs.Admits.{admission-shown}
@@ -59,7 +57,7 @@ module _ (ws N P S : List ℕ) (p : ℕ) where
     unfolding pages_length
     word_in = omega (arith, page-inside (given T) known.page, known.opened.lent.pages-long)
 
-    module _ (N' P' : List ℕ) (r : Removed) (free : ℕ) (f : free ≡ get_or ws free_at 0) (g : gone N' P' r ≡ remove_all (bare h) S p N P free) where
+    module _ (N' P' : List ℕ) (r : Option ℕ) (free : ℕ) (f : free ≡ get_or ws free_at 0) (g : gone N' P' r ≡ remove_all (bare h) S p N P free) where
       comes-to : remove_all (given T) S p N P (get_or ws free_at 0) ≡ gone N' P' r
       unfolding remove_all
       comes-to =
@@ -69,8 +67,8 @@ module _ (ws N P S : List ℕ) (p : ℕ) where
       unfolding drop_page
       leaves = ap (on_gone T p) (sym comes-to) ∙ ap (on_opening T p) e
 
-      pub drops : (link : ℕ) → r ≡ Done link → (ws' P'' : List ℕ) → ws' ≡ set ws free_at link → P'' ≡ without_page P' p → Meets 0 (tables ws' N' P'' S [])
+      pub drops : (link : ℕ) → r ≡ Some link → (ws' P'' : List ℕ) → ws' ≡ set ws free_at link → P'' ≡ without_page P' p → Meets 0 (tables ws' N' P'' S [])
       drops link d ws' P'' v w = drop-promise T p 0 (tables ws' N' P'' S []) (rw (v, w) (rw d at leaves))
 
-      pub breaks : r ≡ Broken → Meets 14 (tables ws N' P' S [])
+      pub breaks : r ≡ None → Meets 14 (tables ws N' P' S [])
       breaks d = drop-promise T p 14 (tables ws N' P' S []) (rw d at leaves)

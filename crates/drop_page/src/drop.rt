@@ -6,7 +6,6 @@ ghost use Rattle.drop_laws.specs.After.{drop_page};
 
 use drop_steps::{questions, removal};
 use layout::Opening;
-use trie_remove::Removed;
 
 // Takes the page out of each block's trie and strikes it out. Gives the number of the first "no", or 0.
 pub fn drop_page(
@@ -27,11 +26,11 @@ pub fn drop_page(
     let p = page as usize;
     let removed = removal::remove_all(nodes, pages, sketches, h, p, free);
     match removed {
-        Removed::Done(link) => {
+        Some(link) => {
             settings::set_free_link(settings, link);
             layout::pages::strike_page(pages, p);
             0
         }
-        Removed::Broken => 14,
+        None => 14,
     }
 }

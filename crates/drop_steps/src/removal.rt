@@ -8,7 +8,6 @@ ghost use Rattle.drop_laws.specs.Removal.{remove_block, remove_all};
 use blocks::packed::row_bytes;
 use blocks::{block_of, rows_of};
 use layout::Header;
-use trie_remove::Removed;
 
 // Of one block; the arrays are for the path to the page's leaf.
 fn remove_block(
@@ -21,7 +20,7 @@ fn remove_block(
     p: usize,
     j: usize,
     free: u32,
-) -> Removed
+) -> Option<u32>
     requires lent { Lent h nodes.old pages.old sketches.now }
     requires p_lt_pages { p < h.pages }
     requires j_lt_q { j < h.q }
@@ -45,7 +44,7 @@ pub fn remove_all(
     h: Header,
     p: usize,
     free: u32,
-) -> Removed
+) -> Option<u32>
     requires lent { Lent h nodes.old pages.old sketches.now }
     requires p_lt_pages { p < h.pages }
     ensures { gone nodes.new pages.new result ≡ remove_all (bare h) sketches.now p nodes.old pages.old free }
@@ -60,14 +59,14 @@ pub fn remove_all(
             nodes, pages, &mut above, &mut slots, sketches, h, p, j, link,
         );
         match removed {
-            Removed::Done(next) => {
+            Some(next) => {
                 link = next;
                 j += 1;
             }
-            Removed::Broken => {
-                return Removed::Broken;
+            None => {
+                return None;
             }
         }
     }
-    Removed::Done(link)
+    Some(link)
 }

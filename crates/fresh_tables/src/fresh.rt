@@ -9,9 +9,7 @@ ghost use Rattle.layout.specs.Lengths.{nodes_length};
 ghost use Rattle.promises.specs.Answers.{free_link, fresh_chain, fresh_state, fresh_nodes};
 
 use layout::Header;
-
-// A leaf with no pages.
-const EMPTY: u32 = 131072;
+use layout::nodes::State;
 
 // The link to node x of the free chain, or none past the last node.
 #[tactic(auto, unfolding(promises::specs::Answers::free_link))]
@@ -39,11 +37,8 @@ fn write_chain(nodes: &mut [u32], h: Header)
     requires { (h.nodes ≤ most_nodes) × (h.nodes ≤ length nodes.old) }
     ensures { nodes.new ≡ sets nodes.old 0 (map (fresh_chain (bare h)) (upto h.nodes)) }
 {
-    let cap = h.nodes;
-    let mut x = 0;
-    while x < cap {
+    for x in 0..h.nodes {
         nodes[x] = chain_word(h, x);
-        x += 1;
     }
 }
 
@@ -51,7 +46,8 @@ fn write_chain(nodes: &mut [u32], h: Header)
 fn state_word(h: Header, x: usize) -> u32
     ensures { result ≡ fresh_state (bare h) x }
 {
-    if x < h.q { EMPTY } else { 0 }
+    let state = if x < h.q { State::Empty } else { State::Free };
+    state.word()
 }
 
 #[tactic(auto, unfolding(promises::specs::Answers::fresh_state, meaning::specs::Lists::upto))]
@@ -59,11 +55,8 @@ fn write_states(nodes: &mut [u32], h: Header)
     requires { (h.nodes ≤ most_nodes) × (h.nodes + h.nodes ≤ length nodes.old) }
     ensures { nodes.new ≡ sets nodes.old h.nodes (map (fresh_state (bare h)) (upto h.nodes)) }
 {
-    let cap = h.nodes;
-    let mut x = 0;
-    while x < cap {
-        nodes[cap + x] = state_word(h, x);
-        x += 1;
+    for x in 0..h.nodes {
+        nodes[h.nodes + x] = state_word(h, x);
     }
 }
 

@@ -1,4 +1,5 @@
 -- A chain, and the bytes of its pages, one page at a time.
+use Rattle.std.specs.Prelude.{Option, Some, None}
 use Prim.Native.Nat.{ℕ, zero, suc, ◌+◌, ◌-◌, ◌<◌, ◌≤◌}
 use mathlib.Core.Path.{◌≡◌, refl, ap, ◌∙◌, sym, fun_ext}
 use mathlib.Core.List.{List, [], map}
@@ -11,8 +12,6 @@ use lib.ListN.{length, get_or, set, replicate}
 use lib.Seq.{get_or-set_same, get_or-set_other}
 use Rattle.children.proofs.Steps.{suc-pred}
 use Rattle.trie_laws.specs.Needed.{distinct_from}
-use Rattle.leaf_bytes.specs.declared.Needed.{Needed}
-use Rattle.leaf_bytes.specs.declared.Needed.TheVariants.{Nodes, Broken}
 use Rattle.leaf_bytes.specs.Chains.{next_link, Chained, whole, broken, ahead, chain_from}
 use Rattle.leaf_bytes.specs.Bytes.{bytes_with}
 
@@ -42,9 +41,9 @@ abbrev pub flagged : List Bool → ℕ → Bool
 flagged seen y = get_or seen y false
 
 -- n bytes, and those of a chain that have no flag
-abbrev pub counted : (ℕ → ℕ) → List Bool → ℕ → Chained → Needed
-counted byte_of seen n (whole ps) = Nodes (n + distinct_from (flagged seen) (map byte_of ps))
-counted byte_of seen n broken = Broken
+abbrev pub counted : (ℕ → ℕ) → List Bool → ℕ → Chained → Option ℕ
+counted byte_of seen n (whole ps) = Some (n + distinct_from (flagged seen) (map byte_of ps))
+counted byte_of seen n broken = None
 
 flag-set : (seen : List Bool) (v : ℕ) → v < length seen → (y : ℕ) → flagged (set seen v true) y ≡ eqb y v || flagged seen y
 flag-set seen v h y = go (eqb y v) refl
@@ -64,7 +63,7 @@ count-ahead : (byte_of : ℕ → ℕ) (seen : List Bool) (n x : ℕ) (c : Chaine
 unfolding distinct_from
 count-ahead byte_of seen n x broken h = refl
 count-ahead byte_of seen n x (whole ps) h =
-    rw (fun_ext (flag-set seen (byte_of x) h)) (ap Nodes (go (flagged seen (byte_of x))))
+    rw (fun_ext (flag-set seen (byte_of x) h)) (ap Some (go (flagged seen (byte_of x))))
   where
     rest : ℕ
     rest = distinct_from (λ y. eqb y (byte_of x) || flagged seen y) (map byte_of ps)
@@ -87,24 +86,24 @@ count-start byte_of byte seen (whole ps) h none =
     rw (fun_ext (λ y. flag-set seen byte h y ∙ ap (λ (q : Bool). eqb y byte || q) (none y))) refl
 
 -- `distinct_bytes` at each way out of a turn. R is what the whole comes to
-module _ (T : List ℕ) (base cap : ℕ) (byte_of : ℕ → ℕ) (seen : List Bool) (n link f : ℕ) (R : Needed)
+module _ (T : List ℕ) (base cap : ℕ) (byte_of : ℕ → ℕ) (seen : List Bool) (n link f : ℕ) (R : Option ℕ)
     (inv : counted byte_of seen n (chain_from T base cap link f) ≡ R) where
-  pub bytes-done : link ≡ 0 → Nodes n ≡ R
+  pub bytes-done : link ≡ 0 → Some n ≡ R
   unfolding distinct_from
-  bytes-done e = let z : n ≡ n + 0 = omega arith in ap Nodes z ∙ (rw (chain-none T base cap link f e) at inv)
+  bytes-done e = let z : n ≡ n + 0 = omega arith in ap Some z ∙ (rw (chain-none T base cap link f e) at inv)
 
   module _ (e : link ≡ 0 → ⊥) where
-    pub bytes-long : f ≡ 0 → Broken ≡ R
+    pub bytes-long : f ≡ 0 → None ≡ R
     bytes-long z = rw (chain-long T base cap link f e z) at inv
 
     module _ (h : f ≡ 0 → ⊥) where
-      pub bytes-broken : cap < link → Broken ≡ R
+      pub bytes-broken : cap < link → None ≡ R
       bytes-broken l = rw (chain-broken T base cap link f e h l) at inv
 
-      pub bytes_next : link ≤ cap → (v : ℕ) → v ≡ byte_of (link - 1) → v < length seen →
-          counted byte_of (set seen v true) (n + bool_byte (not (flagged seen v))) (chain_from T base cap (next_link T base link) (f - 1)) ≡ R
-      bytes_next l v q s =
-          rw q
+      pub bytes_next : link ≤ cap → (next g : ℕ) → next ≡ next_link T base link → g ≡ f - 1 → (v : ℕ) → v ≡ byte_of (link - 1) → v < length seen →
+          counted byte_of (set seen v true) (n + bool_byte (not (flagged seen v))) (chain_from T base cap next g) ≡ R
+      bytes_next l next g w z v q s =
+          rw (w, z, q)
           (sym (count-ahead byte_of seen n (link - 1) (chain_from T base cap (next_link T base link) (f - 1)) (omega (arith, q)))
           ∙ ap (counted byte_of seen n) (sym (chain_next T base cap link f e h l))
           ∙ inv)

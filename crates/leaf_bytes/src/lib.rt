@@ -9,12 +9,6 @@ ghost use Rattle.leaf_bytes.specs.Bytes.{distinct_bytes};
 use blocks::Level;
 use layout::Block;
 
-#[derive(Clone, Copy)]
-pub enum Needed {
-    Nodes(usize),
-    Broken,
-}
-
 // How many different bytes a new page's byte and those of the pages of a chain are at one level: so many children a leaf with
 // these pages gets. A chain that is longer than the capacity is broken.
 #[tactic(auto, unfolding(crate::specs::Bytes::distinct_bytes))]
@@ -25,7 +19,7 @@ pub fn distinct_bytes(
     level: Level,
     first: u32,
     byte: u32,
-) -> Needed
+) -> Option<usize>
     requires page_table { PageTable block.pages block.base pages.now }
     requires sketch_table { SketchTable block.pages level sketches.now }
     requires byte_bound { byte < 256 }
@@ -35,20 +29,18 @@ pub fn distinct_bytes(
     seen[byte as usize] = true;
     let mut n: usize = 1;
     let mut link = first as usize;
-    let mut left = block.pages;
-    while link != 0 {
-        if left == 0 {
-            return Needed::Broken;
+    for _ in 0..block.pages {
+        if link == 0 {
+            return Some(n);
         }
         if block.pages < link {
-            return Needed::Broken;
+            return None;
         }
         let p = link - 1;
         let v = level.page_byte(sketches, block, p) as usize;
         n += (!seen[v]) as usize;
         seen[v] = true;
         link = pages[block.base + p] as usize;
-        left -= 1;
     }
-    Needed::Nodes(n)
+    if link == 0 { Some(n) } else { None }
 }

@@ -8,31 +8,29 @@ use blocks::Rows;
 use children::order::is_bare;
 use layout::Block;
 
-#[derive(Clone, Copy)]
+// What a node of a trie is.
+#[derive(Clone, Copy, Debug, PartialEq, Eq)]
 pub enum Kind {
     Inner,
     // by the link to its first page
     Leaf(u32),
-    // free, or a leaf with children
-    Damaged,
 }
 
-// What node x is: a leaf has no children.
+// What node x is; none of a free one, and of a leaf that has children.
 #[tactic(auto, unfolding(crate::specs::Leaf::kind_of))]
-pub fn kind_of(nodes: &[u32], cap: usize, x: usize) -> Kind
+pub fn kind_of(nodes: &[u32], cap: usize, x: usize) -> Option<Kind>
     requires node_table { NodeTable cap nodes.now }
     requires x_lt_cap { x < cap }
     ensures { result ≡ kind_of nodes.now cap x }
 {
-    let kind = layout::nodes::kind_of(nodes, cap, x);
-    match kind {
-        layout::nodes::Kind::Free => Kind::Damaged,
-        layout::nodes::Kind::Inner => Kind::Inner,
+    match layout::nodes::kind_of(nodes, cap, x) {
+        layout::nodes::Kind::Free => None,
+        layout::nodes::Kind::Inner => Some(Kind::Inner),
         layout::nodes::Kind::Leaf(first) => {
             if !is_bare(nodes, cap, x) {
-                return Kind::Damaged;
+                return None;
             }
-            Kind::Leaf(first)
+            Some(Kind::Leaf(first))
         }
     }
 }
@@ -52,25 +50,17 @@ fn is_on_path(
     requires depth_bound { depth ≤ 64 }
     ensures { result ≡ on_path sketches.now rows path.now depth p }
 {
-    let mut k = 0;
-    while k < depth {
+    for k in 0..depth {
         let level = rows.level_at(k);
         if level.page_byte(sketches, block, p) as u8 != path[k] {
             return false;
         }
-        k += 1;
     }
     true
 }
 
-// What is left of a budget, or that the test failed.
-#[derive(Clone, Copy)]
-pub enum Left {
-    Some(u32),
-    Failed,
-}
-
-// Tests the pages of a leaf, from a link on, of which there are at most `budget`.
+// Tests the pages of a leaf, from a link on, of which there are at most `budget`. What is left of it; none where the test fails.
+// No `for`: what is left of the budget is the answer.
 fn test_pages(
     pages: &[u32],
     sketches: &[u8],
@@ -80,7 +70,7 @@ fn test_pages(
     depth: usize,
     first: u32,
     budget: u32,
-) -> Left
+) -> Option<u32>
     requires page_table { PageTable block.pages block.base pages.now }
     requires pages_le_base { block.pages ≤ block.base }
     requires row_table { RowTable block.pages rows sketches.now }
@@ -91,20 +81,20 @@ fn test_pages(
     let mut left = budget;
     loop {
         if link == 0 {
-            return Left::Some(left);
+            return Some(left);
         }
         if left == 0 {
-            return Left::Failed;
+            return None;
         }
         let p = (link as usize) - 1;
         if p >= block.pages {
-            return Left::Failed;
+            return None;
         }
         if !layout::pages::is_live(pages, p) {
-            return Left::Failed;
+            return None;
         }
         if !is_on_path(sketches, block, rows, path, depth, p) {
-            return Left::Failed;
+            return None;
         }
         link = pages[block.base + p];
         left -= 1;
@@ -112,6 +102,8 @@ fn test_pages(
 }
 
 // Tests a leaf: its pages, from a link on, of which there are at most `budget`, and that they are as many as the number that stands in it.
+// What is left of the budget; none where the test fails.
+#[tactic(auto, unfolding(crate::specs::Leaf::test_leaf))]
 pub fn test_leaf(
     pages: &[u32],
     sketches: &[u8],
@@ -122,20 +114,16 @@ pub fn test_leaf(
     first: u32,
     count: u32,
     budget: u32,
-) -> Left
+) -> Option<u32>
     requires page_table { PageTable block.pages block.base pages.now }
     requires pages_le_base { block.pages ≤ block.base }
     requires row_table { RowTable block.pages rows sketches.now }
     requires depth_bound { depth ≤ 64 }
     ensures { result ≡ test_leaf pages.now sketches.now block.pages block.base rows path.now depth first count budget }
 {
-    match test_pages(pages, sketches, block, rows, path, depth, first, budget) {
-        Left::Some(n) => {
-            if (n as usize) + (count as usize) != budget as usize {
-                return Left::Failed;
-            }
-            Left::Some(n)
-        }
-        Left::Failed => Left::Failed,
+    let n = test_pages(pages, sketches, block, rows, path, depth, first, budget)?;
+    if (n as usize) + (count as usize) != budget as usize {
+        return None;
     }
+    Some(n)
 }

@@ -8,12 +8,12 @@ use borrow.Author.Tests.{ne_eqb, leb-true, eqb-true}
 use lib.ListN.{length, get_or, set, drop, replicate, length-replicate, length-append, length-drop}
 use Rattle.meaning.specs.Lists.{onto}
 use Rattle.meaning.specs.Refusal.{first_no}
-use Rattle.meaning.specs.Ledger.{Settings, opening, settings_given}
+use Rattle.meaning.specs.Ledger.{Settings, opening}
 use Rattle.meaning.specs.Questions.{asked}
 use Rattle.meaning.proofs.Lists.{and_first, and_second}
 use Rattle.layout.specs.declared.Header.{Header}
 use Rattle.layout.specs.Settings.{settings_length, header, with_header, members_at, register_length, free_at}
-use Rattle.layout.specs.Header.{header_of, bare}
+use Rattle.layout.specs.Header.{bare, with_thresholds}
 use Rattle.layout.specs.Limits.{limits_of}
 use Rattle.layout.specs.Lengths.{nodes_length, pages_length, sketches_length, working_length}
 use Rattle.layout.specs.Working.{map_words, summary_words}
@@ -86,12 +86,9 @@ refused s T n e h = record {
 }
 
 -- of an opening with these arguments, each threshold of 16 bits
-module _ (b m q P N : ℕ) (ts : List ℕ) (short : (k : ℕ) → get_or ts k 0 < 65536) (T : Tables) where
+module _ (h : Header) (ts : List ℕ) (short : (k : ℕ) → get_or ts k 0 < 65536) (T : Tables) where
   abbrev s : Settings
-  s = settings_given b m q P N ts
-
-  abbrev h : Header
-  h = header_of s
+  s = with_thresholds h ts
 
   by_tests : number T [] (opening s) ≡ cond (limits_on h (length ts)) (cond (all_long h T) 0 5) 4
   unfolding number entered asked first_no long_for long_nodes long_pages long_working

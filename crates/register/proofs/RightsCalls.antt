@@ -1,18 +1,17 @@
--- A change of the register: what `refusal` answers, and one law for each way out, over the change.
+-- A change of the register: what `admit` answers, and one law for each way out, over the change.
 use Rattle.std.specs.Prelude.{Ok, Err}
-use Prim.Native.Nat.{ℕ, ◌≤◌, ◌<◌}
+use Prim.Native.Nat.{ℕ, ◌≤◌}
 use native.Mathlib.Omega.{arith}
 use mathlib.Core.Path.{◌≡◌, refl, sym, ◌∙◌}
-use mathlib.Core.Bool.{Bool, true, false, cond, ◌&&◌}
+use mathlib.Core.Bool.{Bool, true, false, cond}
 use mathlib.Core.List.{List, [], ◌∷◌}
-use borrow.Author.Tests.{leb-true, ltb-true, eqb-true, ne_eqb}
-use lib.Dec.{ltb, eqb}
+use borrow.Author.Tests.{leb-true, eqb-true, ne_eqb}
+use lib.Dec.{eqb}
 use lib.ListN.{length}
 use Rattle.meaning.specs.Refusal.{ask, first_no}
-use Rattle.meaning.specs.Rights.{Change, join, leave, grant, revoke}
+use Rattle.meaning.specs.Rights.{Change, join, leave, grant, revoke, change_in_range}
 use Rattle.meaning.specs.Ledger.{change}
 use Rattle.meaning.specs.Questions.{asked}
-use Rattle.meaning.proofs.Lists.{and_first, and_second}
 use Rattle.layout.specs.declared.Header.{Header}
 use Rattle.layout.specs.Settings.{settings_length}
 use Rattle.layout.specs.Header.{opening_of, tables_first}
@@ -35,47 +34,30 @@ module _ (ws : List ℕ) (t : Bool) where
   unfolding register_number
   register-refused n e = refused-number ws true (ask 7 t ∷ []) n e
 
--- ---- a change asks whether a is below A and b below B
-pub record Asks (c : Change) (ws : List ℕ) (a A b B : ℕ) : Type 0 where
-  pub asks : number (settings_alone ws) [] (change c) ≡ register_number ws (ltb a A && ltb b B)
+-- ---- a change asks 5, 6 and whether its numbers are in range
+asks : (c : Change) (ws : List ℕ) → number (settings_alone ws) [] (change c) ≡ register_number ws (change_in_range c)
+unfolding number entered shown56 long_settings long_for asked register_number
+asks (join a b) ws = refl
+asks (leave a b) ws = refl
+asks (grant a b) ws = refl
+asks (revoke a b) ws = refl
 
-module _ (ws : List ℕ) (a b : ℕ) where
-  pub joins : Asks (join a b) ws a 256 b 32
-  unfolding number entered shown56 long_settings long_for asked register_number
-  joins = record { asks = refl }
-
-  pub leaves : Asks (leave a b) ws a 256 b 32
-  unfolding number entered shown56 long_settings long_for asked register_number
-  leaves = record { asks = refl }
-
-  pub grants : Asks (grant a b) ws a 32 b 64
-  unfolding number entered shown56 long_settings long_for asked register_number
-  grants = record { asks = refl }
-
-  pub revokes : Asks (revoke a b) ws a 32 b 64
-  unfolding number entered shown56 long_settings long_for asked register_number
-  revokes = record { asks = refl }
-
--- ---- the ways out, n the answer of `refusal`
-module _ {c : Change} {ws : List ℕ} {a A b B : ℕ} (C : Asks c ws a A b B) (n : ℕ)
-    (answer : n ≡ register_number ws (ltb a A && ltb b B)) where
+-- ---- the ways out, n the number that `admit` answers
+module _ (c : Change) (ws : List ℕ) (n : ℕ) (answer : n ≡ register_number ws (change_in_range c)) where
   pub refused : (n ≡ 0 → ⊥) → RightsPromise c ws n ws
   refused h =
-      let same : number (settings_alone ws) [] (change c) ≡ n = C.asks ∙ sym answer in
+      let same : number (settings_alone ws) [] (change c) ≡ n = asks c ws ∙ sym answer in
       record { answers = sym same; settings-left = rw (same, ne_eqb n 0 h) }
 
-  pub passed : n ≡ 0 → (settings_length ≤ length ws) × (a < A) × (b < B)
+  pub passed : n ≡ 0 → (settings_length ≤ length ws) × (change_in_range c ≡ true)
   unfolding register_number
   passed z =
-      let yes = all_yes (tables_first ws true (ask 7 (ltb a A && ltb b B) ∷ [])) (omega arith) (sym answer ∙ z) in (
-        leb-true settings_length (length ws) yes.0,
-        ltb-true a A (and_first (ltb a A) (ltb b B) yes.1.1.0),
-        ltb-true b B (and_second (ltb a A) (ltb b B) yes.1.1.0),
-      )
+      let yes = all_yes (tables_first ws true (ask 7 (change_in_range c) ∷ [])) (omega arith) (sym answer ∙ z) in
+      (leb-true settings_length (length ws) yes.0, yes.1.1.0)
 
   pub done : n ≡ 0 → (after : List ℕ) → after ≡ registered c ws → RightsPromise c ws 0 after
   done z after e =
-      let same : number (settings_alone ws) [] (change c) ≡ 0 = C.asks ∙ sym answer ∙ z in
+      let same : number (settings_alone ws) [] (change c) ≡ 0 = asks c ws ∙ sym answer ∙ z in
       record { answers = sym same; settings-left = rw same e }
 
 -- ---- accepted or refused, on any tables: all entries are current afterwards if they were before

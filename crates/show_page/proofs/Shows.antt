@@ -3,7 +3,7 @@ use Rattle.std.specs.Prelude.{Ok, Err}
 use Prim.Native.Nat.{ℕ, ◌+◌, ◌*◌, ◌^◌, ◌≤◌, ◌<◌}
 use native.Mathlib.Omega.{arith}
 use native.Mathlib.Nat.{mul-le-mul, lt_of_le_of_lt}
-use mathlib.Core.Path.{◌≡◌, refl, sym, ap, ◌∙◌}
+use mathlib.Core.Path.{◌≡◌, refl, sym, ap, ◌∙◌, subst}
 use mathlib.Core.Bool.{Bool, true, false, cond, ◌&&◌}
 use mathlib.Core.List.{List, []}
 use borrow.Author.Tests.{lt-ltb, le-ltb, ne_eqb, ltb-true, leb-true, eqb-true}
@@ -26,7 +26,7 @@ use Rattle.rights.specs.Register.{opens}
 use Rattle.promises.specs.Tables.{Tables, show_tables, given, by_tables, is_shown, page_class, page_row}
 use Rattle.promises.specs.Answers.{number, entered, shown56, long_settings, long_for, long_pages}
 use Rattle.promises.specs.Readings.{start_shown, length_shown, row_shown}
-use Rattle.show_page.specs.Show.{no_row, place_of}
+use Rattle.show_page.specs.Show.{Place, no_row, place_of}
 use Rattle.entry.proofs.Questions.{all_yes}
 
 -- 6, of the page table and the sketch table
@@ -147,3 +147,11 @@ module _ (ws pages sketches : List ℕ) (r p : ℕ) where
           ≡ take (cond t (given T).symbols 0) (drop (cond t (p * (given T).symbols) 0) sketches)
       go true = refl
       go false = refl
+
+  -- of a place that an answer says
+  module _ (q : Place) (e : q ≡ place_of T r p) where
+    pub found-inside : q.start + q.length ≤ length sketches
+    found-inside = subst (λ (P : Place). P.start + P.length ≤ length sketches) (sym e) place_inside
+
+    pub found-part : take q.length (drop q.start sketches) ≡ row_shown T r p
+    found-part = subst (λ (P : Place). take P.length (drop P.start sketches) ≡ row_shown T r p) (sym e) (sym part-shown)

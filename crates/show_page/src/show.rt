@@ -1,75 +1,74 @@
-// Show, for a reader: the page's row of the sketch table itself, or the number of the question that refuses it.
+// Show, for a reader: the page's row of the sketch table itself, or the question that refuses it.
+// The tables come one by one: the call for C lends no node table, so no `View` can be made.
 ghost use Rattle.std.specs.Prelude.{◌≡◌, [], ◌+◌, length};
 ghost use Rattle.meaning.specs.Ledger.{show, reading};
 ghost use Rattle.promises.specs.Tables.{show_tables};
 ghost use Rattle.promises.specs.Answers.{number};
 ghost use Rattle.promises.specs.Readings.{start_shown, row_shown};
 ghost use Rattle.promises.specs.Relation.{OnShow};
-ghost use Rattle.show_page.specs.Show.{no_row, place_of};
+ghost use Rattle.show_page.specs.Show.{found, place_of};
+ghost use Rattle.refusals.specs.Refusals.{answer_number};
 
-use layout::Opening;
+use layout::settings::READERS;
+use refusals::Refusal;
 
-const READERS: u32 = 256;
-
-// The number of a refusal, or 0 with the place of the row in the sketch table. A refusal has the place of no bytes at the table's start.
+// Where a row stands in the sketch table.
 #[derive(Clone, Copy)]
-pub struct Place {
-    pub number: u32,
+pub struct Row {
     pub start: u32,
     pub length: u32,
 }
 
-fn refused(number: u32) -> Place
-    ensures { result ≡ no_row number }
-{
-    Place {
-        number: number,
-        start: 0,
-        length: 0,
-    }
-}
-
 // Where the page's row stands.
 #[tactic(auto, unfolding(crate::specs::Show::place_of))]
-pub fn find_row(settings: &[u32], pages: &[u32], sketches: &[u8], reader: u32, page: u32) -> Place
-    ensures { result ≡ place_of (show_tables settings.now pages.now sketches.now) reader page }
+pub fn find_row(
+    settings: &[u32],
+    pages: &[u32],
+    sketches: &[u8],
+    reader: u32,
+    page: u32,
+) -> Result<Row, Refusal>
+    ensures { found result ≡ place_of (show_tables settings.now pages.now sketches.now) reader page }
 {
-    let h = match settings::opening(settings) {
-        Opening::Refused(number) => return refused(number),
-        Opening::Shown(h) => h,
-    };
+    let h = settings::opening(settings)?;
     if !entry::long_pages(h, pages, sketches) {
-        return refused(6);
+        return Err(Refusal::NoOpening);
     }
     if READERS <= reader {
-        return refused(7);
+        return Err(Refusal::OutOfRange);
     }
     let cap = h.pages;
     let p = page as usize;
     if cap <= p {
-        return refused(8);
+        return Err(Refusal::NoSuchPage);
     }
     if !layout::pages::is_live(pages, p) {
-        return refused(9); // no such page
+        return Err(Refusal::PageState); // no such page
     }
     let class = layout::pages::class_of(pages, p);
     if !rights::is_open_to(settings, reader as usize, class) {
-        return refused(9); // closed to the reader
+        return Err(Refusal::PageState); // closed to the reader
     }
-    let m = h.m as u32;
-    Place {
-        number: 0,
-        start: page * m,
-        length: m,
-    }
+    let length = h.m as u32;
+    Ok(Row {
+        start: page * length,
+        length,
+    })
 }
 
-// The refusal's number, or 0 where the row is shown.
+// Is the row shown?
 #[tactic(auto, unfolding(crate::specs::Show::place_of, promises::specs::Readings::row_shown))]
-pub fn show_number(settings: &[u32], pages: &[u32], sketches: &[u8], reader: u32, page: u32) -> u32
-    ensures { OnShow reader page (show_tables settings.now pages.now sketches.now) result (row_shown (show_tables settings.now pages.now sketches.now) reader page) }
+pub fn show_number(
+    settings: &[u32],
+    pages: &[u32],
+    sketches: &[u8],
+    reader: u32,
+    page: u32,
+) -> Result<(), Refusal>
+    ensures { OnShow reader page (show_tables settings.now pages.now sketches.now) (answer_number result) (row_shown (show_tables settings.now pages.now sketches.now) reader page) }
 {
-    find_row(settings, pages, sketches, reader, page).number
+    find_row(settings, pages, sketches, reader, page)?;
+    Ok(())
 }
 
 // The row itself, or an empty part.
@@ -85,8 +84,12 @@ pub fn show<'a>(
     ensures ref_ptr_value { result.ref_ptr.0 ≡ sketches.entry.ref_ptr.0 }
     ensures ref_ptr_value_2 { result.ref_ptr.1 ≡ sketches.entry.ref_ptr.1 + start_shown (show_tables settings.now pages.now sketches.now) reader page }
 {
-    let at = find_row(settings, pages, sketches, reader, page);
-    let start = at.start as usize;
-    let end = start + (at.length as usize);
-    &sketches[start..end]
+    match find_row(settings, pages, sketches, reader, page) {
+        Ok(row) => {
+            let start = row.start as usize;
+            let end = start + (row.length as usize);
+            &sketches[start..end]
+        }
+        Err(_) => &sketches[..0],
+    }
 }

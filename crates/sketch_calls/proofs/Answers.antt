@@ -7,7 +7,10 @@ use lib.Dec.{ltb, leb, eqb}
 use borrow.Author.Tests.{ltb-true, leb-true}
 use Rattle.meaning.specs.Sketch.{distance, in_range, packed_length, pack, unpack}
 use Rattle.meaning.specs.SketchCalls.{sketch_limits, measure_number, measure_value, pack_number, unpack_number, length_given, output_left}
-use Rattle.sketch_calls.specs.Calls.{carried_out, refusal, Measured, Packed, Unpacked}
+use Rattle.std.specs.Prelude.{Ok, Err}
+use Rattle.refusals.specs.Refusals.{answer_number, answer_value}
+use Rattle.refusals.specs.declared.Refusal.TheVariants.{BadSymbol}
+use Rattle.sketch_calls.specs.Calls.{Measured, Packed, Unpacked}
 use Rattle.sketch_calls.specs.Measuring.{ending}
 use Rattle.sketch.specs.Settings.{Bits}
 
@@ -25,12 +28,12 @@ measured b m x y v e h = record { number = sym e; value = h ∙ ap (λ (k : ℕ)
 
 -- past 4 and 10 the loop's ending is the answer
 pub loop-answers : (b m : ℕ) (x y : List ℕ) → measure_number b m x y ≡ cond (in_range b x && in_range b y) 0 11
-    → Measured b m x y (ending b x y).number (ending b x y).value
+    → Measured b m x y (answer_number (ending b x y)) (answer_value (ending b x y))
 unfolding ending
 loop-answers b m x y = go (in_range b x && in_range b y)
   where
     go : (t : Bool) → measure_number b m x y ≡ cond t 0 11
-        → Measured b m x y (cond t (carried_out (distance x y)) (refusal 11)).number (cond t (carried_out (distance x y)) (refusal 11)).value
+        → Measured b m x y (answer_number {A = ℕ} (cond t (Ok (distance x y)) (Err BadSymbol))) (answer_value (cond t (Ok (distance x y)) (Err BadSymbol)))
     go true e = measured b m x y (distance x y) e refl
     go false e = measured b m x y 0 e refl
 

@@ -12,7 +12,8 @@ use Rattle.meaning.specs.Sketch.{distance, in_range}
 use Rattle.meaning.proofs.Lists.{not_so}
 use Rattle.sketch.proofs.Places.{range-append, part-range}
 use Rattle.sketch_laws.proofs.Distance.{distance-first, distance-append}
-use Rattle.sketch_calls.specs.Calls.{refusal, carried_out}
+use Rattle.std.specs.Prelude.{Ok, Err}
+use Rattle.refusals.specs.declared.Refusal.TheVariants.{BadSymbol}
 use Rattle.sketch_calls.specs.Measuring.{After, ending}
 
 module _ (b : ℕ) (x y : List ℕ) where
@@ -44,7 +45,7 @@ module _ (b : ℕ) (x y : List ℕ) where
       }
 
   -- after all places
-  pub after-all : (k d : ℕ) → length x ≤ k → length y ≤ k → After b x y k d → ending b x y ≡ carried_out d
+  pub after-all : (k d : ℕ) → length x ≤ k → length y ≤ k → After b x y k d → ending b x y ≡ Ok d
   unfolding ending
   after-all k d hx hy a =
       let first : in_range b x ≡ true = rw (take_all k x hx) at a.first in
@@ -53,7 +54,7 @@ module _ (b : ℕ) (x y : List ℕ) where
       rw (first, second, number)
 
   -- by a symbol out of range
-  pub ended : (k n : ℕ) → in_range b (take n (drop k x)) && in_range b (take n (drop k y)) ≡ false → ending b x y ≡ refusal 11
+  pub ended : (k n : ℕ) → in_range b (take n (drop k x)) && in_range b (take n (drop k y)) ≡ false → ending b x y ≡ Err BadSymbol
   unfolding ending
   ended k n out =
       let part : in_range b x && in_range b y ≡ true → in_range b (take n (drop k x)) && in_range b (take n (drop k y)) ≡ true =

@@ -1,15 +1,6 @@
 -- What each call on sketches promises: the number it answers, the value beside it, and its output afterwards.
 use Rattle.std.specs.Prelude.{List, ◌≡◌, ℕ}
 use Rattle.meaning.specs.SketchCalls.{measure_number, measure_value, pack_number, pack_length, pack_left, unpack_number, unpack_length, unpack_left}
-use Rattle.sketch_calls.specs.declared.calls.Answer.{Answer}
-
--- a call carried out, and what it gives
-abbrev pub carried_out : ℕ → Answer
-carried_out v = record { number = 0; value = v }
-
--- a refusal that gives no length
-abbrev pub refusal : ℕ → Answer
-refusal n = record { number = n; value = 0 }
 
 pub record Measured (b m : ℕ) (x y : List ℕ) (n v : ℕ) : Type 0 where
   pub number : n ≡ measure_number b m x y

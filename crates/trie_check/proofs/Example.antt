@@ -1,4 +1,5 @@
 -- A trie of one block that passes the test, and damages of one word that do not: the definitions say what they should.
+use Rattle.std.specs.Prelude.{Option, Some, None}
 use Prim.Native.Nat.{ℕ}
 use native.Mathlib.Omega.{arith}
 use mathlib.Core.Path.{◌≡◌, refl}
@@ -13,8 +14,6 @@ use Rattle.layout.specs.States.{kind_of as stated, count_of}
 use Rattle.layout.specs.declared.Block.{Block}
 use Rattle.blocks.specs.declared.Rows.{Rows}
 use Rattle.blocks.specs.Packed.{row_byte, page_byte, level_at}
-use Rattle.node_check.specs.declared.leaf.Left.{Left}
-use Rattle.node_check.specs.declared.leaf.Left.TheVariants.{Some, Failed}
 use Rattle.node_check.specs.declared.mark.Window.{Window}
 use Rattle.node_check.specs.Mark.{mark_once}
 use Rattle.node_check.specs.Leaf.{kind_of, on_path, test_pages, test_leaf}
@@ -68,22 +67,22 @@ fits = record {
 }
 
 -- the answer for a window, a node table and a page table, with so many nodes allowed and so many pages wanted
-answer_in : Window → List ℕ → List ℕ → ℕ → ℕ → Left
+answer_in : Window → List ℕ → List ℕ → ℕ → ℕ → Option ℕ
 answer_in w N P left live = (test_trie (given N P sketches block rows w) 0 (0 ∷ []) left live).answer
 
-answer : List ℕ → List ℕ → ℕ → ℕ → Left
+answer : List ℕ → List ℕ → ℕ → ℕ → Option ℕ
 answer = answer_in window
 
 -- sound: 6 nodes and 3 pages, no fewer and no more
-sound : List Left
+sound : List (Option ℕ)
 sound = answer nodes pages 6 3 ∷ answer nodes pages 7 3 ∷ answer nodes pages 5 3 ∷ answer nodes pages 6 4 ∷ answer nodes pages 6 2 ∷ []
 
 -- page 2 in two leaves, page 1 after itself, page 0 not live
-page_damages : List Left
+page_damages : List (Option ℕ)
 page_damages = answer (set nodes (state_at 6 3) (leaf_state 3 1)) (set pages 7 3) 6 4 ∷ answer nodes (set pages 7 2) 6 3 ∷ answer nodes (set pages 0 0) 6 3 ∷ []
 
 -- siblings 1 and 0, siblings 1 and 1, a leaf of byte 3 for a page of byte 2, node 4 below nodes 1 and 2, a link past the last node
-chain_damages : List Left
+chain_damages : List (Option ℕ)
 chain_damages =
     answer (set nodes 2 (chain_word 0 0)) pages 6 3
     ∷ answer (set nodes 2 (chain_word 1 0)) pages 6 3
@@ -93,7 +92,7 @@ chain_damages =
     ∷ []
 
 -- leaf 5 empty, node 4 free, a leaf with a head, a head with something above its link
-node_damages : List Left
+node_damages : List (Option ℕ)
 node_damages =
     answer (set nodes (state_at 6 5) empty_state) pages 6 2
     ∷ answer (set nodes (state_at 6 4) free_state) pages 6 3
@@ -102,12 +101,12 @@ node_damages =
     ∷ []
 
 -- the answer for a root alone, with a state and no page
-root_alone : ℕ → Left
+root_alone : ℕ → Option ℕ
 root_alone state = answer (replicate 6 0 ++ (state ∷ replicate 53 0)) pages 1 0
 
 -- the number of leaf 3's pages one too high, one too low; that of leaf 5's one too high, one too low, which is 0; a number in a
 -- root without pages
-count_damages : List Left
+count_damages : List (Option ℕ)
 count_damages =
     answer (set nodes (state_at 6 3) (leaf_state 3 1)) pages 6 3
     ∷ answer (set nodes (state_at 6 3) (leaf_state 1 1)) pages 6 3
@@ -117,9 +116,9 @@ count_damages =
     ∷ []
 
 -- node 4 below nodes 1 and 2, but outside the window: left to another walk
-outside : Left
+outside : Option ℕ
 outside = answer_in (record { from = 0; size = 4 }) (set nodes 5 (chain_word 2 5)) pages 7 3
 
-tried : sound ++ page_damages ++ chain_damages ++ node_damages ++ count_damages ++ (outside ∷ root_alone empty_state ∷ []) ≡ (Some 0 ∷ Some 1 ∷ replicate 20 Failed) ++ (Some 0 ∷ Some 0 ∷ [])
+tried : sound ++ page_damages ++ chain_damages ++ node_damages ++ count_damages ++ (outside ∷ root_alone empty_state ∷ []) ≡ (Some 0 ∷ Some 1 ∷ replicate 20 None) ++ (Some 0 ∷ Some 0 ∷ [])
 unfolding block rows sketches pages nodes window answer_in answer sound page_damages chain_damages node_damages root_alone count_damages outside test_trie test_below run left_if visit visit_child step_in next_child step_along entered test_leaf test_pages on_path kind_of stated count_of bare mark_once level_at page_byte row_byte is_live with_flag flag with_bit bit packable symbols_at per_byte from upto all
 tried = refl

@@ -1,11 +1,9 @@
 -- The test of one block's trie, as a machine with fuel.
-use Rattle.std.specs.Prelude.{ℕ, zero, suc, ◌-◌, Bool, cond, List, [], ◌∷◌, eqb, length, replicate}
+use Rattle.std.specs.Prelude.{ℕ, zero, suc, ◌-◌, Bool, cond, List, [], ◌∷◌, eqb, length, replicate, Option, Some, None}
 use Rattle.layout.specs.Nodes.{steps_for}
 use Rattle.children.specs.declared.order.Frame.{Frame}
 use Rattle.node_check.specs.declared.leaf.Kind.{Kind}
 use Rattle.node_check.specs.declared.leaf.Kind.TheVariants as kind
-use Rattle.node_check.specs.declared.leaf.Left.{Left}
-use Rattle.node_check.specs.declared.leaf.Left.TheVariants as budget
 use Rattle.trie_visit.specs.declared.Move.{Move}
 use Rattle.trie_visit.specs.declared.Move.TheVariants as move
 use Rattle.node_check.specs.Mark.{mark_once}
@@ -28,38 +26,38 @@ state map path left pages frame stack = record { map = map; path = path; left = 
 -- the map after a test, and what is left of the node budget
 pub record Tested : Type 0 where
   pub map : List ℕ
-  pub answer : Left
+  pub answer : Option ℕ
 
-abbrev pub tested : List ℕ → Left → Tested
+abbrev pub tested : List ℕ → Option ℕ → Tested
 tested map answer = record { map = map; answer = answer }
 
-unfoldable pub left_if : ℕ → Bool → Left
-left_if left holds = cond holds (budget.Some left) budget.Failed
+unfoldable pub left_if : ℕ → Bool → Option ℕ
+left_if left holds = cond holds (Some left) None
 
 -- a root that is a leaf
-abbrev pub left_leaf : ℕ → Left → Left
-left_leaf left (budget.Some n) = left_if left (eqb n 0)
-left_leaf left budget.Failed = budget.Failed
+abbrev pub left_leaf : ℕ → Option ℕ → Option ℕ
+left_leaf left (Some n) = left_if left (eqb n 0)
+left_leaf left None = None
 
 module _ (w : Given) where
   -- what a move leads to
-  abbrev pub follow : (State → Tested) → State → Visited → Move → Tested
-  follow run s v (move.Chain link) = run (state v.map v.path s.left s.pages (next_chain s.frame link) s.stack)
-  follow run s v (move.Past byte link n) = run (state v.map v.path (s.left - 1) n (past_child s.frame byte link) s.stack)
-  follow run s v (move.Down x byte link) =
+  abbrev pub follow : (State → Tested) → State → Visited → Option Move → Tested
+  follow run s v (Some (move.Chain link)) = run (state v.map v.path s.left s.pages (next_chain s.frame link) s.stack)
+  follow run s v (Some (move.Past byte link n)) = run (state v.map v.path (s.left - 1) n (past_child s.frame byte link) s.stack)
+  follow run s v (Some (move.Down x byte link)) =
       run
       (state v.map v.path (s.left - 1) s.pages (entered w.nodes w.block.nodes x)
       (past_child s.frame byte link ∷ s.stack))
-  follow run s v move.Up = up s.stack
+  follow run s v (Some move.Up) = up s.stack
     where
       up : List Frame → Tested
       up [] = tested v.map (left_if s.left (eqb s.pages 0))
       up (f ∷ fs) = run (state v.map v.path s.left s.pages f fs)
-  follow run s v move.Failed = tested v.map budget.Failed
+  follow run s v None = tested v.map None
 
   -- at most f steps
   unfoldable pub run : ℕ → State → Tested
-  run zero s = tested s.map budget.Failed
+  run zero s = tested s.map None
   run (suc f) s =
       let v : Visited = visit w s.map s.path (length s.stack) s.frame s.left s.pages in
       follow (run f) s v v.move
@@ -69,15 +67,15 @@ module _ (w : Given) where
   test_below root map left pages =
       run (steps_for w.block.nodes) (state map (replicate 64 0) left pages (entered w.nodes w.block.nodes root) [])
 
-  abbrev pub test_kind : ℕ → List ℕ → ℕ → ℕ → Kind → Tested
-  test_kind root map left pages kind.Damaged = tested map budget.Failed
-  test_kind root map left pages kind.Inner = test_below root map left pages
-  test_kind root map left pages (kind.Leaf first) = tested map (left_leaf left (leaf_left w (replicate 64 0) 0 root first pages))
+  abbrev pub test_kind : ℕ → List ℕ → ℕ → ℕ → Option Kind → Tested
+  test_kind root map left pages None = tested map None
+  test_kind root map left pages (Some kind.Inner) = test_below root map left pages
+  test_kind root map left pages (Some (kind.Leaf first)) = tested map (left_leaf left (leaf_left w (replicate 64 0) 0 root first pages))
 
   -- the trie with a root, of at most `left` nodes and of `pages` pages
   unfoldable pub test_trie : ℕ → List ℕ → ℕ → ℕ → Tested
   test_trie root map left pages =
-      cond (eqb left 0) (tested map budget.Failed)
+      cond (eqb left 0) (tested map None)
       (cond (mark_once w.window map root).fresh
       (test_kind root (mark_once w.window map root).map (left - 1) pages (kind_of w.nodes w.block.nodes root))
-      (tested (mark_once w.window map root).map budget.Failed))
+      (tested (mark_once w.window map root).map None))

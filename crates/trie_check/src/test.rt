@@ -6,7 +6,7 @@ ghost use Rattle.trie_visit.specs.Visit.{within, Fitting, placed};
 ghost use Rattle.trie_check.specs.Trie.{left_if, tested, test_below, test_trie};
 
 use children::order::{enter, next_chain, past_child};
-use node_check::leaf::{Kind, Left};
+use node_check::leaf::Kind;
 use trie_visit::{Move, Place, Scope, visit};
 
 // After a leaf with a byte: `link` is after it, `pages` what is left of the page budget.
@@ -48,7 +48,7 @@ fn test_below(
     root: usize,
     left: u32,
     live: u32,
-) -> Left
+) -> Option<u32>
     requires fitting { Fitting (within nodes.now pages.now sketches.now scope) map.old }
     requires root_lt_nodes { root < scope.block.nodes }
     ensures { tested map.new result ≡ test_below (within nodes.now pages.now sketches.now scope) root map.old left live }
@@ -63,47 +63,39 @@ fn test_below(
     };
     let mut stack = [frame; 64];
     let mut path = [0u8; 64];
-    let mut steps = layout::nodes::STEPS * (cap + 1);
-    while steps > 0 {
-        steps -= 1;
-        match visit(nodes, pages, sketches, map, &mut path, scope, place) {
+    for _turn in 0..layout::nodes::STEPS * (cap + 1) {
+        let next = visit(nodes, pages, sketches, map, &mut path, scope, place)?;
+        match next {
             Move::Chain(link) => {
                 place.frame = next_chain(place.frame, link);
             }
-            Move::Past(byte, link, n) => {
-                place = past_leaf(place, byte, link, n);
+            Move::Past {
+                byte,
+                link,
+                pages: left,
+            } => {
+                place = past_leaf(place, byte, link, left);
             }
-            Move::Down(x, byte, link) => {
+            Move::Down { node, byte, link } => {
                 let depth = place.depth;
                 stack[depth] = past_child(place.frame, byte, link);
-                place = enter_child(nodes, cap, place, x);
+                place = enter_child(nodes, cap, place, node);
             }
             Move::Up => {
                 if place.depth == 0 {
-                    return left_if(place.left, place.pages == 0);
+                    return (place.pages == 0).then_some(place.left);
                 }
                 let depth = place.depth - 1;
                 place.depth = depth;
                 place.frame = stack[depth];
             }
-            Move::Failed => return Left::Failed,
         }
     }
-    Left::Failed
-}
-
-// What is left where a test holds.
-#[tactic(auto, unfolding(crate::specs::Trie::left_if))]
-fn left_if(left: u32, holds: bool) -> Left
-    ensures { result ≡ left_if left holds }
-{
-    if holds {
-        return Left::Some(left);
-    }
-    Left::Failed
+    None
 }
 
 // Tests the trie of the block with this root, in which as many pages are to stand as `live`. What is left of a budget of nodes.
+#[tactic(auto, unfolding(crate::specs::Trie::test_trie, crate::specs::Trie::left_if))]
 pub fn test_trie(
     nodes: &[u32],
     pages: &[u32],
@@ -113,25 +105,24 @@ pub fn test_trie(
     root: usize,
     budget: u32,
     live: u32,
-) -> Left
+) -> Option<u32>
     requires fitting { Fitting (within nodes.now pages.now sketches.now scope) map.old }
     requires root_lt_nodes { root < scope.block.nodes }
     ensures { tested map.new result ≡ test_trie (within nodes.now pages.now sketches.now scope) root map.old budget live }
 {
     if budget == 0 {
-        return Left::Failed;
+        return None;
     }
     if !node_check::mark::mark_once(map, scope.window, root) {
-        return Left::Failed;
+        return None;
     }
     let left = budget - 1;
-    match node_check::leaf::kind_of(nodes, scope.block.nodes, root) {
-        Kind::Damaged => Left::Failed,
+    match node_check::leaf::kind_of(nodes, scope.block.nodes, root)? {
         Kind::Inner => test_below(nodes, pages, sketches, map, scope, root, left, live),
         Kind::Leaf(first) => {
             let path = [0u8; 64];
             let count = layout::nodes::page_count(nodes, scope.block.nodes, root);
-            match node_check::leaf::test_leaf(
+            let n = node_check::leaf::test_leaf(
                 pages,
                 sketches,
                 scope.block,
@@ -141,10 +132,8 @@ pub fn test_trie(
                 first,
                 count,
                 live,
-            ) {
-                Left::Some(n) => left_if(left, n == 0),
-                Left::Failed => Left::Failed,
-            }
+            )?;
+            (n == 0).then_some(left)
         }
     }
 }

@@ -1,4 +1,5 @@
 -- An example: a leaf with a page below a root, which the test finds sound, and what it then says of the tables.
+use Rattle.std.specs.Prelude.{Some}
 use Prim.Native.Nat.{ℕ, zero, suc, ◌+◌}
 use native.Mathlib.Omega.{arith}
 use mathlib.Core.Path.{◌≡◌, refl}
@@ -11,7 +12,6 @@ use Rattle.layout.specs.Pages.{is_live}
 use Rattle.layout.specs.States.{kind_of as stated, count_of}
 use Rattle.children.specs.Phys.{Phys, tree}
 use Rattle.blocks.specs.Packed.{row_byte, page_byte, level_at}
-use Rattle.node_check.specs.declared.leaf.Left.TheVariants.{Some}
 use Rattle.node_check.specs.Mark.{mark_once}
 use Rattle.node_check.specs.Leaf.{kind_of, on_path, test_pages, test_leaf}
 use Rattle.children.specs.Order.{bare, entered, step_along, next_child}

@@ -1,4 +1,5 @@
 -- What the kind of a node says of its words, and what the test of a leaf says of its pages and their number.
+use Rattle.std.specs.Prelude.{Option, Some, None}
 use Prim.Native.Nat.{ℕ, zero, suc, ◌+◌, ◌-◌, ◌<◌, ◌≤◌}
 use native.Mathlib.Omega.{arith}
 use native.Mathlib.Nat.{zero-add}
@@ -27,8 +28,6 @@ use Rattle.children.proofs.Bare.{bare-holds}
 use Rattle.children.proofs.Leaves.{held-state}
 use Rattle.trie_laws.proofs.Path.{shift}
 use Rattle.node_check.specs.declared.leaf.Kind.TheVariants.{Inner, Leaf}
-use Rattle.node_check.specs.declared.leaf.Left.{Left}
-use Rattle.node_check.specs.declared.leaf.Left.TheVariants.{Some, Failed}
 use Rattle.node_check.specs.Leaf.{childless, kind_of, on_path, counted, test_pages, test_leaf}
 use Rattle.trie_visit.specs.Visit.{Given, leaf_left}
 use Rattle.trie_check_laws.specs.Found.{Reads}
@@ -40,19 +39,19 @@ module _ (N P : List ℕ) (cap x : ℕ) where
   word = get_or N (state_at cap x) 0
 
   -- back from the test of a leaf
-  inner-stated : (q : Bool) (s : Stated) → childless q s ≡ Inner → s ≡ kind.Inner
+  inner-stated : (q : Bool) (s : Stated) → childless q s ≡ Some Inner → s ≡ kind.Inner
   inner-stated q kind.Inner h = refl
   inner-stated q kind.Free h = let z : ◌≡◌ {A = ℕ} 0 1 = cc in absurd (omega arith)
   inner-stated true (kind.Leaf l) h = let z : ◌≡◌ {A = ℕ} 0 1 = cc in absurd (omega arith)
   inner-stated false (kind.Leaf l) h = let z : ◌≡◌ {A = ℕ} 0 1 = cc in absurd (omega arith)
 
-  leaf-stated : (link : ℕ) (q : Bool) (s : Stated) → childless q s ≡ Leaf link → (s ≡ kind.Leaf link) × (q ≡ true)
+  leaf-stated : (link : ℕ) (q : Bool) (s : Stated) → childless q s ≡ Some (Leaf link) → (s ≡ kind.Leaf link) × (q ≡ true)
   leaf-stated link q kind.Inner h = let z : ◌≡◌ {A = ℕ} 0 1 = cc in absurd (omega arith)
   leaf-stated link q kind.Free h = let z : ◌≡◌ {A = ℕ} 0 1 = cc in absurd (omega arith)
   leaf-stated link true (kind.Leaf l) h = let e : l ≡ link = cc in (ap kind.Leaf e, refl)
   leaf-stated link false (kind.Leaf l) h = let z : ◌≡◌ {A = ℕ} 0 1 = cc in absurd (omega arith)
 
-  pub kind-inner : kind_of N cap x ≡ Inner → word ≡ inner_state
+  pub kind-inner : kind_of N cap x ≡ Some Inner → word ≡ inner_state
   unfolding kind_of
   kind-inner h = inner-state N cap x (inner-stated (bare N cap x) (stated N cap x) h)
 
@@ -60,7 +59,7 @@ module _ (N P : List ℕ) (cap x : ℕ) where
     stands : stated N cap x ≡ kind.Leaf link
     heads : Holds (no_kids cap x) N P
 
-  kind-leaf : (link : ℕ) → kind_of N cap x ≡ Leaf link → AtLeaf link
+  kind-leaf : (link : ℕ) → kind_of N cap x ≡ Some (Leaf link) → AtLeaf link
   unfolding kind_of
   kind-leaf link h =
       let e = leaf-stated link (bare N cap x) (stated N cap x) h in
@@ -97,7 +96,7 @@ module _ (w : Given) (bytes_of : ℕ → List ℕ) (reads : Reads w bytes_of) wh
     abbrev ys : List ℕ
     ys = take d path
 
-    abbrev test : ℕ → ℕ → Left
+    abbrev test : ℕ → ℕ → Option ℕ
     test link f = test_pages w.pages w.sketches w.block.pages w.block.base w.rows path d link f
 
     on-path : (p : ℕ) → p < w.block.pages → on_path w.sketches w.rows path d p ≡ true → follows bytes_of 0 ys p ≡ true
@@ -150,15 +149,15 @@ module _ (w : Given) (bytes_of : ℕ → List ℕ) (reads : Reads w bytes_of) wh
     pages-right : (f link n : ℕ) → test link f ≡ Some n → LeafPages ys link f n
     unfolding test_pages
     pages-right zero link n h =
-        let t = passed Failed (Some n) failed (eqb link 0) _ h in
+        let t = passed None (Some n) failed (eqb link 0) _ h in
         none link 0 n (eqb-true link 0 t.0) t.1
       where
-        failed : Failed ≡ Some n → ⊥
+        failed : None ≡ Some n → ⊥
         failed e = let z : ◌≡◌ {A = ℕ} 0 1 = cc in omega arith
     pages-right (suc f) link n h =
         go (eqb link 0) refl h (pages-right f (get_or w.pages (w.block.base + (link - 1)) 0) n)
       where
-        failed : Failed ≡ Some n → ⊥
+        failed : None ≡ Some n → ⊥
         failed e = let z : ◌≡◌ {A = ℕ} 0 1 = cc in omega arith
 
         next : ℕ
@@ -168,25 +167,25 @@ module _ (w : Given) (bytes_of : ℕ → List ℕ) (reads : Reads w bytes_of) wh
         on = on_path w.sketches w.rows path d (link - 1)
 
         go : (q : Bool) → eqb link 0 ≡ q
-            → cond q (Some (suc f)) (cond (ltb w.block.pages link) Failed (cond (is_live w.pages (link - 1)) (cond on (test next f) Failed) Failed)) ≡ Some n
+            → cond q (Some (suc f)) (cond (ltb w.block.pages link) None (cond (is_live w.pages (link - 1)) (cond on (test next f) None) None)) ≡ Some n
             → (test next f ≡ Some n → LeafPages ys next f n) → LeafPages ys link (suc f) n
         go true e h ih = none link (suc f) n (eqb-true link 0 e) h
         go false e h ih =
-            let t1 = refused Failed (Some n) failed (ltb w.block.pages link) _ h in
-            let t2 = passed Failed (Some n) failed (is_live w.pages (link - 1)) _ t1.1 in
-            let t3 = passed Failed (Some n) failed on _ t2.1 in
+            let t1 = refused None (Some n) failed (ltb w.block.pages link) _ h in
+            let t2 = passed None (Some n) failed (is_live w.pages (link - 1)) _ t1.1 in
+            let t3 = passed None (Some n) failed on _ t2.1 in
             more link f n (eqb-false link 0 e) (ltb-false w.block.pages link t1.0) t2.0 t3.0 (ih t3.1)
 
     -- ---- their number
-    counted-right : (count f n : ℕ) (q : Left) → counted count f q ≡ Some n → (q ≡ Some n) × (n + count ≡ f)
+    counted-right : (count f n : ℕ) (q : Option ℕ) → counted count f q ≡ Some n → (q ≡ Some n) × (n + count ≡ f)
     counted-right count f n (Some m) h = go (eqb (m + count) f) refl h
       where
-        go : (q : Bool) → eqb (m + count) f ≡ q → cond q (Some m) Failed ≡ Some n → (Some m ≡ Some n) × (n + count ≡ f)
+        go : (q : Bool) → eqb (m + count) f ≡ q → cond q (Some m) None ≡ Some n → (Some m ≡ Some n) × (n + count ≡ f)
         go true e h = let same : m ≡ n = cc in (h, omega (arith, eqb-true (m + count) f e))
         go false e h = let z : ◌≡◌ {A = ℕ} 0 1 = cc in absurd (omega arith)
-    counted-right count f n Failed h = let z : ◌≡◌ {A = ℕ} 0 1 = cc in absurd (omega arith)
+    counted-right count f n None h = let z : ◌≡◌ {A = ℕ} 0 1 = cc in absurd (omega arith)
 
-    pub leaf-right : (x link f n : ℕ) → kind_of w.nodes w.block.nodes x ≡ Leaf link → leaf_left w path d x link f ≡ Some n → LeafHeld ys x link f n
+    pub leaf-right : (x link f n : ℕ) → kind_of w.nodes w.block.nodes x ≡ Some (Leaf link) → leaf_left w path d x link f ≡ Some n → LeafHeld ys x link f n
     unfolding test_leaf
     leaf-right x link f n e h =
         let a : AtLeaf w.nodes w.pages w.block.nodes x link = kind-leaf w.nodes w.pages w.block.nodes x link e in

@@ -1,4 +1,5 @@
 -- Where the test of a trie says yes, the tables hold a sound trie at that root, with the pages and the nodes that were counted and marked.
+use Rattle.std.specs.Prelude.{Option, Some, None}
 use Prim.Native.Nat.{ℕ, zero, suc, ◌+◌, ◌*◌, ◌-◌, ◌<◌, ◌≤◌}
 use native.Mathlib.Omega.{arith}
 use native.Mathlib.Numerals.{add-one}
@@ -22,8 +23,6 @@ use Rattle.children.specs.declared.order.Step.{Step}
 use Rattle.children.specs.declared.order.Step.TheVariants as step
 use Rattle.node_check.specs.declared.leaf.Kind.{Kind}
 use Rattle.node_check.specs.declared.leaf.Kind.TheVariants as kind
-use Rattle.node_check.specs.declared.leaf.Left.{Left}
-use Rattle.node_check.specs.declared.leaf.Left.TheVariants as budget
 use Rattle.trie_visit.specs.declared.Move.{Move}
 use Rattle.trie_visit.specs.declared.Move.TheVariants as move
 use Rattle.node_check.specs.Mark.{mark_once}
@@ -50,12 +49,12 @@ pages-filled (p ∷ ps) h = refl
 
 module _ (w : Given) (bytes_of : ℕ → List ℕ) (reads : Reads w bytes_of) (map' : List ℕ) (left' : ℕ) where
   abbrev good : Tested
-  good = tested map' (budget.Some left')
+  good = tested map' (Some left')
 
-  failed-left : budget.Failed ≡ budget.Some left' → ⊥
+  failed-left : None ≡ Some left' → ⊥
   failed-left e = let z : ◌≡◌ {A = ℕ} 0 1 = cc in omega arith
 
-  failed : (map : List ℕ) → tested map budget.Failed ≡ good → ⊥
+  failed : (map : List ℕ) → tested map None ≡ good → ⊥
   failed map h = failed-left (ap (λ t. t.answer) h)
 
   abbrev marks_in : List ℕ → ℕ → ℕ
@@ -98,7 +97,7 @@ module _ (w : Given) (bytes_of : ℕ → List ℕ) (reads : Reads w bytes_of) (m
           live = ps.live;
         }
 
-    leaf-turn : (link n : ℕ) → kind_of w.nodes w.block.nodes x ≡ kind.Leaf link → (link ≡ 0 → ⊥) → leaf_left w path₁ (k + 1) x link pages ≡ budget.Some n
+    leaf-turn : (link n : ℕ) → kind_of w.nodes w.block.nodes x ≡ Some (kind.Leaf link) → (link ≡ 0 → ⊥) → leaf_left w path₁ (k + 1) x link pages ≡ Some n
         → run w fuel (state map₁ path₁ (left - 1) n (past_child f byte next) fs) ≡ good → Ends map path left pages f fs
     unfolding nodes pages_in
     leaf-turn link n e more t h =
@@ -126,7 +125,7 @@ module _ (w : Given) (bytes_of : ℕ → List ℕ) (reads : Reads w bytes_of) (m
           live = c.live;
         }
 
-    inner-turn : kind_of w.nodes w.block.nodes x ≡ kind.Inner → k + 1 < w.rows.bytes
+    inner-turn : kind_of w.nodes w.block.nodes x ≡ Some kind.Inner → k + 1 < w.rows.bytes
         → run w fuel (state map₁ path₁ (left - 1) pages (entered w.nodes w.block.nodes x) (past_child f byte next ∷ fs)) ≡ good
         → Ends map path left pages f fs
     unfolding nodes pages_in
@@ -142,40 +141,40 @@ module _ (w : Given) (bytes_of : ℕ → List ℕ) (reads : Reads w bytes_of) (m
         (omega (arith, r.nodes_below)) r.pages_below (λ n b. omega (arith, mark.marks n b)) r.onward
 
     -- where the child's kind leads
-    abbrev follows-move : Move → Tested
+    abbrev follows-move : Option Move → Tested
     follows-move m = follow w (run w fuel) (state map path left pages f fs) (visited map₁ path₁ m) m
 
-    past-turn : (link : ℕ) → kind_of w.nodes w.block.nodes x ≡ kind.Leaf link → (link ≡ 0 → ⊥) → (n : Left) → leaf_left w path₁ (k + 1) x link pages ≡ n
+    past-turn : (link : ℕ) → kind_of w.nodes w.block.nodes x ≡ Some (kind.Leaf link) → (link ≡ 0 → ⊥) → (n : Option ℕ) → leaf_left w path₁ (k + 1) x link pages ≡ n
         → follows-move (past_leaf byte next n) ≡ good → Ends map path left pages f fs
-    past-turn link e more (budget.Some n) t h = leaf-turn link n e more t h
-    past-turn link e more budget.Failed t h = absurd (failed map₁ h)
+    past-turn link e more (Some n) t h = leaf-turn link n e more t h
+    past-turn link e more None t h = absurd (failed map₁ h)
 
-    kind-turn : (c : Kind) → kind_of w.nodes w.block.nodes x ≡ c → follows-move (child_move w path₁ k x byte next pages c) ≡ good → Ends map path left pages f fs
-    kind-turn kind.Damaged e h = absurd (failed map₁ h)
-    kind-turn kind.Inner e h = go (ltb (k + 1) w.rows.bytes) refl h
+    kind-turn : (c : Option Kind) → kind_of w.nodes w.block.nodes x ≡ c → follows-move (child_move w path₁ k x byte next pages c) ≡ good → Ends map path left pages f fs
+    kind-turn None e h = absurd (failed map₁ h)
+    kind-turn (Some kind.Inner) e h = go (ltb (k + 1) w.rows.bytes) refl h
       where
-        go : (q : Bool) → ltb (k + 1) w.rows.bytes ≡ q → follows-move (cond q (move.Down x byte next) move.Failed) ≡ good → Ends map path left pages f fs
+        go : (q : Bool) → ltb (k + 1) w.rows.bytes ≡ q → follows-move (cond q (Some (move.Down x byte next)) None) ≡ good → Ends map path left pages f fs
         go true l h = inner-turn e (ltb-true (k + 1) w.rows.bytes l) h
         go false l h = absurd (failed map₁ h)
-    kind-turn (kind.Leaf link) e h = go (eqb link 0) refl h
+    kind-turn (Some (kind.Leaf link)) e h = go (eqb link 0) refl h
       where
-        go : (q : Bool) → eqb link 0 ≡ q → follows-move (cond q move.Failed (past_leaf byte next (leaf_left w path₁ (k + 1) x link pages))) ≡ good
+        go : (q : Bool) → eqb link 0 ≡ q → follows-move (cond q None (past_leaf byte next (leaf_left w path₁ (k + 1) x link pages))) ≡ good
             → Ends map path left pages f fs
         go true z h = absurd (failed map₁ h)
         go false z h = past-turn link e (eqb-false link 0 z) (leaf_left w path₁ (k + 1) x link pages) refl h
 
   -- ---- a step
   module _ (fuel : ℕ) (ih : Right fuel) (map path : List ℕ) (left pages : ℕ) where
-    abbrev follows-step : Frame → List Frame → Step → Tested
+    abbrev follows-step : Frame → List Frame → Option Step → Tested
     follows-step f fs s =
         let v : Visited = visit_step w map path (length fs) left pages s in
         follow w (run w fuel) (state map path left pages f fs) v v.move
 
-    abbrev step_of : Frame → List Frame → Step
+    abbrev step_of : Frame → List Frame → Option Step
     step_of f fs = step_in w.nodes w.block.nodes w.rows.bits w.rows.length (length fs) f
 
     child-turn : (f : Frame) (fs : List Frame) → w.window.size ≤ 32 * length map → length fs < w.rows.bytes → w.rows.bytes ≤ length path
-        → (x byte next : ℕ) → step_of f fs ≡ step.Child x byte next → follows-step f fs (step.Child x byte next) ≡ good → Ends map path left pages f fs
+        → (x byte next : ℕ) → step_of f fs ≡ Some (step.Child x byte next) → follows-step f fs (Some (step.Child x byte next)) ≡ good → Ends map path left pages f fs
     unfolding visit_child
     child-turn f fs room deep long x byte next e h = go (eqb left 0) refl (mark_once w.window map x).fresh refl h
       where
@@ -185,11 +184,11 @@ module _ (w : Given) (bytes_of : ℕ → List ℕ) (reads : Reads w bytes_of) (m
         map₁ : List ℕ
         map₁ = (mark_once w.window map x).map
 
-        m : Move
+        m : Option Move
         m = child_move w path₁ (length fs) x byte next pages (kind_of w.nodes w.block.nodes x)
 
         seen_at : Bool → Bool → Visited
-        seen_at q r = cond q (visited map path move.Failed) (visited map₁ path₁ (cond r m move.Failed))
+        seen_at q r = cond q (visited map path None) (visited map₁ path₁ (cond r m None))
 
         go : (q : Bool) → eqb left 0 ≡ q → (r : Bool) → (mark_once w.window map x).fresh ≡ r
             → follow w (run w fuel) (state map path left pages f fs) (seen_at q r) (seen_at q r).move ≡ good → Ends map path left pages f fs
@@ -201,16 +200,16 @@ module _ (w : Given) (bytes_of : ℕ → List ℕ) (reads : Reads w bytes_of) (m
             (eqb-false left 0 z) map₁ (mark-fresh w.window map x room u) (kind_of w.nodes w.block.nodes x) refl h
 
     up_turn : (f : Frame) (fs : List Frame) → w.window.size ≤ 32 * length map → length fs < w.rows.bytes → w.rows.bytes ≤ length path
-        → step_of f fs ≡ step.Up → follows-step f fs step.Up ≡ good → Ends map path left pages f fs
+        → step_of f fs ≡ Some step.Up → follows-step f fs (Some step.Up) ≡ good → Ends map path left pages f fs
     unfolding left_if
     up_turn f [] room deep long e h =
-        let t = passed budget.Failed (budget.Some left') failed-left (eqb pages 0) (budget.Some left) (ap (λ t. t.answer) h) in
+        let t = passed None (Some left') failed-left (eqb pages 0) (Some left) (ap (λ t. t.answer) h) in
         let same : map ≡ map' = ap (λ t. t.map) h in
         complete-done w bytes_of (marks_in map) (length map) path left pages f map' left'
         (step-up w.nodes w.block.nodes w.rows.bits w.rows.length 0 f e)
         (left-same t.1) (eqb-true pages 0 t.0) (ap length (sym same)) (λ n. ap (λ m. one (flag m 0 n)) (sym same))
       where
-        left-same : budget.Some left ≡ budget.Some left' → left' ≡ left
+        left-same : Some left ≡ Some left' → left' ≡ left
         left-same e = cc
     up_turn f (f' ∷ fs) room deep long e h =
         complete-up w bytes_of (marks_in map) (length map) path left pages f f' fs map' left'
@@ -218,14 +217,14 @@ module _ (w : Given) (bytes_of : ℕ → List ℕ) (reads : Reads w bytes_of) (m
         (ih map path left pages f' fs room (omega arith) long h)
 
     turn : (f : Frame) (fs : List Frame) → w.window.size ≤ 32 * length map → length fs < w.rows.bytes → w.rows.bytes ≤ length path
-        → (s : Step) → step_of f fs ≡ s → follows-step f fs s ≡ good → Ends map path left pages f fs
-    turn f fs room deep long (step.Chain next) e h =
+        → (s : Option Step) → step_of f fs ≡ s → follows-step f fs s ≡ good → Ends map path left pages f fs
+    turn f fs room deep long (Some (step.Chain next)) e h =
         complete-chain w bytes_of (marks_in map) (length map) path left pages f next fs map' left'
         (step-chain w.nodes w.block.nodes w.rows.bits w.rows.length (length fs) f next e)
         (ih map path left pages (next_chain f next) fs room deep long h)
-    turn f fs room deep long (step.Child x byte next) e h = child-turn f fs room deep long x byte next e h
-    turn f fs room deep long step.Up e h = up_turn f fs room deep long e h
-    turn f fs room deep long step.Broken e h = absurd (failed map h)
+    turn f fs room deep long (Some (step.Child x byte next)) e h = child-turn f fs room deep long x byte next e h
+    turn f fs room deep long (Some step.Up) e h = up_turn f fs room deep long e h
+    turn f fs room deep long None e h = absurd (failed map h)
 
   -- ---- a run
   run-right : (fuel : ℕ) → Right fuel
@@ -241,12 +240,12 @@ module _ (w : Given) (bytes_of : ℕ → List ℕ) (reads : Reads w bytes_of) (m
     abbrev Answer : Type 0
     Answer = (t : Phys) × Found w bytes_of at total t × Marked w t map map' × (left' + nodes (tree t) ≡ left)
 
-    root-leaf : (link : ℕ) → kind_of w.nodes w.block.nodes at ≡ kind.Leaf link → (path : List ℕ) → (n : Left) → leaf_left w path 0 at link total ≡ n
+    root-leaf : (link : ℕ) → kind_of w.nodes w.block.nodes at ≡ Some (kind.Leaf link) → (path : List ℕ) → (n : Option ℕ) → leaf_left w path 0 at link total ≡ n
         → tested map₁ (left_leaf (left - 1) n) ≡ good → Answer
     unfolding left_if sound_walk pages_in nodes
-    root-leaf link e path budget.Failed t h = absurd (failed map₁ h)
-    root-leaf link e path (budget.Some n) t h =
-        let u = passed budget.Failed (budget.Some left') failed-left (eqb n 0) (budget.Some (left - 1)) (ap (λ t. t.answer) h) in
+    root-leaf link e path None t h = absurd (failed map₁ h)
+    root-leaf link e path (Some n) t h =
+        let u = passed None (Some left') failed-left (eqb n 0) (Some (left - 1)) (ap (λ t. t.answer) h) in
         let same : map₁ ≡ map' = ap (λ t. t.map) h in
         let left-same : left - 1 ≡ left' = some_same u.1 in
         let a : LeafHeld w bytes_of reads (take 0 path) at link total n =
@@ -268,10 +267,10 @@ module _ (w : Given) (bytes_of : ℕ → List ℕ) (reads : Reads w bytes_of) (m
           omega arith,
         )
       where
-        some_same : {a : ℕ} → budget.Some a ≡ budget.Some left' → a ≡ left'
+        some_same : {a : ℕ} → Some a ≡ Some left' → a ≡ left'
         some_same e = cc
 
-    root-inner : (fuel : ℕ) (path : List ℕ) → w.rows.bytes ≤ length path → 0 < w.rows.bytes → kind_of w.nodes w.block.nodes at ≡ kind.Inner
+    root-inner : (fuel : ℕ) (path : List ℕ) → w.rows.bytes ≤ length path → 0 < w.rows.bytes → kind_of w.nodes w.block.nodes at ≡ Some kind.Inner
         → run w fuel (state map₁ path (left - 1) total (entered w.nodes w.block.nodes at) []) ≡ good → Answer
     unfolding pages_in nodes
     root-inner fuel path long deep e h =
@@ -298,16 +297,16 @@ module _ (w : Given) (bytes_of : ℕ → List ℕ) (reads : Reads w bytes_of) (m
               omega arith,
             )
 
-    kind-root : (c : Kind) → kind_of w.nodes w.block.nodes at ≡ c → w.rows.bytes ≤ 64 → 0 < w.rows.bytes
+    kind-root : (c : Option Kind) → kind_of w.nodes w.block.nodes at ≡ c → w.rows.bytes ≤ 64 → 0 < w.rows.bytes
         → test_kind w at map₁ (left - 1) total c ≡ good → Answer
     unfolding test_below
-    kind-root kind.Damaged e short deep h = absurd (failed map₁ h)
-    kind-root kind.Inner e short deep h =
+    kind-root None e short deep h = absurd (failed map₁ h)
+    kind-root (Some kind.Inner) e short deep h =
         root-inner (steps_for w.block.nodes) (replicate 64 0) (omega (arith, length-replicate {A = ℕ} 64 0)) deep e h
-    kind-root (kind.Leaf link) e short deep h = root-leaf link e (replicate 64 0) (leaf_left w (replicate 64 0) 0 at link total) refl h
+    kind-root (Some (kind.Leaf link)) e short deep h = root-leaf link e (replicate 64 0) (leaf_left w (replicate 64 0) 0 at link total) refl h
 
 pub test-right : (w : Given) (bytes_of : ℕ → List ℕ) (at left total : ℕ) (map map' : List ℕ) (left' : ℕ) → Fitting w map → Reads w bytes_of
-    → at < w.block.nodes → test_trie w at map left total ≡ tested map' (budget.Some left')
+    → at < w.block.nodes → test_trie w at map left total ≡ tested map' (Some left')
     → (t : Phys) × Found w bytes_of at total t × Marked w t map map' × (left' + nodes (tree t) ≡ left)
 unfolding test_trie
 test-right w bytes_of at left total map map' left' fit reads inside h =
@@ -317,8 +316,8 @@ test-right w bytes_of at left total map map' left' fit reads inside h =
     map₁ = (mark_once w.window map at).map
 
     go : (q : Bool) → eqb left 0 ≡ q → (r : Bool) → (mark_once w.window map at).fresh ≡ r
-        → cond q (tested map budget.Failed) (cond r (test_kind w at map₁ (left - 1) total (kind_of w.nodes w.block.nodes at)) (tested map₁ budget.Failed))
-        ≡ tested map' (budget.Some left')
+        → cond q (tested map None) (cond r (test_kind w at map₁ (left - 1) total (kind_of w.nodes w.block.nodes at)) (tested map₁ None))
+        ≡ tested map' (Some left')
         → (t : Phys) × Found w bytes_of at total t × Marked w t map map' × (left' + nodes (tree t) ≡ left)
     go true z r u h = absurd (failed w bytes_of reads map' left' map h)
     go false z false u h = absurd (failed w bytes_of reads map' left' map₁ h)

@@ -1,4 +1,5 @@
 -- Nodes and leaves that lie in the tables as the test meets them: what a node is, and a leaf's pages, all live and on the path.
+use Rattle.std.specs.Prelude.{Some}
 use Prim.Native.Nat.{ℕ, zero, suc, ◌+◌, ◌-◌, ◌≤◌, ◌<◌}
 use native.Mathlib.Omega.{arith}
 use native.Mathlib.Nat.{add-zero, zero-add}
@@ -24,16 +25,15 @@ use Rattle.children.proofs.Bare.{held-bare}
 use Rattle.children.proofs.Leaves.{held-kind, held-count}
 use Rattle.meaning.proofs.Lists.{and_intro, and_first, and_second}
 use Rattle.node_check.specs.declared.leaf.Kind.TheVariants.{Inner, Leaf}
-use Rattle.node_check.specs.declared.leaf.Left.TheVariants.{Some}
 use Rattle.node_check.specs.Leaf.{kind_of, on_path, test_pages, test_leaf}
 
 -- ---- what a node is
 module _ (N P : List ℕ) (cap base x : ℕ) where
-  pub leaf-kind : {pcap : ℕ} (ps : List ℕ) → Holds (cells cap base (leaf_p x ps)) N P → Below pcap ps → pcap ≤ most_pages → kind_of N cap x ≡ Leaf (first ps)
+  pub leaf-kind : {pcap : ℕ} (ps : List ℕ) → Holds (cells cap base (leaf_p x ps)) N P → Below pcap ps → pcap ≤ most_pages → kind_of N cap x ≡ Some (Leaf (first ps))
   unfolding kind_of
   leaf-kind ps h b small = rw (held-kind N cap x ps h.0 b small, held-bare N P cap x h.1.0) refl
 
-  pub inner-kind : (ks : Kids) → Holds (cells cap base (inner_p x ks)) N P → kind_of N cap x ≡ Inner
+  pub inner-kind : (ks : Kids) → Holds (cells cap base (inner_p x ks)) N P → kind_of N cap x ≡ Some Inner
   unfolding kind_of
   inner-kind ks h = rw (stated-inner N cap x h.0) refl
 

@@ -1,4 +1,5 @@
 -- On tables that hold a sound trie the test says yes, and marks each of its nodes.
+use Rattle.std.specs.Prelude.{Option, Some, None}
 use Prim.Native.Nat.{ℕ, zero, suc, ◌+◌, ◌-◌, ◌*◌, ◌≤◌, ◌<◌}
 use native.Mathlib.Omega.{arith}
 use mathlib.Core.Path.{◌≡◌, refl, sym, ap, ap₂, ◌∙◌}
@@ -20,7 +21,6 @@ use Rattle.children.specs.declared.order.Frame.{Frame}
 use Rattle.children.specs.declared.order.Step.TheVariants as step
 use Rattle.node_check.specs.declared.leaf.Kind.{Kind}
 use Rattle.node_check.specs.declared.leaf.Kind.TheVariants as kind
-use Rattle.node_check.specs.declared.leaf.Left.TheVariants as budget
 use Rattle.node_check.specs.Mark.{Noted, noted, mark_once}
 use Rattle.node_check.specs.Leaf.{kind_of}
 use Rattle.children.specs.Order.{entered, past_child, next_chain, next_child}
@@ -107,7 +107,7 @@ module _ (w : Given) where
   -- the end of the children of a node
   record Under (f : ℕ) (s : State) (ys : List ℕ) (u : ℕ → ℕ) (n m cost : ℕ) : Type 0 where
     done : Frame
-    up : next_child w.nodes w.block.nodes done ≡ step.Up
+    up : next_child w.nodes w.block.nodes done ≡ Some step.Up
     went : Went w f s ys u n m done cost
 
 module _ (w : Given) (bytes_of : ℕ → List ℕ) (small : w.block.nodes ≤ most_nodes) (few : w.block.pages ≤ most_pages) (short : w.rows.bytes ≤ 64) (reads : Reads w bytes_of) where
@@ -141,7 +141,7 @@ module _ (w : Given) (bytes_of : ℕ → List ℕ) (small : w.block.nodes ≤ mo
   -- ---- a leaf with a page
   leaf-through : (x p : ℕ) (ps ys : List ℕ) (c l : ℕ) → Holds (cells cap base (leaf_p x (p ∷ ps))) N P → Below pcap (p ∷ ps)
       → FitsT (leaf_p x (p ∷ ps)) (ys ++ c ∷ []) → length ys < len
-      → (f : ℕ) (s : State) → step_at w s.frame s.stack ≡ step.Child x c l → 0 < f → Ready w s ys (λ a. hit x a) 1 (length (p ∷ ps))
+      → (f : ℕ) (s : State) → step_at w s.frame s.stack ≡ Some (step.Child x c l) → 0 < f → Ready w s ys (λ a. hit x a) 1 (length (p ∷ ps))
       → Went w f s ys (λ a. hit x a) 1 (length (p ∷ ps)) (past_child s.frame c l) 1
   leaf-through x p ps ys c l h b u v f s e n r =
       let k : ℕ = length s.stack in
@@ -151,7 +151,7 @@ module _ (w : Given) (bytes_of : ℕ → List ℕ) (small : w.block.nodes ≤ mo
       let fresh : Fresh w.window s.map x = mark-once w.window s.map x r.room r.clear in
       let deep : k + 1 ≡ length (ys ++ c ∷ []) = omega (arith, r.level, length-append ys (c ∷ [])) in
       let on = on-path P w.sketches pcap base w.rows path' bytes_of (ys ++ c ∷ []) reads more (omega arith) (p ∷ ps) b u.0 in
-      let left : leaf_left w path' (k + 1) x (p + 1) s.pages ≡ budget.Some (s.pages - length (p ∷ ps)) =
+      let left : leaf_left w path' (k + 1) x (p + 1) s.pages ≡ Some (s.pages - length (p ∷ ps)) =
       rw deep (leaf-tested P w.sketches pcap base w.rows path' N cap x (length (ys ++ c ∷ [])) (p ∷ ps) s.pages h b few u.1 on r.pages) in
       record {
         map = fresh.after;
@@ -159,7 +159,7 @@ module _ (w : Given) (bytes_of : ℕ → List ℕ) (small : w.block.nodes ≤ mo
         counted = fresh.counted;
         leads = leads-less path' ys c more;
         ran = step_past w f n s.map s.path s.left s.pages s.frame s.stack x c l e (omega (arith, r.nodes)) fresh.after fresh.same
-            (kind.Leaf (p + 1)) (leaf-kind N P cap base x (p ∷ ps) h b few) (s.pages - length (p ∷ ps))
+            (Some (kind.Leaf (p + 1))) (leaf-kind N P cap base x (p ∷ ps) h b few) (s.pages - length (p ∷ ps))
             (rw (ne_eqb (p + 1) 0 (omega arith)) (ap (past_leaf c l) left));
       }
 
@@ -167,7 +167,7 @@ module _ (w : Given) (bytes_of : ℕ → List ℕ) (small : w.block.nodes ≤ mo
   abbrev at : State → Frame → State
   at s frame = state s.map s.path s.left s.pages frame s.stack
 
-  chain-on : (f : ℕ) (s : State) (l : ℕ) → 0 < f → next_child N cap s.frame ≡ step.Chain l → Ran w f s (at s (next_chain s.frame l)) 1
+  chain-on : (f : ℕ) (s : State) (l : ℕ) → 0 < f → next_child N cap s.frame ≡ Some (step.Chain l) → Ran w f s (at s (next_chain s.frame l)) 1
   chain-on f s l n e =
       step-chain w f n s.map s.path s.left s.pages s.frame s.stack l (to-chain N cap w.rows.bits w.rows.length (length s.stack) s.frame l e)
 
@@ -176,7 +176,7 @@ module _ (w : Given) (bytes_of : ℕ → List ℕ) (small : w.block.nodes ≤ mo
     link : ℕ
     cost : ℕ
     spent : cost + groups_left frame ≡ groups_left s.frame
-    leads : next_child N cap frame ≡ step.Child (root t) c link
+    leads : next_child N cap frame ≡ Some (step.Child (root t) c link)
     held : Holds (cells cap base t) N P
     sound : SoundNodes cap pcap t
     ahead : AheadIn (past_child frame c link) ks
@@ -184,7 +184,7 @@ module _ (w : Given) (bytes_of : ℕ → List ℕ) (small : w.block.nodes ≤ mo
 
   -- by one step
   reach-by : (f : ℕ) (s : State) (c : ℕ) (t : Phys) (ks : Kids) → StepKid cap pcap base N P s.frame c t ks →
-      ((l : ℕ) → s.frame.group < 7 → next_child N cap s.frame ≡ step.Chain l → AheadIn (next_chain s.frame l) (kid c t ks) → Reached f s c t ks) → Reached f s c t ks
+      ((l : ℕ) → s.frame.group < 7 → next_child N cap s.frame ≡ Some (step.Chain l) → AheadIn (next_chain s.frame l) (kid c t ks) → Reached f s c t ks) → Reached f s c t ks
   reach-by f s c t ks (to_chain l m e a) more = more l m e a
   reach-by f s c t ks (to_kid l e h b a) more =
       record { frame = s.frame; link = l; cost = 0; spent = omega arith; leads = e; held = h; sound = b; ahead = a; ran = ran-none w f s }
@@ -213,11 +213,11 @@ module _ (w : Given) (bytes_of : ℕ → List ℕ) (small : w.block.nodes ≤ mo
   -- where no child is left, to the end
   record Ended (f : ℕ) (s : State) : Type 0 where
     frame : Frame
-    up : next_child N cap frame ≡ step.Up
+    up : next_child N cap frame ≡ Some step.Up
     ran : Ran w f s (at s frame) (groups_left s.frame)
 
   end_by : (f : ℕ) (s : State) → StepEnd cap pcap base N P s.frame →
-      ((l : ℕ) → s.frame.group < 7 → next_child N cap s.frame ≡ step.Chain l → AheadIn (next_chain s.frame l) no_kid → Ended f s) → Ended f s
+      ((l : ℕ) → s.frame.group < 7 → next_child N cap s.frame ≡ Some (step.Chain l) → AheadIn (next_chain s.frame l) no_kid → Ended f s) → Ended f s
   end_by f s (end_chain l m e a) more = more l m e a
   end_by f s (to_up e) more = record { frame = s.frame; up = e; ran = ran-within w f s s 0 (groups_left s.frame) (omega arith) (ran-none w f s) }
 
@@ -267,7 +267,7 @@ module _ (w : Given) (bytes_of : ℕ → List ℕ) (small : w.block.nodes ≤ mo
   -- an inner child
   inner-through : (x : ℕ) (ks : Kids) (ys : List ℕ) (c l : ℕ) → Holds (cells cap base (inner_p x ks)) N P → SoundK cap pcap ks 0
       → FitsT (inner_p x ks) (ys ++ c ∷ []) → length ys < len → AheadIn (entered N cap x) ks → Through ks (ys ++ c ∷ [])
-      → (f : ℕ) (s : State) → step_at w s.frame s.stack ≡ step.Child x c l → node_steps * size (inner_p x ks) ≤ f
+      → (f : ℕ) (s : State) → step_at w s.frame s.stack ≡ Some (step.Child x c l) → node_steps * size (inner_p x ks) ≤ f
       → Ready w s ys (λ a. uses (inner_p x ks) a) (size (inner_p x ks)) (load (inner_p x ks))
       → Went w f s ys (λ a. uses (inner_p x ks) a) (size (inner_p x ks)) (load (inner_p x ks)) (past_child s.frame c l) (node_steps * size (inner_p x ks))
   inner-through x ks ys c l h b u v ahead through f s e n r =
@@ -284,7 +284,7 @@ module _ (w : Given) (bytes_of : ℕ → List ℕ) (small : w.block.nodes ≤ mo
       let s1 : State = state fresh.after path' (s.left - 1) s.pages (entered N cap x) (back ∷ s.stack) in
       let down : Ran w f s s1 1 =
       step_down w f (omega arith) s.map s.path s.left s.pages s.frame s.stack x c l e (omega (arith, r.nodes)) fresh.after fresh.same
-      kind.Inner (inner-kind N P cap base x ks h) (rw (lt-ltb (k + 1) len (omega (arith, u.0)))) in
+      (Some kind.Inner) (inner-kind N P cap base x ks h) (rw (lt-ltb (k + 1) len (omega (arith, u.0)))) in
       let ready : Ready w s1 (ys ++ c ∷ []) ub (size_among ks) (load_among ks) = record {
         level = omega (arith, deep);
         leads = more;
@@ -356,7 +356,7 @@ module _ (w : Given) (bytes_of : ℕ → List ℕ) (small : w.block.nodes ≤ mo
 
     tree-through : (t : Phys) (ys : List ℕ) (c l : ℕ) → Holds (cells cap base t) N P → SoundNodes cap pcap t → FitsT t (ys ++ c ∷ [])
         → filled (tree t) ≡ true → length ys < len
-        → (f : ℕ) (s : State) → step_at w s.frame s.stack ≡ step.Child (root t) c l → node_steps * size t ≤ f → Ready w s ys (λ a. uses t a) (size t) (load t)
+        → (f : ℕ) (s : State) → step_at w s.frame s.stack ≡ Some (step.Child (root t) c l) → node_steps * size t ≤ f → Ready w s ys (λ a. uses t a) (size t) (load t)
         → Went w f s ys (λ a. uses t a) (size t) (load t) (past_child s.frame c l) (node_steps * size t)
     tree-through (leaf_p x []) ys c l h b u z v f s e n r = absurd (false≢true z)
     tree-through (leaf_p x (p ∷ ps)) ys c l h b u z v f s e n r =
@@ -382,18 +382,18 @@ module _ (w : Given) (bytes_of : ℕ → List ℕ) (small : w.block.nodes ≤ mo
   -- ---- from the root
   record Answer (t : Phys) (map : List ℕ) (left total : ℕ) : Type 0 where
     after : List ℕ
-    same : test_trie w (root t) map left total ≡ tested after (budget.Some (left - size t))
+    same : test_trie w (root t) map left total ≡ tested after (Some (left - size t))
     counted : Counted w.window (λ a. uses t a) map after
 
   -- past the root's mark
   root-kind : (x : ℕ) (map : List ℕ) (left total : ℕ) → 0 < left → (map' : List ℕ) → mark_once w.window map x ≡ noted map' true
-      → (k : Kind) → kind_of N cap x ≡ k → test_trie w x map left total ≡ test_kind w x map' (left - 1) total k
+      → (k : Option Kind) → kind_of N cap x ≡ k → test_trie w x map left total ≡ test_kind w x map' (left - 1) total k
   unfolding test_trie
   root-kind x map left total l map' q k e =
       rw (ne_eqb left 0 (omega arith)) (ap marked q ∙ ap (test_kind w x map' (left - 1) total) e)
     where
       marked : Noted → Tested
-      marked n = cond n.fresh (test_kind w x n.map (left - 1) total (kind_of N cap x)) (tested n.map budget.Failed)
+      marked n = cond n.fresh (test_kind w x n.map (left - 1) total (kind_of N cap x)) (tested n.map None)
 
   root-leaf : (x : ℕ) (ps map : List ℕ) (left total : ℕ) → Holds (cells cap base (leaf_p x ps)) N P → Below pcap ps → FitsT (leaf_p x ps) []
       → w.window.size ≤ 32 * length map → Clear w.window (λ a. hit x a) map → 1 ≤ left → length ps ≡ total → Answer (leaf_p x ps) map left total
@@ -402,11 +402,11 @@ module _ (w : Given) (bytes_of : ℕ → List ℕ) (small : w.block.nodes ≤ mo
       let fresh : Fresh w.window map x = mark-once w.window map x room c in
       let on = on-path P w.sketches pcap base w.rows (replicate 64 0) bytes_of [] reads leads-none (omega arith) ps b u.0 in
       let none_left : total - length ps ≡ 0 = omega arith in
-      let leaf : leaf_left w (replicate 64 0) 0 x (first ps) total ≡ budget.Some 0 =
-      leaf-tested P w.sketches pcap base w.rows (replicate 64 0) N cap x 0 ps total h b few u.1 on (omega arith) ∙ ap budget.Some none_left in
+      let leaf : leaf_left w (replicate 64 0) 0 x (first ps) total ≡ Some 0 =
+      leaf-tested P w.sketches pcap base w.rows (replicate 64 0) N cap x 0 ps total h b few u.1 on (omega arith) ∙ ap Some none_left in
       record {
         after = fresh.after;
-        same = root-kind x map left total (omega arith) fresh.after fresh.same (kind.Leaf (first ps)) (leaf-kind N P cap base x ps h b few)
+        same = root-kind x map left total (omega arith) fresh.after fresh.same (Some (kind.Leaf (first ps))) (leaf-kind N P cap base x ps h b few)
             ∙ ap (λ a. tested fresh.after (left_leaf (left - 1) a)) leaf;
         counted = fresh.counted;
       }
@@ -414,7 +414,7 @@ module _ (w : Given) (bytes_of : ℕ → List ℕ) (small : w.block.nodes ≤ mo
   -- no page may be left
   root-end : (ks : Kids) (f : ℕ) (map path : List ℕ) (left total : ℕ) (frame : Frame) → load_among ks ≡ total → node_steps * size_among ks + 7 < f
       → (under : Under w f (state map path (left - 1) total frame []) [] (λ a. uses_among ks a) (size_among ks) (load_among ks) (node_steps * size_among ks + 7))
-      → run w f (state map path (left - 1) total frame []) ≡ tested under.went.map (budget.Some (left - (1 + size_among ks)))
+      → run w f (state map path (left - 1) total frame []) ≡ tested under.went.map (Some (left - (1 + size_among ks)))
   unfolding left_if
   root-end ks f map path left total frame e n under =
       let less : left - 1 - size_among ks ≡ left - (1 + size_among ks) = omega arith in
@@ -445,7 +445,7 @@ module _ (w : Given) (bytes_of : ℕ → List ℕ) (small : w.block.nodes ≤ mo
       let under = rw seven at (kids-through ks [] u.1 u.0 (steps_for cap) s (enter-ahead cap pcap base N P x ks h.1 b) ready (omega (arith, seven))) in
       record {
         after = under.went.map;
-        same = root-kind x map left total (omega arith) fresh.after fresh.same kind.Inner (inner-kind N P cap base x ks h)
+        same = root-kind x map left total (omega arith) fresh.after fresh.same (Some kind.Inner) (inner-kind N P cap base x ks h)
             ∙ root-end ks (steps_for cap) fresh.after (replicate 64 0) left total (entered N cap x) e (omega arith) under;
         counted = counted-then w.window hx ub map fresh.after under.went.map fresh.counted under.went.counted;
       }
@@ -459,13 +459,13 @@ module _ (w : Given) (bytes_of : ℕ → List ℕ) (small : w.block.nodes ≤ mo
 pub test-whole : (w : Given) (bytes_of : ℕ → List ℕ) (root left total : ℕ) (map : List ℕ) (t : Phys) → Fitting w map → Reads w bytes_of
     → Found w bytes_of root total t → nodes (tree t) ≤ left → nodes (tree t) ≤ w.block.nodes
     → ((n : ℕ) → n < w.window.size → one (flag map 0 n) + uses t (w.window.from + n) ≤ 1)
-    → (map' : List ℕ) × (test_trie w root map left total ≡ tested map' (budget.Some (left - nodes (tree t)))) × Marked w t map map'
+    → (map' : List ℕ) × (test_trie w root map left total ≡ tested map' (Some (left - nodes (tree t)))) × Marked w t map map'
 test-whole w bytes_of root left total map t fits reads found l m c =
     let count : size t ≡ nodes (tree t) = size-nodes t in
     let answer = root-whole w bytes_of fits.nodes.small fits.pages.small fits.rows.short reads t map left total found.holds found.sound
     (fit bytes_of (is_live w.pages) w.rows.bits w.rows.length w.rows.bytes t [] found.walked found.live)
     fits.bitmap c (omega arith) (omega arith) (load-pages t ∙ found.pages) in (
       answer.after,
-      ap (λ x. test_trie w x map left total) (sym found.place) ∙ answer.same ∙ ap (λ n. tested answer.after (budget.Some (left - n))) count,
+      ap (λ x. test_trie w x map left total) (sym found.place) ∙ answer.same ∙ ap (λ n. tested answer.after (Some (left - n))) count,
       record { long = answer.counted.long; marks = answer.counted.marks },
     )

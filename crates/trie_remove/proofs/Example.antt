@@ -1,4 +1,5 @@
 -- A small state, computed: the laws' hypotheses can be met. Three nodes, an inner root over two leaves of a page each; page 1 is taken out.
+use Rattle.std.specs.Prelude.{Some}
 use Prim.Native.Nat.{ℕ, zero, suc, ◌+◌, ◌≤◌, ◌<◌}
 use native.Mathlib.Omega.{arith}
 use mathlib.Core.Path.{◌≡◌, refl}
@@ -20,7 +21,6 @@ use Rattle.meaning.proofs.Lists.{and_first, and_second, count-append, eqb_comm}
 use Rattle.trie_laws.proofs.Lists.{holds, fails, truth, any_none}
 use Rattle.trie.specs.Descend.{step_to, descend, descend_to, passed_at}
 use Rattle.trie.proofs.Arrival.{Leads, sound-leads}
-use Rattle.trie_remove.specs.declared.Removed.TheVariants.{Done}
 use Rattle.trie_remove.specs.Take.{take_from, take_page}
 use Rattle.trie.specs.Model.{free_child}
 use Rattle.trie_remove.specs.Prune.{prune_up}
@@ -125,13 +125,13 @@ leads = sound-leads bytes_of 8 1 1 (tree t) (2 ∷ []) sound (λ k l. refl) octe
 done : RemoveDone 3 2 0 bytes_of 1 N P t [] nil (remove_page N P 3 2 0 0 (2 ∷ []) 1 0)
 done = remove-right bytes_of 1 state leads 8 1 1 sound stands
 
-computed : remove_page N P 3 2 0 0 (2 ∷ []) 1 0 ≡ gone (0 ∷ 524288 ∷ 0 ∷ 65536 ∷ 65537 ∷ 0 ∷ 2 ∷ replicate 23 0) P (Done 3)
+computed : remove_page N P 3 2 0 0 (2 ∷ []) 1 0 ≡ gone (0 ∷ 524288 ∷ 0 ∷ 65536 ∷ 65537 ∷ 0 ∷ 2 ∷ replicate 23 0) P (Some 3)
 unfolding remove_page remove_at shorten_leaf prune_up bare all upto from free_child kind_of take_page descend_to descend step_to passed_at find_place place_from
 computed = refl
 
 -- ---- page 0 alone in node 2, below node 1 and the root: both are freed, and the root is an empty leaf
 chain : remove_page (0 ∷ 524288 ∷ 1048576 ∷ 65536 ∷ 65536 ∷ 65537 ∷ 2 ∷ replicate 7 0 ++ 3 ∷ replicate 15 0) (0 ∷ []) 3 1 0 0 (1 ∷ 2 ∷ []) 0 0 ≡
-    gone (0 ∷ 3 ∷ 0 ∷ 131072 ∷ replicate 26 0) (0 ∷ []) (Done 2)
+    gone (0 ∷ 3 ∷ 0 ∷ 131072 ∷ replicate 26 0) (0 ∷ []) (Some 2)
 unfolding remove_page remove_at shorten_leaf prune_up bare all upto from free_child kind_of take_page descend_to descend step_to passed_at find_place place_from
 chain = refl
 
@@ -139,19 +139,19 @@ chain = refl
 abbrev three : List ℕ
 three = 0 ∷ 196611 ∷ replicate 8 0
 
-first_out : remove_page three (0 ∷ 1 ∷ 2 ∷ []) 1 3 0 0 [] 2 0 ≡ gone (0 ∷ 131074 ∷ replicate 8 0) (0 ∷ 1 ∷ 2 ∷ []) (Done 0)
+first_out : remove_page three (0 ∷ 1 ∷ 2 ∷ []) 1 3 0 0 [] 2 0 ≡ gone (0 ∷ 131074 ∷ replicate 8 0) (0 ∷ 1 ∷ 2 ∷ []) (Some 0)
 unfolding remove_page remove_at shorten_leaf shorter count_of kind_of take_page descend_to descend step_to passed_at
 first_out = refl
 
-inside-out : remove_page three (0 ∷ 1 ∷ 2 ∷ []) 1 3 0 0 [] 1 0 ≡ gone (0 ∷ 131075 ∷ replicate 8 0) (0 ∷ 1 ∷ 1 ∷ []) (Done 0)
+inside-out : remove_page three (0 ∷ 1 ∷ 2 ∷ []) 1 3 0 0 [] 1 0 ≡ gone (0 ∷ 131075 ∷ replicate 8 0) (0 ∷ 1 ∷ 1 ∷ []) (Some 0)
 unfolding remove_page remove_at shorten_leaf shorter count_of kind_of take_page take_from descend_to descend step_to passed_at
 inside-out = refl
 
-last_out : remove_page three (0 ∷ 1 ∷ 2 ∷ []) 1 3 0 0 [] 0 0 ≡ gone (0 ∷ 131075 ∷ replicate 8 0) (0 ∷ 0 ∷ 2 ∷ []) (Done 0)
+last_out : remove_page three (0 ∷ 1 ∷ 2 ∷ []) 1 3 0 0 [] 0 0 ≡ gone (0 ∷ 131075 ∷ replicate 8 0) (0 ∷ 0 ∷ 2 ∷ []) (Some 0)
 unfolding remove_page remove_at shorten_leaf shorter count_of kind_of take_page take_from descend_to descend step_to passed_at
 last_out = refl
 
 -- on damaged tables, where the number was 0, it stays 0
-damaged : remove_page (0 ∷ 3 ∷ replicate 8 0) (0 ∷ 1 ∷ 2 ∷ []) 1 3 0 0 [] 2 0 ≡ gone (0 ∷ 2 ∷ replicate 8 0) (0 ∷ 1 ∷ 2 ∷ []) (Done 0)
+damaged : remove_page (0 ∷ 3 ∷ replicate 8 0) (0 ∷ 1 ∷ 2 ∷ []) 1 3 0 0 [] 2 0 ≡ gone (0 ∷ 2 ∷ replicate 8 0) (0 ∷ 1 ∷ 2 ∷ []) (Some 0)
 unfolding remove_page remove_at shorten_leaf shorter count_of kind_of take_page descend_to descend step_to passed_at
 damaged = refl

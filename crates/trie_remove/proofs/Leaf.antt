@@ -1,4 +1,5 @@
 -- A page out of a leaf that holds it: what `remove_at` comes to, and the state with the leaf that is left.
+use Rattle.std.specs.Prelude.{Some, Ok}
 use Prim.Native.Nat.{ℕ, suc, ◌+◌, ◌<◌}
 use native.Mathlib.Omega.{arith}
 use mathlib.Core.Path.{◌≡◌, refl, ap, ◌∙◌, sym}
@@ -15,10 +16,8 @@ use Rattle.children.specs.Heap.{Cells, node, page, ◌⊕◌}
 use Rattle.children.specs.Phys.{first, page_cells, no_kids, free_cells, cells, Below, State, leaf_p}
 use Rattle.children.proofs.Leaves.{held-kind, held-count}
 use Rattle.children.proofs.Frame.{Less, less, node-write, nodes-kept, pages-kept}
-use Rattle.trie_remove.specs.declared.Taken.TheVariants.{Out}
-use Rattle.trie_remove.specs.declared.Removed.TheVariants.{Done}
 use Rattle.trie_remove.specs.Take.{take_page}
-use Rattle.trie.specs.Descend.{Passed}
+use Rattle.trie.specs.declared.path.Passed.{Passed}
 use Rattle.trie_remove.specs.Prune.{prune_up}
 use Rattle.trie_remove.specs.Remove.{shorten_leaf, remove_at, Gone, gone, gone_to}
 use Rattle.trie_remove.proofs.Steps.{shorten-some, shorten-none, out-to}
@@ -30,7 +29,7 @@ pub record LeafDone (cap pcap base : ℕ) (N P : List ℕ) (free : ℕ) (way : �
   pub pages_to : List ℕ
   pub link_to : ℕ
   pub state : State cap pcap base nodes_to pages_to free (leaf_p c (without p ps)) fs (page (base + p) link_to ⊕ G)
-  pub full : 0 < first (without p ps) → o ≡ gone nodes_to pages_to (Done free)
+  pub full : 0 < first (without p ps) → o ≡ gone nodes_to pages_to (Some free)
   pub emptied : first (without p ps) ≡ 0 → o ≡ gone_to pages_to (prune_up nodes_to cap way k c s free)
   pub nodes_length : length nodes_to ≡ length N
   pub pages_length : length pages_to ≡ length P
@@ -82,7 +81,7 @@ module _ {cap pcap base : ℕ} {N P : List ℕ} {free c : ℕ} {ps fs : List ℕ
   -- whichever page it is, the leaf's first page is the first of those left
   taken : remove_at N P cap pcap base way c s k p free ≡ gone_to done.pages_to (shorten_leaf N cap way c s k (first (without p ps)) free)
   taken =
-      out-to N P cap pcap base way c s k p free (first_of (kind_of N cap c)) refl done.pages_to (Out (first (without p ps))) (sym done.is)
+      out-to N P cap pcap base way c s k p free (first_of (kind_of N cap c)) refl done.pages_to (Ok (first (without p ps))) (sym done.is)
       (first (without p ps)) refl
 
   pub leaf-right : LeafDone cap pcap base N P free way c p s k ps fs G (remove_at N P cap pcap base way c s k p free)

@@ -9,9 +9,11 @@ use Rattle.meaning.proofs.Stacks.{suc-pred}
 use Rattle.layout.specs.Nodes.{state_at, empty_state}
 use Rattle.children.specs.Order.{bare}
 use Rattle.trie.specs.Model.{free_child}
+use Rattle.trie.specs.declared.path.Reached.{Reached}
 use Rattle.trie.specs.declared.path.Reach.{Reach}
 use Rattle.trie.specs.declared.path.Reach.TheVariants.{Leaf}
-use Rattle.trie.specs.Descend.{Passed, passed_at, Noted, level_of}
+use Rattle.trie.specs.declared.path.Passed.{Passed}
+use Rattle.trie.specs.Descend.{passed_at, Noted, level_of}
 use Rattle.trie.proofs.Notes.{passed-inside}
 use Rattle.trie_remove.specs.Prune.{Freed, freed, prune_up, InTable}
 
@@ -58,6 +60,6 @@ prune-same cap path way (suc k) h N n s free =
     rw (h k (omega arith), prune-same cap path way k (λ j l. h j (omega arith)) (set M (state_at cap (way k).node) empty_state) (way k).node (way k).slot (n + 1)) refl
 
 -- the nodes that a way notes are in the table
-pub noted-within : (N : List ℕ) (cap root : ℕ) (Y : List ℕ) → root < cap → ((k : ℕ) → get_or Y k 0 < 256) → (r : Reach) (n s k : ℕ) → r ≡ Leaf n s k →
-    (path : ℕ → Passed) → Noted path (passed_at N cap root Y) (level_of r) → InTable cap path k
-noted-within N cap root Y l o r n s k e path h j m = rw ((rw e at h) j m) (passed-inside N cap root Y l o j)
+pub noted-within : (N : List ℕ) (cap root : ℕ) (Y : List ℕ) → root < cap → ((k : ℕ) → get_or Y k 0 < 256) → (r : Reach) (at : Reached) → r ≡ Leaf at →
+    (path : ℕ → Passed) → Noted path (passed_at N cap root Y) (level_of r) → InTable cap path at.level
+noted-within N cap root Y l o r at e path h j m = rw ((rw e at h) j m) (passed-inside N cap root Y l o j)

@@ -1,4 +1,5 @@
 -- On a state with a sound trie that has the page, `remove_page` is `remove`; the nodes that it takes out are free.
+use Rattle.std.specs.Prelude.{Some}
 use Prim.Native.Nat.{ℕ, zero, suc, ◌+◌, ◌<◌, ◌≤◌}
 use native.Mathlib.Omega.{arith}
 use mathlib.Core.Path.{◌≡◌, refl, ap, ◌∙◌, sym, subst}
@@ -19,10 +20,10 @@ use Rattle.trie_laws.proofs.Path.{remove-at-leaf}
 use Rattle.trie_laws.proofs.Reach.{reach-leaf}
 use Rattle.trie.specs.declared.path.Reach.{Reach}
 use Rattle.trie.specs.declared.path.Reach.TheVariants.{Leaf, Gap, Broken}
-use Rattle.trie.specs.Descend.{descend_to, Passed, passed, passed_at}
+use Rattle.trie.specs.declared.path.Passed.{Passed}
+use Rattle.trie.specs.Descend.{descend_to, passed, passed_at}
 use Rattle.trie.proofs.Way.{Way, go-in, go-out}
 use Rattle.trie.proofs.Arrival.{Leads, Linked, way_to, Arrives, arrives, passes}
-use Rattle.trie_remove.specs.declared.Removed.TheVariants.{Done}
 use Rattle.trie_remove.specs.Remove.{remove_at, remove_page, Gone, gone, gone_to}
 use Rattle.trie_remove.proofs.Steps.{remove-leaf}
 use Rattle.trie_remove.proofs.Leaf.{LeafDone, leaf-right}
@@ -36,7 +37,7 @@ pub record RemoveDone (cap pcap base : ℕ) (bytes_of : ℕ → List ℕ) (p : �
   pub trie_to : Phys
   pub frees_to : List ℕ
   pub link_to : ℕ
-  pub is : o ≡ gone nodes_to pages_to (Done free_to)
+  pub is : o ≡ gone nodes_to pages_to (Some free_to)
   pub state : State cap pcap base nodes_to pages_to free_to trie_to frees_to (page (base + p) link_to ⊕ G)
   pub root : root trie_to ≡ root t
   pub removed : tree trie_to ≡ remove bytes_of 0 p (tree t)
@@ -138,15 +139,15 @@ module _ {cap pcap base : ℕ} (bytes_of : ℕ → List ℕ) (p : ℕ) {N P : Li
     where
       go : (r : Reach) → r ≡ descend_to N cap (root t) Y → Arrives cap pcap base small bytes_of p t r →
           RemoveDone cap pcap base bytes_of p N P t fs G (remove_page N P cap pcap base (root t) Y p free)
-      go (Leaf n s k) e a =
-          let x = reached k a.deep in
+      go (Leaf at) e a =
+          let x = reached at.level a.deep in
           let o : leaf a.pages ≡ leaf x.0 = sym a.way.sub ∙ x.1 in
           let q : a.pages ≡ x.0 = cc in
           subst (RemoveDone cap pcap base bytes_of p N P t fs G)
-          (remove-leaf N P cap pcap base (root t) Y p free (Leaf n s k) e n s k way (remove_at N P cap pcap base way n s k p free) refl (λ j l. refl) refl)
-          (at_leaf small bytes_of p st way (passes cap pcap base small bytes_of p st y) k n s a.pages a.linked (rw q x.2))
-      go (Gap n s k) e a =
-          let x = reached k a.deep in
+          (remove-leaf N P cap pcap base (root t) Y p free (Leaf at) e at way (remove_at N P cap pcap base way at.node at.slot at.level p free) refl (λ j l. refl) refl)
+          (at_leaf small bytes_of p st way (passes cap pcap base small bytes_of p st y) at.level at.node at.slot a.pages a.linked (rw q x.2))
+      go (Gap at) e a =
+          let x = reached at.level a.deep in
           let o : inner (children_of a.kids) ≡ leaf x.0 = sym a.way.sub ∙ x.1 in
           let i : ◌≡◌ {A = ℕ} 0 1 = cc in
           absurd (omega arith)

@@ -1,4 +1,5 @@
 -- `take_page` takes a page out of the chain of a list that holds it, once: the other pages stay as they are, and the page's link is left over.
+use Rattle.std.specs.Prelude.{Ok}
 use Prim.Native.Nat.{ℕ, suc, ◌+◌, ◌-◌, ◌<◌, ◌≤◌}
 use native.Mathlib.Omega.{arith}
 use mathlib.Core.Path.{◌≡◌, refl, ap, ◌∙◌, sym}
@@ -18,7 +19,6 @@ use Rattle.meaning.proofs.Lists.{eqb_comm}
 use Rattle.trie_laws.proofs.Lists.{holds, fails, truth, any-count}
 use Rattle.children.proofs.Claims.{page-claims, below_all}
 use Rattle.trie_laws.proofs.Distinct.{distinct-once, distinct-below}
-use Rattle.trie_remove.specs.declared.Taken.TheVariants.{Out}
 use Rattle.trie_remove.specs.Take.{Took, take_from, take_page, took}
 use Rattle.trie_remove.proofs.Steps.{first_out, not_first, take-here, take_on}
 
@@ -66,7 +66,7 @@ module _ (p : ℕ) where
 record BehindDone (N P : List ℕ) (base p a : ℕ) (ps : List ℕ) (R : Cells) (o : Took) : Type 0 where
   pages_to : List ℕ
   link_to : ℕ
-  is : o ≡ took pages_to (Out a)
+  is : o ≡ took pages_to (Ok a)
   heap : Heap N pages_to (page_cells base (without p ps) ⊕ page (base + p) link_to ⊕ R)
   length : length pages_to ≡ length P
 
@@ -137,7 +137,7 @@ module _ (pcap base p a : ℕ) {N P : List ℕ} (t : PageTable pcap base P) wher
 pub record TakeDone (N P : List ℕ) (base p : ℕ) (ps : List ℕ) (R : Cells) (o : Took) : Type 0 where
   pub pages_to : List ℕ
   pub link_to : ℕ
-  pub is : o ≡ took pages_to (Out (first (without p ps)))
+  pub is : o ≡ took pages_to (Ok (first (without p ps)))
   pub heap : Heap N pages_to (page_cells base (without p ps) ⊕ page (base + p) link_to ⊕ R)
   pub length : length pages_to ≡ length P
 

@@ -21,7 +21,8 @@ use Rattle.trie_laws.specs.Path.{subtree, replace, path_of}
 use Rattle.trie_laws.proofs.Children.{drop-nodes, shrunk-some, shrunk-last}
 use Rattle.trie_laws.proofs.Path.{remove-emptied, remove-at-inner, replace-nodes}
 use Rattle.trie.specs.Model.{free_child}
-use Rattle.trie.specs.Descend.{Passed, passed}
+use Rattle.trie.specs.declared.path.Passed.{Passed}
+use Rattle.trie.specs.Descend.{passed}
 use Rattle.trie.proofs.Context.{enter}
 use Rattle.trie.proofs.Restate.{restate}
 use Rattle.trie.proofs.Way.{Way, go-out}

@@ -3,7 +3,7 @@ use Rattle.std.specs.Prelude.{ℕ, zero, suc, ◌+◌, ◌<◌, cond, List, set}
 use Rattle.layout.specs.Nodes.{state_at, empty_state, node_words}
 use Rattle.children.specs.Order.{bare}
 use Rattle.trie.specs.Model.{free_child}
-use Rattle.trie.specs.Descend.{Passed}
+use Rattle.trie.specs.declared.path.Passed.{Passed}
 
 -- the node table and the free link
 pub data Freed : Type 0 where

@@ -1,15 +1,12 @@
 -- What `shorten_leaf` and `remove_page` compute: N is the node table and P the page table.
-use Rattle.std.specs.Prelude.{ℕ, cond, List, ltb, set}
+use Rattle.std.specs.Prelude.{ℕ, cond, List, ltb, set, Option, Some, None, Ok, Err}
 use Rattle.layout.specs.Nodes.{state_at, empty_state}
 use Rattle.layout.specs.States.{kind_of, first_of, shorter}
 use Rattle.trie.specs.declared.path.Reach.{Reach}
 use Rattle.trie.specs.declared.path.Reach.TheVariants.{Leaf, Gap}
 use Rattle.trie.specs.declared.path.Reach.TheVariants as reach
-use Rattle.trie.specs.Descend.{descend_to, Passed, passed_at}
-use Rattle.trie_remove.specs.declared.Taken.TheVariants.{Out, Missing}
-use Rattle.trie_remove.specs.declared.Taken.TheVariants as taken
-use Rattle.trie_remove.specs.declared.Removed.{Removed}
-use Rattle.trie_remove.specs.declared.Removed.TheVariants.{Done, Broken}
+use Rattle.trie.specs.declared.path.Passed.{Passed}
+use Rattle.trie.specs.Descend.{descend_to, passed_at}
 use Rattle.trie_remove.specs.Take.{Took, took, take_page}
 use Rattle.trie_remove.specs.Prune.{Freed, freed, prune_up}
 
@@ -20,24 +17,23 @@ shorten_leaf N cap way n s k l free =
 
 -- both tables and the answer
 pub data Gone : Type 0 where
-  gone : List ℕ → List ℕ → Removed → Gone
+  gone : List ℕ → List ℕ → Option ℕ → Gone
 
 abbrev pub gone_to : List ℕ → Freed → Gone
-gone_to P (freed N free) = gone N P (Done free)
+gone_to P (freed N free) = gone N P (Some free)
 
 abbrev pub remove_taken : List ℕ → ℕ → (ℕ → Passed) → ℕ → ℕ → ℕ → ℕ → Took → Gone
-remove_taken N cap way n s k free (took P (Out l)) = gone_to P (shorten_leaf N cap way n s k l free)
-remove_taken N cap way n s k free (took P Missing) = gone N P Broken
-remove_taken N cap way n s k free (took P taken.Broken) = gone N P Broken
+remove_taken N cap way n s k free (took P (Ok l)) = gone_to P (shorten_leaf N cap way n s k l free)
+remove_taken N cap way n s k free (took P (Err e)) = gone N P None
 
 -- page p out of leaf n
 unfoldable pub remove_at : List ℕ → List ℕ → ℕ → ℕ → ℕ → (ℕ → Passed) → ℕ → ℕ → ℕ → ℕ → ℕ → Gone
 remove_at N P cap pcap base way n s k p free = remove_taken N cap way n s k free (take_page P pcap base (first_of (kind_of N cap n)) p)
 
 abbrev pub remove_reached : List ℕ → List ℕ → ℕ → ℕ → ℕ → (ℕ → Passed) → ℕ → ℕ → Reach → Gone
-remove_reached N P cap pcap base way p free (Leaf n s k) = remove_at N P cap pcap base way n s k p free
-remove_reached N P cap pcap base way p free (Gap n s k) = gone N P Broken
-remove_reached N P cap pcap base way p free reach.Broken = gone N P Broken
+remove_reached N P cap pcap base way p free (Leaf at) = remove_at N P cap pcap base way at.node at.slot at.level p free
+remove_reached N P cap pcap base way p free (Gap at) = gone N P None
+remove_reached N P cap pcap base way p free reach.Broken = gone N P None
 
 -- page p out of the leaf where its bytes Y lead
 unfoldable pub remove_page : List ℕ → List ℕ → ℕ → ℕ → ℕ → ℕ → List ℕ → ℕ → ℕ → Gone

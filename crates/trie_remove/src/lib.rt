@@ -14,19 +14,24 @@ use children::order::is_bare;
 use layout::Block;
 use layout::nodes::{State, first_page, set_state, shorten};
 use trie::leaf::free_child;
-use trie::path::{Reach, trace_to};
+use trie::path::{Passed, Reach, Reached, trace_to};
 
-// A page was taken out of a chain, which begins at this link then; or why not.
-#[derive(Clone, Copy)]
-pub enum Taken {
-    Out(u32),
+// Why a page was not taken out of a chain: it does not stand in it, or a link is broken.
+#[derive(Clone, Copy, Debug, PartialEq, Eq)]
+pub enum Lost {
     Missing,
     Broken,
 }
 
 // Page p out of a chain of which it is not the first.
 #[tactic(auto, unfolding(crate::specs::Take::take_from))]
-fn take_behind(pages: &mut [u32], pcap: usize, base: usize, first: u32, p: usize) -> Taken
+fn take_behind(
+    pages: &mut [u32],
+    pcap: usize,
+    base: usize,
+    first: u32,
+    p: usize,
+) -> Result<u32, Lost>
     requires page_table { PageTable pcap base pages.old }
     requires p_lt_pcap { p < pcap }
     requires first_le_most_pages { first ≤ most_pages }
@@ -34,30 +39,32 @@ fn take_behind(pages: &mut [u32], pcap: usize, base: usize, first: u32, p: usize
     ensures inside { link_in result ≤ most_pages }
 {
     let mut link = first as usize;
-    let mut left = pcap;
-    loop {
-        if left == 0 {
-            return Taken::Broken;
-        }
+    for _ in 0..pcap {
         if link == 0 {
-            return Taken::Missing;
+            return Err(Lost::Missing);
         }
         if link > pcap {
-            return Taken::Broken;
+            return Err(Lost::Broken);
         }
         let at = base + (link - 1);
         link = pages[at] as usize;
         if link == p + 1 {
             pages[at] = pages[base + p];
-            return Taken::Out(first);
+            return Ok(first);
         }
-        left -= 1;
     }
+    Err(Lost::Broken)
 }
 
-// Page p out of the chain that begins at a link. Of the first page only the answer tells.
+// Page p out of the chain that begins at a link; the link that it begins with then. Of the first page only the answer tells.
 #[tactic(auto, unfolding(crate::specs::Take::take_page))]
-pub fn take_page(pages: &mut [u32], pcap: usize, base: usize, first: u32, p: usize) -> Taken
+pub fn take_page(
+    pages: &mut [u32],
+    pcap: usize,
+    base: usize,
+    first: u32,
+    p: usize,
+) -> Result<u32, Lost>
     requires page_table { PageTable pcap base pages.old }
     requires p_lt_pcap { p < pcap }
     requires first_le_most_pages { first ≤ most_pages }
@@ -69,44 +76,27 @@ pub fn take_page(pages: &mut [u32], pcap: usize, base: usize, first: u32, p: usi
     }
     let after = pages[base + p];
     if after as usize > pcap {
-        return Taken::Broken;
+        return Err(Lost::Broken);
     }
-    Taken::Out(after)
-}
-
-// A leaf that a way down has reached: the slot that links to it, 0 at the root, and its level.
-#[derive(Clone, Copy)]
-pub struct Reached {
-    pub node: usize,
-    pub slot: usize,
-    pub level: usize,
+    Ok(after)
 }
 
 // Up from an empty leaf: where it is not the root it is freed, and the node above is an empty leaf in its turn where it has no child
-// left. The path has the nodes above, and their slots. The free link then.
+// left. The path has the nodes above. The free link then.
 #[tactic(auto, unfolding(crate::specs::Prune::prune_up))]
-fn prune_up(
-    nodes: &mut [u32],
-    cap: usize,
-    above: &[u32; 64],
-    slots: &[u32; 64],
-    leaf: Reached,
-    free: u32,
-) -> u32
+fn prune_up(nodes: &mut [u32], cap: usize, path: &[Passed; 64], leaf: Reached, free: u32) -> u32
     requires node_table { NodeTable cap nodes.old }
     requires node_lt_cap { (leaf.node < cap) × (leaf.slot < node_words cap) × (leaf.level ≤ 64) }
-    requires in_table { InTable cap (noted above.now slots.now) leaf.level }
-    ensures { freed nodes.new result ≡ prune_up nodes.old cap (noted above.now slots.now) leaf.level leaf.node leaf.slot free }
+    requires in_table { InTable cap (noted path.now) leaf.level }
+    ensures { freed nodes.new result ≡ prune_up nodes.old cap (noted path.now) leaf.level leaf.node leaf.slot free }
 {
     let mut n = leaf.node;
     let mut slot = leaf.slot;
-    let mut level = leaf.level;
     let mut link = free;
-    while level > 0 {
+    for level in (0..leaf.level).rev() {
         link = free_child(nodes, cap, slot, n, link);
-        level -= 1;
-        n = above[level] as usize;
-        slot = slots[level] as usize;
+        n = path[level].node as usize;
+        slot = path[level].slot as usize;
         if !is_bare(nodes, cap, n) {
             return link;
         }
@@ -120,94 +110,69 @@ fn prune_up(
 pub fn shorten_leaf(
     nodes: &mut [u32],
     cap: usize,
-    above: &[u32; 64],
-    slots: &[u32; 64],
+    path: &[Passed; 64],
     leaf: Reached,
     link: u32,
     free: u32,
 ) -> u32
     requires node_table { NodeTable cap nodes.old }
     requires node_lt_cap { (leaf.node < cap) × (leaf.slot < node_words cap) × (leaf.level ≤ 64) }
-    requires in_table { InTable cap (noted above.now slots.now) leaf.level }
+    requires in_table { InTable cap (noted path.now) leaf.level }
     requires link_le_most_pages { link ≤ most_pages }
-    ensures { freed nodes.new result ≡ shorten_leaf nodes.old cap (noted above.now slots.now) leaf.node leaf.slot leaf.level link free }
+    ensures { freed nodes.new result ≡ shorten_leaf nodes.old cap (noted path.now) leaf.node leaf.slot leaf.level link free }
 {
     if link > 0 {
         shorten(nodes, cap, leaf.node, link);
         return free;
     }
     set_state(nodes, cap, leaf.node, State::Empty);
-    prune_up(nodes, cap, above, slots, leaf, free)
+    prune_up(nodes, cap, path, leaf, free)
 }
 
-// The free link after a removal.
-#[derive(Clone, Copy)]
-pub enum Removed {
-    Done(u32),
-    Broken,
-}
-
-// Page p out of a leaf.
+// Page p out of a leaf; the free link then, or none on unsound tables.
 #[tactic(auto, unfolding(crate::specs::Remove::remove_at))]
 pub fn remove_at(
     nodes: &mut [u32],
     pages: &mut [u32],
     block: Block,
-    above: &[u32; 64],
-    slots: &[u32; 64],
+    path: &[Passed; 64],
     leaf: Reached,
     p: usize,
     free: u32,
-) -> Removed
+) -> Option<u32>
     requires node_table { NodeTable block.nodes nodes.old }
     requires page_table { PageTable block.pages block.base pages.old }
     requires node_lt_nodes { (leaf.node < block.nodes) × (leaf.slot < node_words block.nodes) × (leaf.level ≤ 64) × (p < block.pages) }
-    requires in_table { InTable block.nodes (noted above.now slots.now) leaf.level }
-    ensures { gone nodes.new pages.new result ≡ remove_at nodes.old pages.old block.nodes block.pages block.base (noted above.now slots.now) leaf.node leaf.slot leaf.level p free }
+    requires in_table { InTable block.nodes (noted path.now) leaf.level }
+    ensures { gone nodes.new pages.new result ≡ remove_at nodes.old pages.old block.nodes block.pages block.base (noted path.now) leaf.node leaf.slot leaf.level p free }
 {
     let first = first_page(nodes, block.nodes, leaf.node);
-    let taken = take_page(pages, block.pages, block.base, first, p);
-    match taken {
-        Taken::Out(link) => {
-            Removed::Done(shorten_leaf(nodes, block.nodes, above, slots, leaf, link, free))
-        },
-        Taken::Missing => Removed::Broken,
-        Taken::Broken => Removed::Broken,
-    }
+    let link = take_page(pages, block.pages, block.base, first, p).ok()?;
+    Some(shorten_leaf(nodes, block.nodes, path, leaf, link, free))
 }
 
-// Page p out of the leaf where its bytes lead. The arrays are for the path to it.
+// Page p out of the leaf where its bytes lead. The array is for the path to it.
 #[tactic(auto, unfolding(crate::specs::Remove::remove_page))]
 pub fn remove_page(
     nodes: &mut [u32],
     pages: &mut [u32],
-    above: &mut [u32; 64],
-    slots: &mut [u32; 64],
+    path: &mut [Passed; 64],
     block: Block,
     root: usize,
     bytes: &[u8],
     p: usize,
     free: u32,
-) -> Removed
+) -> Option<u32>
     requires node_table { NodeTable block.nodes nodes.old }
     requires page_table { PageTable block.pages block.base pages.old }
     requires root_lt_nodes { root < block.nodes }
     requires p_lt_pages { p < block.pages }
-    requires bytes_len_bound { (length bytes.now ≤ 64) × (length above.old ≡ 64) × (length slots.old ≡ 64) }
-    ensures result_after { gone nodes.new pages.new result ≡ remove_page nodes.old pages.old block.nodes block.pages block.base root bytes.now p free }
-    ensures long { (length above.new ≡ 64) × (length slots.new ≡ 64) }
+    requires bytes_len_bound { length bytes.now ≤ 64 }
+    ensures { gone nodes.new pages.new result ≡ remove_page nodes.old pages.old block.nodes block.pages block.base root bytes.now p free }
 {
-    let reach = trace_to(nodes, block.nodes, root, bytes, above, slots);
-    match reach {
-        Reach::Leaf(n, slot, level) => {
-            let leaf = Reached {
-                node: n,
-                slot: slot,
-                level: level,
-            };
-            remove_at(nodes, pages, block, above, slots, leaf, p, free)
-        }
-        Reach::Gap(_, _, _) => Removed::Broken,
-        Reach::Broken => Removed::Broken,
+    match trace_to(nodes, block.nodes, root, bytes, path) {
+        Reach::Leaf(leaf) => remove_at(nodes, pages, block, path, leaf, p, free),
+        Reach::Gap(_) => None,
+        Reach::Broken => None,
     }
 }

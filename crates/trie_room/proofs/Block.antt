@@ -1,4 +1,5 @@
 -- On tables that hold a trie, `nodes_needed` is `needed`.
+use Rattle.std.specs.Prelude.{Some}
 use Prim.Native.Nat.{ℕ, suc, ◌<◌, ◌≤◌}
 use native.Mathlib.Nat.{zero-add}
 use native.Mathlib.Omega.{arith}
@@ -33,7 +34,6 @@ use Rattle.trie.specs.Descend.{descend_to}
 use Rattle.children.proofs.Spots.{spot-none}
 use Rattle.trie.proofs.Way.{Way}
 use Rattle.trie.proofs.Arrival.{Leads, Arrives, arrives}
-use Rattle.leaf_bytes.specs.declared.Needed.TheVariants.{Nodes}
 use Rattle.blocks.specs.RowBytes.{row_bytes, rows_of}
 use Rattle.leaf_bytes.specs.Bytes.{distinct_bytes}
 use Rattle.trie_room.specs.Needs.{leaf_needs, gap_needs, needed_at, nodes_needed}
@@ -44,7 +44,7 @@ module _ (bytes_of : ℕ → List ℕ) (P S τ : List ℕ) (pcap base : ℕ) (r 
   -- a leaf that holds ps
   leaf-right : (k : ℕ) (ps : List ℕ) → Linked P base ps → Below pcap ps → length ps ≤ pcap →
       ((x : ℕ) → any (eqb x) ps ≡ true → byte_at bytes_of k x ≡ page_byte S (level_at r k) x) →
-      cond (ltb k (length Y)) (leaf_needs P S τ pcap base r k (length ps) (first ps) (get_or Y k 0)) (Nodes 0) ≡ Nodes (split_nodes bytes_of (length Y) τ k (p ∷ ps))
+      cond (ltb k (length Y)) (leaf_needs P S τ pcap base r k (length ps) (first ps) (get_or Y k 0)) (Some 0) ≡ Some (split_nodes bytes_of (length Y) τ k (p ∷ ps))
   unfolding leaf_needs split_nodes splits
   leaf-right k ps h b l e = go (ltb k (length Y)) refl (leb (get_or τ k 0) (length ps)) refl
     where
@@ -53,8 +53,8 @@ module _ (bytes_of : ℕ → List ℕ) (P S τ : List ℕ) (pcap base : ℕ) (r 
       long false z = le-ltb (get_or τ k 0) (suc (length ps)) (omega (arith, leb-false (get_or τ k 0) (length ps) z))
 
       go : (i : Bool) → ltb k (length Y) ≡ i → (q : Bool) → leb (get_or τ k 0) (length ps) ≡ q →
-          cond i (cond q (distinct_bytes P S pcap base (level_at r k) (first ps) (get_or Y k 0)) (Nodes 0)) (Nodes 0)
-          ≡ Nodes (cond (i && ltb (get_or τ k 0) (suc (length ps))) (distinct bytes_of k (p ∷ ps)) 0)
+          cond i (cond q (distinct_bytes P S pcap base (level_at r k) (first ps) (get_or Y k 0)) (Some 0)) (Some 0)
+          ≡ Some (cond (i && ltb (get_or τ k 0) (suc (length ps))) (distinct bytes_of k (p ∷ ps)) 0)
       go false y q z = refl
       go true y true z = rw (long true z, ← (bytes k (ltb-true k (length Y) y))) (distinct-right bytes_of P S pcap base k p (level_at r k) ps h b l e)
       go true y false z = rw (long false z) refl
@@ -83,28 +83,28 @@ module _ {cap pcap base : ℕ} (small : cap ≤ most_nodes) (bytes_of : ℕ → 
   module _ {Y : List ℕ} (y : Leads bytes_of p (tree t) Y) (S τ : List ℕ) (r : Rows)
       (reads : (k x : ℕ) → any (eqb x) (pages_in (tree t)) ≡ true → byte_at bytes_of k x ≡ page_byte S (level_at r k) x) where
     -- where a descent has arrived
-    pub at_right : (g : Reach) → Arrives cap pcap base small bytes_of p t g → needed_at P S τ pcap base r Y N cap g ≡ Nodes (needed bytes_of (length Y) τ 0 p (tree t))
-    at_right (Leaf n s k) a =
+    pub at_right : (g : Reach) → Arrives cap pcap base small bytes_of p t g → needed_at P S τ pcap base r Y N cap g ≡ Some (needed bytes_of (length Y) τ 0 p (tree t))
+    at_right (Leaf at) a =
         let ps : List ℕ = a.pages in
         let u = part a.way in
-        let link : first_of (kind_of N cap n) ≡ first ps = ap first_of (held-kind N cap n ps u.heap.holds.0.0 u.sound.1 u.page_table.small) in
-        let many : count_of N cap n ≡ length ps = held-count N cap n ps u.heap.holds.0.0 u.sound.1 u.page_table.small in
-        rw (link, many, needed-at-leaf bytes_of (length Y) τ p k 0 (tree t) a.way.path ps a.way.sub, zero-add k)
-        (leaf-right bytes_of P S τ pcap base r Y p y.bytes k ps (pages-linked N P base ps u.heap.holds.0.1.1) u.sound.1 (leaf-most u)
-        (λ x m. reads k x (inside a.way x m)))
-    at_right (Gap n s k) a =
-        rw (needed-at-gap bytes_of (length Y) τ p k 0 (tree t) a.way.path (children_of a.kids) a.way.sub (rw (zero-add k) (spot-none cap pcap base small a.spot a.none)), zero-add k)
-        (ap Nodes (gap-right bytes_of τ (length Y) p (suc k)))
+        let link : first_of (kind_of N cap at.node) ≡ first ps = ap first_of (held-kind N cap at.node ps u.heap.holds.0.0 u.sound.1 u.page_table.small) in
+        let many : count_of N cap at.node ≡ length ps = held-count N cap at.node ps u.heap.holds.0.0 u.sound.1 u.page_table.small in
+        rw (link, many, needed-at-leaf bytes_of (length Y) τ p at.level 0 (tree t) a.way.path ps a.way.sub, zero-add at.level)
+        (leaf-right bytes_of P S τ pcap base r Y p y.bytes at.level ps (pages-linked N P base ps u.heap.holds.0.1.1) u.sound.1 (leaf-most u)
+        (λ x m. reads at.level x (inside a.way x m)))
+    at_right (Gap at) a =
+        rw (needed-at-gap bytes_of (length Y) τ p at.level 0 (tree t) a.way.path (children_of a.kids) a.way.sub (rw (zero-add at.level) (spot-none cap pcap base small a.spot a.none)), zero-add at.level)
+        (ap Some (gap-right bytes_of τ (length Y) p (suc at.level)))
     at_right Broken a = absurd a
 
-    pub needed-right : nodes_needed P S τ pcap base r Y N cap (root t) ≡ Nodes (needed bytes_of (length Y) τ 0 p (tree t))
+    pub needed-right : nodes_needed P S τ pcap base r Y N cap (root t) ≡ Some (needed bytes_of (length Y) τ 0 p (tree t))
     unfolding nodes_needed
     needed-right = at_right (descend_to N cap (root t) Y) (arrives cap pcap base small bytes_of p st y)
 
 module _ {cap pcap base : ℕ} {N P : List ℕ} {free : ℕ} {t : Phys} {fs : List ℕ} {G : Cells} (st : State cap pcap base N P free t fs G) where
   -- the law of `nodes_needed` in block j: the trie's pages have the bytes of their rows there
   pub needed-block : (bytes_of : ℕ → List ℕ) (p : ℕ) {Y : List ℕ} → Leads bytes_of p (tree t) Y → (S τ : List ℕ) (s : Settings) (j : ℕ) → j < s.blocks →
-      Agree bytes_of (row_bytes s j S) (pages_in (tree t)) → nodes_needed P S τ pcap base (rows_of s j) Y N cap (root t) ≡ Nodes (needed bytes_of (length Y) τ 0 p (tree t))
+      Agree bytes_of (row_bytes s j S) (pages_in (tree t)) → nodes_needed P S τ pcap base (rows_of s j) Y N cap (root t) ≡ Some (needed bytes_of (length Y) τ 0 p (tree t))
   unfolding byte_at
   needed-block bytes_of p y S τ s j h e =
       needed-right st.node_table.small bytes_of p st y S τ (rows_of s j) (λ k x m. ap (λ (ys : List ℕ). get_or ys k 0) (e x m) ∙ level-byte s j h S k x)

@@ -1,4 +1,5 @@
 -- On tables that hold a leaf's pages, `distinct_bytes` counts the children that the leaf gets.
+use Rattle.std.specs.Prelude.{Some}
 use Prim.Native.Nat.{ℕ, ◌+◌, ◌-◌, ◌≤◌}
 use native.Mathlib.Omega.{arith}
 use mathlib.Core.Path.{◌≡◌, refl, ap, ◌∙◌}
@@ -15,7 +16,6 @@ use Rattle.children.specs.Phys.{first, Below}
 use Rattle.trie.proofs.Spans.{Linked}
 use Rattle.trie_laws.specs.Needed.{distinct}
 use Rattle.meaning.proofs.Lists.{or-first, or-second}
-use Rattle.leaf_bytes.specs.declared.Needed.TheVariants.{Nodes}
 use Rattle.leaf_bytes.specs.Chains.{whole, ahead, chain_from}
 use Rattle.leaf_bytes.specs.Bytes.{distinct_bytes}
 use Rattle.leaf_bytes.proofs.Count.{chain-none, chain_next}
@@ -37,7 +37,7 @@ map-agree f g (p ∷ ps) h =
 
 pub distinct-right : (bytes_of : ℕ → List ℕ) (P S : List ℕ) (pcap base k p : ℕ) (v : Level) (ps : List ℕ) → Linked P base ps → Below pcap ps → length ps ≤ pcap →
     ((x : ℕ) → any (eqb x) ps ≡ true → byte_at bytes_of k x ≡ page_byte S v x) →
-    distinct_bytes P S pcap base v (first ps) (byte_at bytes_of k p) ≡ Nodes (distinct bytes_of k (p ∷ ps))
+    distinct_bytes P S pcap base v (first ps) (byte_at bytes_of k p) ≡ Some (distinct bytes_of k (p ∷ ps))
 unfolding distinct_bytes distinct
 distinct-right bytes_of P S pcap base k p v ps h b l e =
     rw (chain-whole P base pcap ps pcap h b l, map-agree (byte_at bytes_of k) (page_byte S v) ps e)

@@ -1,4 +1,5 @@
 -- On any tables, an answer is small.
+use Rattle.std.specs.Prelude.{Some}
 use Prim.Native.Nat.{ℕ, suc, ◌+◌, ◌≤◌}
 use mathlib.Core.Bool.{Bool, true, false, cond, ◌&&◌}
 use mathlib.Core.List.{List}
@@ -12,7 +13,6 @@ use Rattle.trie.specs.declared.path.Reach.{Reach}
 use Rattle.trie.specs.declared.path.Reach.TheVariants.{Leaf, Gap}
 use Rattle.trie.specs.declared.path.Reach.TheVariants as reach
 use Rattle.trie.specs.Descend.{descend_to}
-use Rattle.leaf_bytes.specs.declared.Needed.TheVariants.{Nodes}
 use Rattle.leaf_bytes.specs.Bytes.{count_in, distinct_bytes}
 use Rattle.leaf_bytes.proofs.Few.{distinct-few}
 use Rattle.trie_room.specs.Needs.{gap_needs, leaf_needs, needed_at, nodes_needed}
@@ -22,7 +22,7 @@ module _ (P S τ : List ℕ) (pcap base : ℕ) (r : Rows) where
   unfolding leaf_needs
   leaf-few k count link byte = go (leb (get_or τ k 0) count)
     where
-      go : (q : Bool) → count_in (cond q (distinct_bytes P S pcap base (level_at r k) link byte) (Nodes 0)) ≤ pcap + 1
+      go : (q : Bool) → count_in (cond q (distinct_bytes P S pcap base (level_at r k) link byte) (Some 0)) ≤ pcap + 1
       go true = distinct-few P S pcap base (level_at r k) link byte
       go false = omega arith
 
@@ -35,12 +35,12 @@ module _ (P S τ : List ℕ) (pcap base : ℕ) (r : Rows) where
       go false = omega arith
 
   pub at-few : (Y N : List ℕ) (cap : ℕ) (g : Reach) → count_in (needed_at P S τ pcap base r Y N cap g) ≤ pcap + 2
-  at-few Y N cap (Leaf n s k) = go (ltb k (length Y))
+  at-few Y N cap (Leaf at) = go (ltb at.level (length Y))
     where
-      go : (q : Bool) → count_in (cond q (leaf_needs P S τ pcap base r k (count_of N cap n) (first_of (kind_of N cap n)) (get_or Y k 0)) (Nodes 0)) ≤ pcap + 2
-      go true = omega (arith, leaf-few k (count_of N cap n) (first_of (kind_of N cap n)) (get_or Y k 0))
+      go : (q : Bool) → count_in (cond q (leaf_needs P S τ pcap base r at.level (count_of N cap at.node) (first_of (kind_of N cap at.node)) (get_or Y at.level 0)) (Some 0)) ≤ pcap + 2
+      go true = omega (arith, leaf-few at.level (count_of N cap at.node) (first_of (kind_of N cap at.node)) (get_or Y at.level 0))
       go false = omega arith
-  at-few Y N cap (Gap n s k) = omega (arith, gap-few (length Y) (suc k))
+  at-few Y N cap (Gap at) = omega (arith, gap-few (length Y) (suc at.level))
   at-few Y N cap reach.Broken = omega arith
 
   pub needed-few : (Y N : List ℕ) (cap root : ℕ) → count_in (nodes_needed P S τ pcap base r Y N cap root) ≤ pcap + 2

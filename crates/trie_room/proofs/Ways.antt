@@ -1,4 +1,5 @@
 -- The models without a loop, by each way through the code.
+use Rattle.std.specs.Prelude.{Option, Some, None}
 use Prim.Native.Nat.{ℕ, ◌+◌, ◌<◌, ◌≤◌}
 use mathlib.Core.Path.{◌≡◌, refl, ap, ◌∙◌}
 use mathlib.Core.List.{List}
@@ -9,11 +10,10 @@ use Rattle.layout.specs.States.{kind_of, first_of, count_of}
 use Rattle.blocks.specs.declared.Level.{Level}
 use Rattle.blocks.specs.declared.Rows.{Rows}
 use Rattle.blocks.specs.Packed.{level_at}
+use Rattle.trie.specs.declared.path.Reached.{Reached}
 use Rattle.trie.specs.declared.path.Reach.{Reach}
 use Rattle.trie.specs.declared.path.Reach.TheVariants.{Leaf, Gap}
 use Rattle.trie.specs.declared.path.Reach.TheVariants as reach
-use Rattle.leaf_bytes.specs.declared.Needed.{Needed}
-use Rattle.leaf_bytes.specs.declared.Needed.TheVariants.{Nodes, Broken}
 use Rattle.leaf_bytes.specs.Bytes.{distinct_bytes}
 use Rattle.trie_room.specs.Needs.{gap_needs, leaf_needs, needed_at}
 
@@ -34,27 +34,27 @@ module _ (τ : List ℕ) (len k : ℕ) where
 
 -- `leaf_needs`
 module _ (P S τ : List ℕ) (pcap base : ℕ) (r : Rows) (k count link byte : ℕ) where
-  pub leaf-splits : get_or τ k 0 ≤ count → (v : Level) → v ≡ level_at r k → (x : Needed) → x ≡ distinct_bytes P S pcap base v link byte →
+  pub leaf-splits : get_or τ k 0 ≤ count → (v : Level) → v ≡ level_at r k → (x : Option ℕ) → x ≡ distinct_bytes P S pcap base v link byte →
       x ≡ leaf_needs P S τ pcap base r k count link byte
   unfolding leaf_needs
   leaf-splits l v w x u = rw (le-leb (get_or τ k 0) count l, ← w) u
 
-  pub leaf-stays : count < get_or τ k 0 → Nodes 0 ≡ leaf_needs P S τ pcap base r k count link byte
+  pub leaf-stays : count < get_or τ k 0 → Some 0 ≡ leaf_needs P S τ pcap base r k count link byte
   unfolding leaf_needs
   leaf-stays l = rw (lt-leb (get_or τ k 0) count l) refl
 
 -- `needed_at`
 module _ (P S τ : List ℕ) (pcap base : ℕ) (r : Rows) (Y N : List ℕ) (cap : ℕ) (g : Reach) where
-  module _ (n s k : ℕ) (q : g ≡ Leaf n s k) where
-    pub at-end : length Y ≤ k → Nodes 0 ≡ needed_at P S τ pcap base r Y N cap g
-    at-end l = rw (q, le-ltb k (length Y) l) refl
+  module _ (at : Reached) (q : g ≡ Leaf at) where
+    pub at-end : length Y ≤ at.level → Some 0 ≡ needed_at P S τ pcap base r Y N cap g
+    at-end l = rw (q, le-ltb at.level (length Y) l) refl
 
-    pub at_leaf : k < length Y → (count : ℕ) → count ≡ count_of N cap n → (first : ℕ) → first ≡ first_of (kind_of N cap n) → (x : Needed) →
-        x ≡ leaf_needs P S τ pcap base r k count first (get_or Y k 0) → x ≡ needed_at P S τ pcap base r Y N cap g
-    at_leaf l count c first f x e = rw (q, lt-ltb k (length Y) l, ← c, ← f) e
+    pub at_leaf : at.level < length Y → (count : ℕ) → count ≡ count_of N cap at.node → (first : ℕ) → first ≡ first_of (kind_of N cap at.node) → (x : Option ℕ) →
+        x ≡ leaf_needs P S τ pcap base r at.level count first (get_or Y at.level 0) → x ≡ needed_at P S τ pcap base r Y N cap g
+    at_leaf l count c first f x e = rw (q, lt-ltb at.level (length Y) l, ← c, ← f) e
 
-  pub at_gap : (n s k : ℕ) → g ≡ Gap n s k → (x : ℕ) → x ≡ gap_needs τ (length Y) (k + 1) → Nodes x ≡ needed_at P S τ pcap base r Y N cap g
-  at_gap n s k q x e = rw q (ap Nodes (e ∙ ap (gap_needs τ (length Y)) (add-one k)))
+  pub at_gap : (at : Reached) → g ≡ Gap at → (x : ℕ) → x ≡ gap_needs τ (length Y) (at.level + 1) → Some x ≡ needed_at P S τ pcap base r Y N cap g
+  at_gap at q x e = rw q (ap Some (e ∙ ap (gap_needs τ (length Y)) (add-one at.level)))
 
-  pub at_none : g ≡ reach.Broken → Broken ≡ needed_at P S τ pcap base r Y N cap g
+  pub at_none : g ≡ reach.Broken → None ≡ needed_at P S τ pcap base r Y N cap g
   at_none q = rw q refl

@@ -8,7 +8,7 @@ ghost use Rattle.trie_room.specs.Needs.{leaf_needs, gap_needs, needed_at, nodes_
 use blocks::Rows;
 use layout::Block;
 use layout::nodes::{first_page, page_count};
-use leaf_bytes::{Needed, distinct_bytes};
+use leaf_bytes::distinct_bytes;
 use trie::path::{Reach, descend_to};
 
 // A leaf at level k with so many pages, the first at a link, that takes a page with this byte there: it splits where they are as many as
@@ -23,7 +23,7 @@ fn leaf_needs(
     count: u32,
     first: u32,
     byte: u32,
-) -> Needed
+) -> Option<usize>
     requires page_table { PageTable block.pages block.base pages.now }
     requires row_table { RowTable block.pages rows sketches.now }
     requires bytes_in_bounds { rows.bytes ≤ length thresholds.now }
@@ -32,7 +32,7 @@ fn leaf_needs(
     ensures { result ≡ leaf_needs pages.now sketches.now thresholds.now block.pages block.base rows k count first byte }
 {
     if thresholds[k] > count {
-        return Needed::Nodes(0);
+        return Some(0);
     }
     let level = rows.level_at(k);
     distinct_bytes(pages, sketches, block, level, first, byte)
@@ -63,7 +63,7 @@ pub fn needed_at(
     rows: Rows,
     bytes: &[u8],
     reach: Reach,
-) -> Needed
+) -> Option<usize>
     requires node_table { NodeTable block.nodes nodes.now }
     requires page_table { PageTable block.pages block.base pages.now }
     requires row_table { RowTable block.pages rows sketches.now }
@@ -73,26 +73,19 @@ pub fn needed_at(
     ensures { result ≡ needed_at pages.now sketches.now thresholds.now block.pages block.base rows bytes.now nodes.now block.nodes reach }
 {
     match reach {
-        Reach::Leaf(n, _, k) => {
-            if k >= bytes.len() {
-                return Needed::Nodes(0);
+        Reach::Leaf(at) => {
+            if at.level >= bytes.len() {
+                return Some(0);
             }
-            let count = page_count(nodes, block.nodes, n);
-            let first = first_page(nodes, block.nodes, n);
+            let count = page_count(nodes, block.nodes, at.node);
+            let first = first_page(nodes, block.nodes, at.node);
+            let byte = bytes[at.level] as u32;
             leaf_needs(
-                pages,
-                sketches,
-                thresholds,
-                block,
-                rows,
-                k,
-                count,
-                first,
-                bytes[k] as u32,
+                pages, sketches, thresholds, block, rows, at.level, count, first, byte,
             )
         }
-        Reach::Gap(_, _, k) => Needed::Nodes(gap_needs(thresholds, bytes.len(), k + 1)),
-        Reach::Broken => Needed::Broken,
+        Reach::Gap(at) => Some(gap_needs(thresholds, bytes.len(), at.level + 1)),
+        Reach::Broken => None,
     }
 }
 
@@ -106,7 +99,7 @@ pub fn nodes_needed(
     rows: Rows,
     bytes: &[u8],
     root: usize,
-) -> Needed
+) -> Option<usize>
     requires node_table { NodeTable block.nodes nodes.now }
     requires page_table { PageTable block.pages block.base pages.now }
     requires row_table { RowTable block.pages rows sketches.now }

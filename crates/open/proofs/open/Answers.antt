@@ -1,94 +1,60 @@
 -- `open` keeps its promise.
-use Prim.Native.Nat.{ℕ, ◌<◌}
-use mathlib.Core.Path.{◌≡◌}
+use mathlib.Core.Path.{◌≡◌, sym, ap, ◌∙◌}
 use mathlib.Core.Bool.{true}
-use lib.ListN.{length, get_or}
-use Rattle.layout.specs.declared.Header.{Header}
+use lib.ListN.{length}
 use Rattle.layout.proofs.Limits.{limits_on, header-limits}
 use Rattle.promises.specs.Tables.{Tables, tables}
-use Rattle.entry.proofs.Questions.{fails, holds}
 use Rattle.open.proofs.Opens.{all_long, all-long, count-given, open-4, open-5, open_done}
-use mathlib.Core.Path.{ap}
-use mathlib.Core.Bool.{not}
 use Rattle.open.proofs.open.Goals as goal
-use Rattle.open.proofs.open.Goals.{After-shared_slice_known-3-1, Else-not-limits, Else-not-long_enough, Start}
-
-abbrev header : Start → Header
-header s =
-    record {
-      b = s.args.b;
-      m = s.args.m;
-      q = s.args.q;
-      pages = s.args.page_capacity;
-      nodes = s.args.node_capacity;
-    }
-
-abbrev lent : Start → Tables
-lent s = tables s.args.settings.now s.args.nodes.now s.args.pages.now s.args.sketches.now s.args.working.now
-
--- thresholds of 16 bits
-short : (c : After-shared_slice_known-3-1) (k : ℕ) → get_or c.args.thresholds.now k 0 < 65536
-short c k = (c.shared_slice_known-3-1.given k).fits
+use Rattle.open.proofs.open.Goals.{Else-not-limits, Else-not-long_enough}
 
 -- past 4
-within : (c : Else-not-limits) → limits_on (header (goal.at.long_enough-requires c).Start) (length c.args.thresholds.now) ≡ true
-within c = holds c.limits.ensures (ap not c.if-not-limits.false)
+within : (c : Else-not-limits) → limits_on c.args.h (length c.args.thresholds.now) ≡ true
+within c = sym c.limits.ensures ∙ c.if-not-limits.false
 
 -- past 5
-long : (c : Else-not-long_enough) →
-    let lent : Tables =
-    tables c.args.settings.now c.args.nodes.now c.args.pages.now c.args.sketches.now c.args.working.now in
-    let header : Header =
-    record {
-      b = c.args.b;
-      m = c.args.m;
-      q = c.args.q;
-      pages = c.args.page_capacity;
-      nodes = c.args.node_capacity;
-    } in
-    all_long header lent ≡ true
+long : (c : Else-not-long_enough) → let a = c.args in
+    all_long a.h (tables a.index.now.settings.now a.index.now.nodes.now a.index.now.pages.now a.sketches.now a.working.now) ≡ true
 long c =
-    let lent : Tables =
-    tables c.args.settings.now c.args.nodes.now c.args.pages.now c.args.sketches.now c.args.working.now in
-    let header : Header =
-    record {
-      b = c.args.b;
-      m = c.args.m;
-      q = c.args.q;
-      pages = c.args.page_capacity;
-      nodes = c.args.node_capacity;
-    } in holds c.long_enough.ensures (ap not c.if-not-long_enough.false)
+    let a = c.args in
+    ap (λ (T : Tables). all_long a.h (tables T.settings T.nodes T.pages T.sketches a.working.now)) (sym c.view.ensures)
+    ∙ sym c.long_enough.ensures
+    ∙ c.if-not-long_enough.false
 
-pub returns-then-not-limits : goal.returns-then-not-limits
-returns-then-not-limits c =
-    open-4 _ _ _ _ _ _ (short (goal.at.returns-then-not-limits c).After-shared_slice_known-3-1) _ (fails c.limits.ensures (ap not c.if-not-limits.true))
+pub returns-then-not-limits-clause-open_promise : goal.returns-then-not-limits-clause-open_promise
+returns-then-not-limits-clause-open_promise c =
+    open-4 _ _ (λ k. (c.type_inv.thresholds k).fits) _ (sym c.limits.ensures ∙ c.if-not-limits.true)
 
 pub long_enough-requires : goal.long_enough-requires
-long_enough-requires c = header-limits _ _ (within c)
+long_enough-requires c = header-limits _ _ (within (goal.at.long_enough-requires c).Else-not-limits)
 
-pub returns-then-not-long_enough : goal.returns-then-not-long_enough
-returns-then-not-long_enough c =
-    open-5 _ _ _ _ _ _ (short (goal.at.returns-then-not-long_enough c).After-shared_slice_known-3-1) _ (within (goal.at.returns-then-not-long_enough c).Else-not-limits) (fails c.long_enough.ensures (ap not c.if-not-long_enough.true))
-
-pub returns : goal.returns
-returns c =
-    let l = c in
-    open_done _ _ _ _ _ _ (short (goal.at.returns l).After-shared_slice_known-3-1) _ (within (goal.at.returns l).Else-not-limits) (long (goal.at.returns l).Else-not-long_enough) _ _ _
-    l.lay_out.ensures.settings_after
-    l.lay_out.ensures.nodes_after
-    l.lay_out.ensures.pages_after
+pub returns-then-not-long_enough-clause-open_promise : goal.returns-then-not-long_enough-clause-open_promise
+returns-then-not-long_enough-clause-open_promise c =
+    let at = goal.at.returns-then-not-long_enough-clause-open_promise c in
+    open-5 _ _ (λ k. (c.type_inv.thresholds k).fits) _ (within at.Else-not-limits)
+    (ap (λ (T : Tables). all_long c.args.h (tables T.settings T.nodes T.pages T.sketches c.args.working.now)) (sym c.view.ensures)
+    ∙ sym c.long_enough.ensures
+    ∙ c.if-not-long_enough.true)
 
 pub lay_out-requires-clause-header_limits : goal.lay_out-requires-clause-header_limits
-lay_out-requires-clause-header_limits c = let t = within (goal.at.lay_out-requires-clause-header_limits c).Else-not-limits in let l = all-long _ _ (long (goal.at.lay_out-requires-clause-header_limits c).Else-not-long_enough) in header-limits _ _ t
+lay_out-requires-clause-header_limits c = header-limits _ _ (within (goal.at.lay_out-requires-clause-header_limits c).Else-not-limits)
 
 pub lay_out-requires-clause-thresholds_len : goal.lay_out-requires-clause-thresholds_len
-lay_out-requires-clause-thresholds_len c = let t = within (goal.at.lay_out-requires-clause-thresholds_len c).Else-not-limits in let l = all-long _ _ (long (goal.at.lay_out-requires-clause-thresholds_len c).Else-not-long_enough) in count-given _ _ t
+lay_out-requires-clause-thresholds_len c = count-given _ _ (within (goal.at.lay_out-requires-clause-thresholds_len c).Else-not-limits)
 
 pub lay_out-requires-clause-settings_length_in_bounds : goal.lay_out-requires-clause-settings_length_in_bounds
-lay_out-requires-clause-settings_length_in_bounds c = let t = within (goal.at.lay_out-requires-clause-settings_length_in_bounds c).Else-not-limits in let l = all-long _ _ (long (goal.at.lay_out-requires-clause-settings_length_in_bounds c).Else-not-long_enough) in l.0
+lay_out-requires-clause-settings_length_in_bounds c = (all-long _ _ (long (goal.at.lay_out-requires-clause-settings_length_in_bounds c).Else-not-long_enough)).0
 
 pub lay_out-requires-clause-h_in_bounds : goal.lay_out-requires-clause-h_in_bounds
-lay_out-requires-clause-h_in_bounds c = let t = within (goal.at.lay_out-requires-clause-h_in_bounds c).Else-not-limits in let l = all-long _ _ (long (goal.at.lay_out-requires-clause-h_in_bounds c).Else-not-long_enough) in l.1
+lay_out-requires-clause-h_in_bounds c = (all-long _ _ (long (goal.at.lay_out-requires-clause-h_in_bounds c).Else-not-long_enough)).1
 
 pub lay_out-requires-clause-h_in_bounds_2 : goal.lay_out-requires-clause-h_in_bounds_2
-lay_out-requires-clause-h_in_bounds_2 c = let t = within (goal.at.lay_out-requires-clause-h_in_bounds_2 c).Else-not-limits in let l = all-long _ _ (long (goal.at.lay_out-requires-clause-h_in_bounds_2 c).Else-not-long_enough) in l.2
+lay_out-requires-clause-h_in_bounds_2 c = (all-long _ _ (long (goal.at.lay_out-requires-clause-h_in_bounds_2 c).Else-not-long_enough)).2
+
+pub returns-clause-open_promise : goal.returns-clause-open_promise
+returns-clause-open_promise c =
+    let at = goal.at.returns-clause-open_promise c in
+    open_done _ _ (λ k. (c.type_inv.thresholds k).fits) _ (within at.Else-not-limits) (long at.Else-not-long_enough) _ _ _
+    c.lay_out.ensures.settings_after
+    c.lay_out.ensures.nodes_after
+    c.lay_out.ensures.pages_after

@@ -9,8 +9,5 @@ use Rattle.trie_remove.proofs.prune_up.Given as goal
 
 abbrev pub invariant-loop-level : goal.invariant-loop-level
 invariant-loop-level l =
-    (prune_up l.nodes l.cap (noted l.above l.slots) l.level l.n l.slot l.link ≡ prune_up l.initial.nodes l.cap (noted l.above l.slots) l.initial.level l.initial.n l.initial.slot l.free)
-    × (l.n < l.cap) × (l.slot < node_words l.cap) × (l.level ≤ 64) × InTable l.cap (noted l.above l.slots) l.level × (length l.nodes ≡ length l.initial.nodes)
-
-abbrev pub decreases-loop-level : goal.decreases-loop-level
-decreases-loop-level l = l.level
+    (prune_up l.nodes l.cap (noted l.path) l.level l.n l.slot l.link ≡ prune_up l.initial.nodes l.cap (noted l.path) l.fn.leaf.level l.fn.leaf.node l.fn.leaf.slot l.free)
+    × (l.n < l.cap) × (l.slot < node_words l.cap) × (l.level ≤ 64) × InTable l.cap (noted l.path) l.level × (length l.nodes ≡ length l.initial.nodes)

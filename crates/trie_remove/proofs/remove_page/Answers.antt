@@ -5,7 +5,7 @@ use Rattle.trie_remove.proofs.Steps.{remove-leaf}
 use Rattle.trie_remove.proofs.remove_page.Goals as goal
 
 pub remove_at-requires-clause-in_table : goal.remove_at-requires-clause-in_table
-remove_at-requires-clause-in_table c = let trace = c.trace_to-reach in let reach = c.in-Leaf in noted-within _ _ _ _ (omega arith) (λ k. omega (arith, c.type_inv.bytes k)) _ _ _ _ reach.is _ trace.ensures.path
+remove_at-requires-clause-in_table c = noted-within _ _ _ _ (omega arith) (λ k. omega (arith, c.type_inv.bytes k)) _ _ c.in-Leaf.is _ c.trace_to.ensures.path
 
-pub returns-in-Leaf-clause-result_after : goal.returns-in-Leaf-clause-result_after
-returns-in-Leaf-clause-result_after c = search remove-leaf
+pub returns-in-Leaf : goal.returns-in-Leaf
+returns-in-Leaf c = search remove-leaf

@@ -1,27 +1,17 @@
--- `visit` is the model of its name, by what the step in the node finds.
-use mathlib.Core.Path.{sym, ◌∙◌}
+-- The child that `visit` tests is a node of the table, and its byte a byte.
+use mathlib.Core.Path.{sym, ap, ◌∙◌}
 use native.Mathlib.Omega.{arith}
+use Prim.Native.Nat.{◌<◌}
+use Rattle.std.specs.Prelude.{Some}
 use Rattle.node_check.proofs.Steps.{child-within}
-use Rattle.trie_visit.proofs.Visits.{visit-chain, visit-spent, visit-child, visit-up, visit-broken}
 use Rattle.trie_visit.proofs.visit.Goals as goal
+use Rattle.trie_visit.proofs.visit.Goals.{In-Child}
 
-pub returns-then-place-eq0 : goal.returns-then-place-eq0
-returns-then-place-eq0 c = visit-spent _ _ _ _ _ _ _ _ c.next_step.ensures _ _ _ c.in-Child.is c.if-place-eq0.true
+inside : (c : In-Child) → (c.in-Child.node < c.args.scope.block.nodes) × (c.in-Child.byte < 256)
+inside c = child-within _ _ _ _ _ _ c.requires.node_lt_nodes.1 _ _ _ (sym c.next_step.ensures ∙ c.in_ok-step.was ∙ ap Some c.in-Child.is)
 
 pub overflow_cast-path : goal.overflow_cast-path
-overflow_cast-path c = let inside = child-within _ _ _ _ _ _ c.requires.node_lt_nodes.1 _ _ _ (sym c.next_step.ensures ∙ c.in-Child.is) in record { fits = omega (arith, inside.1) }
-
-pub returns-in-Chain : goal.returns-in-Chain
-returns-in-Chain c = visit-chain _ _ _ _ _ _ _ _ c.next_step.ensures _ c.in-Chain.is
-
-pub returns-in-Up : goal.returns-in-Up
-returns-in-Up c = visit-up _ _ _ _ _ _ _ _ c.next_step.ensures c.in-Up.is
-
-pub returns-in-Broken : goal.returns-in-Broken
-returns-in-Broken c = visit-broken _ _ _ _ _ _ _ _ c.next_step.ensures c.in-Broken.is
-
-pub returns-else-place-eq0 : goal.returns-else-place-eq0
-returns-else-place-eq0 c = visit-child _ _ _ _ _ _ _ _ c.next_step.ensures _ _ _ _ _ c.in-Child.is c.if-place-eq0.false c.visit_child.ensures
+overflow_cast-path c = record { fits = omega (arith, (inside (goal.at.overflow_cast-path c).In-Child).1) }
 
 pub visit_child-requires-clause-node_lt_nodes : goal.visit_child-requires-clause-node_lt_nodes
-visit_child-requires-clause-node_lt_nodes c = let inside = child-within _ _ _ _ _ _ c.requires.node_lt_nodes.1 _ _ _ (sym c.next_step.ensures ∙ c.in-Child.is) in (inside.0, c.requires.node_lt_nodes.2)
+visit_child-requires-clause-node_lt_nodes c = ((inside (goal.at.visit_child-requires-clause-node_lt_nodes c).In-Child).0, c.requires.node_lt_nodes.2)

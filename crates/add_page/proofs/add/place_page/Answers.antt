@@ -33,11 +33,11 @@ returns-in-Short c =
     let t = r in
     place_short (lent (goal.at.returns-in-Short t).Start) _ (passed (goal.at.returns-in-Short t).Start).header _ _ _ _ t.thresholds-thresholds.ensures _ t.free_link-free.ensures _ r.room-span.ensures c.in-Short.is
 
-pub returns-in-Broken : goal.returns-in-Broken
-returns-in-Broken c =
+pub returns-in-None : goal.returns-in-None
+returns-in-None c =
     let r = c in
     let t = r in
-    place-broken (lent (goal.at.returns-in-Broken t).Start) _ (passed (goal.at.returns-in-Broken t).Start).header _ _ _ _ t.thresholds-thresholds.ensures _ t.free_link-free.ensures _ r.room-span.ensures c.in-Broken.is
+    place-broken (lent (goal.at.returns-in-None t).Start) _ (passed (goal.at.returns-in-None t).Start).header _ _ _ _ t.thresholds-thresholds.ensures _ t.free_link-free.ensures _ r.room-span.ensures c.in-None.is
 
 pub room-span-requires-clause-lent : goal.room-span-requires-clause-lent
 room-span-requires-clause-lent c = let ok = passed (goal.at.room-span-requires-clause-lent c).Start in ok.lent

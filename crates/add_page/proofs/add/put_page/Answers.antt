@@ -30,22 +30,22 @@ set_free_link-requires c = (passed (goal.at.set_free_link-requires c).Start).lon
 pub overflow_cast-h : goal.overflow_cast-h
 overflow_cast-h c = omega (arith, (passed (goal.at.overflow_cast-h c).Start).lent.limits)
 
-pub returns-in-Free : goal.returns-in-Free
-returns-in-Free c =
+pub returns-in-Some : goal.returns-in-Some
+returns-in-Some c =
     let told = c in
     let i = told in
     let t = i in
-    put-free (lent (goal.at.returns-in-Free i).Start) _ (passed (goal.at.returns-in-Free i).Start).header _ _ _ _ t.thresholds-thresholds.ensures _ t.free_link-free.ensures
-    _ i.write_row.ensures _ _ _ i.insert_all-inserted.ensures _ told.in-Free.is
+    put-free (lent (goal.at.returns-in-Some i).Start) _ (passed (goal.at.returns-in-Some i).Start).header _ _ _ _ t.thresholds-thresholds.ensures _ t.free_link-free.ensures
+    _ i.write_row.ensures _ _ _ i.insert_all-inserted.ensures _ told.in-Some.is
     _ c.set_free_link.ensures
-    (passed (goal.at.returns-in-Free i).Start).fits.range _ c.signature_of-signature.ensures _ c.write_page.ensures
+    (passed (goal.at.returns-in-Some i).Start).fits.range _ c.signature_of-signature.ensures _ c.write_page.ensures
 
-pub returns-in-Broken : goal.returns-in-Broken
-returns-in-Broken c =
+pub returns-in-None : goal.returns-in-None
+returns-in-None c =
     let i = c in
     let t = i in
-    put-broken (lent (goal.at.returns-in-Broken i).Start) _ (passed (goal.at.returns-in-Broken i).Start).header _ _ _ _ t.thresholds-thresholds.ensures _ t.free_link-free.ensures
-    _ i.write_row.ensures _ _ _ i.insert_all-inserted.ensures c.in-Broken.is
+    put-broken (lent (goal.at.returns-in-None i).Start) _ (passed (goal.at.returns-in-None i).Start).header _ _ _ _ t.thresholds-thresholds.ensures _ t.free_link-free.ensures
+    _ i.write_row.ensures _ _ _ i.insert_all-inserted.ensures c.in-None.is
 
 pub write_row-requires-clause-m_in_bounds : goal.write_row-requires-clause-m_in_bounds
 write_row-requires-clause-m_in_bounds c = row_fits _ _ _ _ (passed (goal.at.write_row-requires-clause-m_in_bounds c).Start)

@@ -13,8 +13,8 @@ loop-j-preserved c = (search insert-more, omega arith, omega arith, omega arith)
 pub returns-in-Full : goal.returns-in-Full
 returns-in-Full c = search insert-full
 
-pub returns-in-Broken : goal.returns-in-Broken
-returns-in-Broken c = search insert-failed
+pub returns-in-None : goal.returns-in-None
+returns-in-None c = search insert-failed
 
 pub returns : goal.returns
 returns c = insert-done _ _ _ _ _ _ _ _ _ c.loop-j.invariant.0 c.loop-j-test.false

@@ -15,7 +15,7 @@ is_live-requires c =
     omega (arith, page-inside (bare entry.args.h) c.loop-p-test.true)
 
 pub loop-p-preserved : goal.loop-p-preserved
-loop-p-preserved c = (search count-more, omega arith, omega (arith, flag-most c.is_live.result))
+loop-p-preserved c = (search count-more, omega (arith, flag-most c.is_live.result))
 
 pub returns : goal.returns
 returns c = search count-done

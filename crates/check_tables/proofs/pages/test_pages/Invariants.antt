@@ -8,7 +8,4 @@ use Rattle.check_tables.proofs.pages.test_pages.Given as goal
 abbrev pub invariant-loop-p : goal.invariant-loop-p
 invariant-loop-p l =
     (count_from (page_fits (bare l.h) l.pages l.sketches) (is_live l.pages) (l.h.pages - l.p) l.p l.live ≡ test_pages (bare l.h) l.pages l.sketches)
-    × (l.p ≤ l.h.pages) × (l.live ≤ l.p)
-
-abbrev pub decreases-loop-p : goal.decreases-loop-p
-decreases-loop-p l = l.h.pages - l.p
+    × (l.live ≤ l.p)

@@ -1,4 +1,4 @@
-use Prim.Native.Nat.{◌-◌, ◌≤◌}
+use Prim.Native.Nat.{◌-◌}
 use mathlib.Core.Path.{◌≡◌}
 use lib.ListN.{length}
 use Rattle.layout.specs.Header.{bare}
@@ -9,7 +9,4 @@ abbrev pub invariant-loop-j : goal.invariant-loop-j
 invariant-loop-j l =
     (blocks_from (block_given (bare l.h) l.nodes l.pages l.sketches l.window) l.live (l.h.q - l.j) l.j l.map l.left
     ≡ blocks_from (block_given (bare l.h) l.nodes l.pages l.sketches l.window) l.live l.h.q 0 l.initial.map l.budget)
-    × (l.j ≤ l.h.q) × (length l.map ≡ length l.initial.map)
-
-abbrev pub decreases-loop-j : goal.decreases-loop-j
-decreases-loop-j l = l.h.q - l.j
+    × (length l.map ≡ length l.initial.map)

@@ -1,4 +1,4 @@
-use Prim.Native.Nat.{◌-◌, ◌≤◌}
+use Prim.Native.Nat.{◌-◌}
 use mathlib.Core.Path.{◌≡◌}
 use lib.ListN.{length}
 use Rattle.layout.specs.Header.{bare}
@@ -8,7 +8,4 @@ use Rattle.check_tries.proofs.windows.test_windows.Given as goal
 abbrev pub invariant-loop-k : goal.invariant-loop-k
 invariant-loop-k l =
     (windows_from (bare l.h) l.nodes l.pages l.sketches (length l.initial.map) l.left l.live (8 - l.k) l.k l.map ≡ test_windows (bare l.h) l.nodes l.pages l.sketches (length l.initial.map) l.left l.live l.initial.map)
-    × (l.k ≤ 8) × (length l.map ≡ length l.initial.map)
-
-abbrev pub decreases-loop-k : goal.decreases-loop-k
-decreases-loop-k l = 8 - l.k
+    × (length l.map ≡ length l.initial.map)

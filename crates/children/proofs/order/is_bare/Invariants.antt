@@ -1,12 +1,9 @@
 use mathlib.Core.Path.{◌≡◌}
-use Prim.Native.Nat.{◌-◌, ◌≤◌}
+use Prim.Native.Nat.{◌-◌}
 use Rattle.meaning.specs.Lists.{all, from}
 use Rattle.children.specs.Order.{bare}
 use Rattle.children.proofs.Ordered.{bare_at}
 use Rattle.children.proofs.order.is_bare.Given as goal
 
 abbrev pub invariant-loop-g : goal.invariant-loop-g
-invariant-loop-g l = (l.g ≤ 8) × (all (bare_at l.nodes l.cap l.x) (from l.g (8 - l.g)) ≡ bare l.nodes l.cap l.x)
-
-abbrev pub decreases-loop-g : goal.decreases-loop-g
-decreases-loop-g l = 8 - l.g
+invariant-loop-g l = all (bare_at l.nodes l.cap l.x) (from l.g (8 - l.g)) ≡ bare l.nodes l.cap l.x

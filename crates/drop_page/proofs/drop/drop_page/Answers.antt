@@ -41,16 +41,16 @@ remove_all-removed-requires-clause-lent c = let k = c in lent _ _ _ _ _ _ (shows
 pub remove_all-removed-requires-clause-p_lt_pages : goal.remove_all-removed-requires-clause-p_lt_pages
 remove_all-removed-requires-clause-p_lt_pages c = let k = c in page-in _ _ _ _ _ _ (shows (goal.at.remove_all-removed-requires-clause-p_lt_pages k).In-Shown)
 
-pub returns-in-Done-clause-drop_promise : goal.returns-in-Done-clause-drop_promise
-returns-in-Done-clause-drop_promise c = let strike = c in let set = strike in let removed = set in let s = removed in let all = s in (drops _ _ _ _ _ _ (shows (goal.at.returns-in-Done-clause-drop_promise s).In-Shown) _ _ _ _ all.free_link-free.ensures all.remove_all-removed.ensures _ removed.in-Done.is _ _
+pub returns-in-Some-clause-drop_promise : goal.returns-in-Some-clause-drop_promise
+returns-in-Some-clause-drop_promise c = let strike = c in let set = strike in let removed = set in let s = removed in let all = s in (drops _ _ _ _ _ _ (shows (goal.at.returns-in-Some-clause-drop_promise s).In-Shown) _ _ _ _ all.free_link-free.ensures all.remove_all-removed.ensures _ removed.in-Some.is _ _
     set.set_free_link.ensures strike.strike_page.ensures).0
 
-pub returns-in-Done-clause-model : goal.returns-in-Done-clause-model
-returns-in-Done-clause-model c = let strike = c in let set = strike in let removed = set in let s = removed in let all = s in (drops _ _ _ _ _ _ (shows (goal.at.returns-in-Done-clause-model s).In-Shown) _ _ _ _ all.free_link-free.ensures all.remove_all-removed.ensures _ removed.in-Done.is _ _
+pub returns-in-Some-clause-model : goal.returns-in-Some-clause-model
+returns-in-Some-clause-model c = let strike = c in let set = strike in let removed = set in let s = removed in let all = s in (drops _ _ _ _ _ _ (shows (goal.at.returns-in-Some-clause-model s).In-Shown) _ _ _ _ all.free_link-free.ensures all.remove_all-removed.ensures _ removed.in-Some.is _ _
     set.set_free_link.ensures strike.strike_page.ensures).1
 
-pub returns-in-Broken-clause-drop_promise : goal.returns-in-Broken-clause-drop_promise
-returns-in-Broken-clause-drop_promise c = let s = c in let all = s in (breaks _ _ _ _ _ _ (shows (goal.at.returns-in-Broken-clause-drop_promise s).In-Shown) _ _ _ _ all.free_link-free.ensures all.remove_all-removed.ensures c.in-Broken.is).0
+pub returns-in-None-clause-drop_promise : goal.returns-in-None-clause-drop_promise
+returns-in-None-clause-drop_promise c = let s = c in let all = s in (breaks _ _ _ _ _ _ (shows (goal.at.returns-in-None-clause-drop_promise s).In-Shown) _ _ _ _ all.free_link-free.ensures all.remove_all-removed.ensures c.in-None.is).0
 
-pub returns-in-Broken-clause-model : goal.returns-in-Broken-clause-model
-returns-in-Broken-clause-model c = let s = c in let all = s in (breaks _ _ _ _ _ _ (shows (goal.at.returns-in-Broken-clause-model s).In-Shown) _ _ _ _ all.free_link-free.ensures all.remove_all-removed.ensures c.in-Broken.is).1
+pub returns-in-None-clause-model : goal.returns-in-None-clause-model
+returns-in-None-clause-model c = let s = c in let all = s in (breaks _ _ _ _ _ _ (shows (goal.at.returns-in-None-clause-model s).In-Shown) _ _ _ _ all.free_link-free.ensures all.remove_all-removed.ensures c.in-None.is).1

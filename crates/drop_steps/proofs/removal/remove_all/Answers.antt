@@ -11,8 +11,8 @@ loop-j-init c = (remove-start _ _ _ _ _ _, omega arith, search rules, search rul
 pub loop-j-preserved : goal.loop-j-preserved
 loop-j-preserved c = (search remove-more, omega arith, omega arith, omega arith, omega arith, omega arith)
 
-pub returns-in-Broken : goal.returns-in-Broken
-returns-in-Broken c = search remove-broken
+pub returns-in-None : goal.returns-in-None
+returns-in-None c = search remove-broken
 
 pub returns : goal.returns
 returns c = remove-done _ _ _ _ _ _ _ _ c.loop-j.invariant.0 c.loop-j-test.false

@@ -1,7 +1,5 @@
-use Prim.Native.Nat.{◌-◌, ◌≤◌}
 use mathlib.Core.Path.{◌≡◌}
 use mathlib.Core.List.{map}
-use lib.ListN.{length}
 use lib.Seq.{sets}
 use Rattle.meaning.specs.Lists.{upto}
 use Rattle.layout.specs.Header.{bare}
@@ -10,10 +8,4 @@ use Rattle.fresh_tables.proofs.Runs.{rest}
 use Rattle.fresh_tables.proofs.fresh.write_chain.Given as goal
 
 abbrev pub invariant-loop-x : goal.invariant-loop-x
-invariant-loop-x l =
-    (l.x ≤ l.h.nodes)
-    × (length l.nodes ≡ length l.initial.nodes)
-    × (rest (fresh_chain (bare l.h)) 0 l.h.nodes l.nodes l.x ≡ sets l.initial.nodes 0 (map (fresh_chain (bare l.h)) (upto l.h.nodes)))
-
-abbrev pub decreases-loop-x : goal.decreases-loop-x
-decreases-loop-x l = l.h.nodes - l.x
+invariant-loop-x l = rest (fresh_chain (bare l.h)) 0 l.h.nodes l.nodes l.x ≡ sets l.initial.nodes 0 (map (fresh_chain (bare l.h)) (upto l.h.nodes))

@@ -1,12 +1,9 @@
 use mathlib.Core.Path.{◌≡◌}
-use Prim.Native.Nat.{◌-◌, ◌≤◌}
+use Prim.Native.Nat.{◌-◌}
 use Rattle.meaning.specs.Lists.{all, from}
 use Rattle.node_check.specs.Leaf.{on_path}
 use Rattle.node_check.proofs.LeafSteps.{match_at}
 use Rattle.node_check.proofs.leaf.is_on_path.Given as goal
 
 abbrev pub invariant-loop-k : goal.invariant-loop-k
-invariant-loop-k l = (l.k ≤ l.depth) × (all (match_at l.sketches l.rows l.path l.p) (from l.k (l.depth - l.k)) ≡ on_path l.sketches l.rows l.path l.depth l.p)
-
-abbrev pub decreases-loop-k : goal.decreases-loop-k
-decreases-loop-k l = l.depth - l.k
+invariant-loop-k l = all (match_at l.sketches l.rows l.path l.p) (from l.k (l.depth - l.k)) ≡ on_path l.sketches l.rows l.path l.depth l.p

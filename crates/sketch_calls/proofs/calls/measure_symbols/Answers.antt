@@ -38,7 +38,7 @@ returns-then-strip-limit c =
     let b = at-loop.args.b in
     let high : 2 ^ b ≤ at-strip.go_over-strip.result.bits = rw (shifted b at-loop.requires.bits.1) at c.if-strip-limit.true in
     let out = sym (at-strip.go_over-strip.ensures.range b) ∙ le-ltb _ (2 ^ b) high in
-    c.refused.ensures ∙ sym (ended b _ _ at-loop.loop-k.k (at-end.strip_end-end.result - at-loop.loop-k.k) out)
+    sym (ended b _ _ at-loop.loop-k.k (at-end.strip_end-end.result - at-loop.loop-k.k) out)
 
 pub overflow_add-d : goal.overflow_add-d
 overflow_add-d c = omega (arith, after-most _ _ _ _ _ (turned (goal.at.overflow_add-d c).Else-strip-limit))
