@@ -1,5 +1,6 @@
 -- The loop over the blocks that puts the page into each trie.
-use Rattle.std.specs.Prelude.{Some, None, Result, Ok, Err}
+use Rattle.std.specs.Prelude.{Some, None, Result, Ok, Err, is_err, true}
+use mathlib.Core.Bool.{false≢true}
 use Prim.Native.Nat.{ℕ, suc, ◌+◌, ◌-◌, ◌≤◌, ◌<◌}
 use native.Mathlib.Omega.{arith}
 use native.Mathlib.Numerals.{add-one}
@@ -33,3 +34,10 @@ module _ (s : Settings) (S x : List ℕ) (p j : ℕ) (N P : List ℕ) (free : �
 
     pub insert-stops : (why : Stop) → g ≡ Err why → filled N' P' None ≡ R
     insert-stops why m = rw m at step
+
+    pub insert-stopped : is_err g ≡ true → filled N' P' None ≡ R
+    insert-stopped m = go g refl m
+      where
+        go : (r : Result Grown Stop) → g ≡ r → is_err r ≡ true → filled N' P' None ≡ R
+        go (Ok h) q z = absurd (false≢true z)
+        go (Err why) q z = insert-stops why q

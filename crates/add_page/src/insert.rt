@@ -8,7 +8,8 @@ ghost use Rattle.add_laws.specs.Insert.{filled, insert_block, insert_all};
 use blocks::packed::block_bytes;
 use blocks::{block_of, rows_of};
 use layout::Header;
-use trie::leaf::Got;
+use trie::Stop;
+use trie::leaf::Grown;
 use trie_insert::insert::insert_page;
 
 fn insert_block(
@@ -21,7 +22,7 @@ fn insert_block(
     p: usize,
     j: usize,
     free: u32,
-) -> Got
+) -> Result<Grown, Stop>
     requires lent { Lent h nodes.old pages.old sketches.now }
     requires thresholds_len { length thresholds.now ≡ 64 }
     requires fits { Fits h sketch.now }
@@ -47,7 +48,7 @@ fn insert_block(
     )
 }
 
-// The free link then, or that it stopped on unsound tables.
+// The free link then, or none where it stopped on unsound tables.
 pub fn insert_all(
     nodes: &mut [u32],
     pages: &mut [u32],
@@ -64,23 +65,10 @@ pub fn insert_all(
     requires p_lt_pages { p < h.pages }
     ensures { filled nodes.new pages.new result ≡ insert_all (with_thresholds h thresholds.now) sketches.now sketch.now p nodes.old pages.old free }
 {
-    let q = h.q;
     let mut link = free;
-    let mut j = 0;
-    while j < q {
-        let got = insert_block(nodes, pages, sketches, thresholds, h, sketch, p, j, link);
-        match got {
-            Got::Node(_, next) => {
-                link = next;
-                j += 1;
-            }
-            Got::Full => {
-                return None;
-            }
-            Got::Broken => {
-                return None;
-            }
-        }
+    for j in 0..h.q {
+        let grown = insert_block(nodes, pages, sketches, thresholds, h, sketch, p, j, link).ok()?;
+        link = grown.free;
     }
     Some(link)
 }

@@ -1,45 +1,34 @@
 // Questions 5 to 11 of an add, and 15.
-ghost use Rattle.std.specs.Prelude.{◌≡◌, []};
+ghost use Rattle.std.specs.Prelude.{◌≡◌};
 ghost use Rattle.meaning.specs.Ledger.{add};
-ghost use Rattle.promises.specs.Tables.{tables};
+ghost use Rattle.lent.specs.Lists.{held};
+ghost use Rattle.refusals.specs.Refusals.{numbered};
 ghost use Rattle.entry.specs.Admission.{admission};
 
-use layout::Opening;
+use layout::Header;
+use lent::View;
+use refusals::Refusal;
 
 const CLASSES: u32 = 64;
 
-// The opening where none of them says no, else the number of the first that does.
+// The opening where none of them says no, else the first that does.
 #[tactic(auto, unfolding(entry::specs::Admission::admission))]
-pub fn admit(
-    settings: &[u32],
-    nodes: &[u32],
-    pages: &[u32],
-    sketches: &[u8],
-    page: u32,
-    class: u32,
-    sketch: &[u8],
-) -> Opening
-    ensures { result ≡ admission (tables settings.now nodes.now pages.now sketches.now []) (add page «class» sketch.now) }
+pub fn admit(view: View<'_>, page: u32, class: u32, sketch: &[u8]) -> Result<Header, Refusal>
+    ensures { numbered result ≡ admission (held view.entry) (add page «class» sketch.now) }
 {
-    let h = match entry::admit(settings, nodes, pages, sketches) {
-        Opening::Refused(number) => return Opening::Refused(number),
-        Opening::Shown(h) => h,
-    };
+    let h = entry::admit(view)?;
     if CLASSES <= class {
-        return Opening::Refused(7);
+        return Err(Refusal::OutOfRange);
     }
-    let number = entry::ask_page(h, pages, page, false);
-    if number != 0 {
-        return Opening::Refused(number);
-    }
+    entry::ask_page(h, view.pages, page, false)?;
     if sketch.len() != h.m {
-        return Opening::Refused(10);
+        return Err(Refusal::BadLength);
     }
     if !sketch::symbols::in_range(h.b as u32, sketch) {
-        return Opening::Refused(11);
+        return Err(Refusal::BadSymbol);
     }
     if sketch::symbols::blank(sketch) {
-        return Opening::Refused(15);
+        return Err(Refusal::Blank);
     }
-    Opening::Shown(h)
+    Ok(h)
 }

@@ -7,33 +7,27 @@ ghost use Rattle.add_laws.specs.Room.{block_needs, all_needed, room_of};
 use blocks::packed::block_bytes;
 use blocks::{block_of, rows_of};
 use layout::Header;
-use trie::span::{Span, enough_free};
+use lent::View;
+use trie::Stop;
+use trie::span::enough_free;
 use trie_room::needed::nodes_needed;
 
 // How many nodes the trie of block j needs.
-fn block_needs(
-    thresholds: &[u32],
-    nodes: &[u32],
-    pages: &[u32],
-    sketches: &[u8],
-    h: Header,
-    sketch: &[u8],
-    j: usize,
-) -> Option<usize>
-    requires lent { Lent h nodes.now pages.now sketches.now }
+fn block_needs(view: View<'_>, thresholds: &[u32], h: Header, sketch: &[u8], j: usize) -> Option<usize>
+    requires lent { Lent h view.nodes.now view.pages.now view.sketches.now }
     requires thresholds_len { length thresholds.now ≡ 64 }
     requires fits { Fits h sketch.now }
     requires j_lt_q { j < h.q }
-    ensures { result ≡ block_needs (with_thresholds h thresholds.now) nodes.now pages.now sketches.now sketch.now j }
+    ensures { result ≡ block_needs (with_thresholds h thresholds.now) view.entry.nodes.now view.entry.pages.now view.entry.sketches.now sketch.now j }
 {
     let bytes = block_bytes(h, sketch, j);
     let block = block_of(h, j);
     let rows = rows_of(h, j);
     let n = rows.bytes;
     nodes_needed(
-        nodes,
-        pages,
-        sketches,
+        view.nodes,
+        view.pages,
+        view.sketches,
         thresholds,
         block,
         rows,
@@ -43,56 +37,28 @@ fn block_needs(
 }
 
 // The tries of all blocks together.
-fn all_needed(
-    thresholds: &[u32],
-    nodes: &[u32],
-    pages: &[u32],
-    sketches: &[u8],
-    h: Header,
-    sketch: &[u8],
-) -> Option<usize>
-    requires lent { Lent h nodes.now pages.now sketches.now }
+fn all_needed(view: View<'_>, thresholds: &[u32], h: Header, sketch: &[u8]) -> Option<usize>
+    requires lent { Lent h view.nodes.now view.pages.now view.sketches.now }
     requires thresholds_len { length thresholds.now ≡ 64 }
     requires fits { Fits h sketch.now }
-    ensures { result ≡ all_needed (with_thresholds h thresholds.now) nodes.now pages.now sketches.now sketch.now }
+    ensures { result ≡ all_needed (with_thresholds h thresholds.now) view.entry.nodes.now view.entry.pages.now view.entry.sketches.now sketch.now }
 {
-    let q = h.q;
     let mut sum: usize = 0;
-    let mut j = 0;
-    while j < q {
-        let needed = block_needs(thresholds, nodes, pages, sketches, h, sketch, j);
-        match needed {
-            Some(n) => {
-                sum += n;
-                j += 1;
-            }
-            None => {
-                return None;
-            }
-        }
+    for j in 0..h.q {
+        let n = block_needs(view, thresholds, h, sketch, j)?;
+        sum += n;
     }
     Some(sum)
 }
 
 // Are so many free, from the free link on?
 #[tactic(auto, unfolding(layout::specs::Lengths::nodes_length))]
-pub fn room(
-    thresholds: &[u32],
-    nodes: &[u32],
-    pages: &[u32],
-    sketches: &[u8],
-    h: Header,
-    sketch: &[u8],
-    free: u32,
-) -> Span
-    requires lent { Lent h nodes.now pages.now sketches.now }
+pub fn room(view: View<'_>, thresholds: &[u32], h: Header, sketch: &[u8], free: u32) -> Result<(), Stop>
+    requires lent { Lent h view.nodes.now view.pages.now view.sketches.now }
     requires thresholds_len { length thresholds.now ≡ 64 }
     requires fits { Fits h sketch.now }
-    ensures { result ≡ room_of (with_thresholds h thresholds.now) nodes.now pages.now sketches.now sketch.now free }
+    ensures { result ≡ room_of (with_thresholds h thresholds.now) view.entry.nodes.now view.entry.pages.now view.entry.sketches.now sketch.now free }
 {
-    let needed = all_needed(thresholds, nodes, pages, sketches, h, sketch);
-    match needed {
-        Some(n) => enough_free(nodes, h.nodes, free, n),
-        None => Span::Broken,
-    }
+    let needed = all_needed(view, thresholds, h, sketch).ok_or(Stop::Broken)?;
+    enough_free(view.nodes, h.nodes, free, needed)
 }

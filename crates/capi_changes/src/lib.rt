@@ -11,6 +11,11 @@ ghost use Rattle.promises.specs.Relation.{number_alone, Promised, OnSettings, On
 ghost use Rattle.add_laws.specs.Add.{add_page};
 ghost use Rattle.drop_laws.specs.After.{drop_page};
 
+use layout::Header;
+use lent::Index;
+use refusals::answer_number;
+use rights::Change;
+
 #[unsafe(no_mangle)]
 pub extern "C" fn vetch_open(
     settings: &mut [u32],
@@ -27,19 +32,13 @@ pub extern "C" fn vetch_open(
 ) -> u32
     ensures { Promised (opening (settings_given b m q page_capacity node_capacity thresholds.now)) (tables settings.old nodes.old pages.old sketches.now working.now) (number_alone result) (tables settings.new nodes.new pages.new sketches.now working.now) }
 {
-    open::open(
+    let mut index = Index {
         settings,
         nodes,
         pages,
-        sketches,
-        working,
-        b,
-        m,
-        q,
-        page_capacity,
-        node_capacity,
-        thresholds,
-    )
+    };
+    let h = Header::new(b, m, q, page_capacity, node_capacity);
+    answer_number(open::open(&mut index, sketches, working, h, thresholds))
 }
 
 #[unsafe(no_mangle)]
@@ -72,30 +71,34 @@ pub extern "C" fn vetch_drop(
     drop_page::drop::drop_page(settings, nodes, pages, sketches, page)
 }
 
+#[tactic(auto, unfolding(rights::specs::Changes::change_meant))]
 #[unsafe(no_mangle)]
 pub extern "C" fn vetch_join(settings: &mut [u32], reader: u32, group: u32) -> u32
     ensures { OnSettings (join reader group) settings.old result settings.new }
 {
-    register::join(settings, reader, group)
+    answer_number(register::change(settings, Change::Join { reader, group }))
 }
 
+#[tactic(auto, unfolding(rights::specs::Changes::change_meant))]
 #[unsafe(no_mangle)]
 pub extern "C" fn vetch_leave(settings: &mut [u32], reader: u32, group: u32) -> u32
     ensures { OnSettings (leave reader group) settings.old result settings.new }
 {
-    register::leave(settings, reader, group)
+    answer_number(register::change(settings, Change::Leave { reader, group }))
 }
 
+#[tactic(auto, unfolding(rights::specs::Changes::change_meant))]
 #[unsafe(no_mangle)]
 pub extern "C" fn vetch_grant(settings: &mut [u32], group: u32, class: u32) -> u32
     ensures { OnSettings (grant group class) settings.old result settings.new }
 {
-    register::grant(settings, group, class)
+    answer_number(register::change(settings, Change::Grant { group, class }))
 }
 
+#[tactic(auto, unfolding(rights::specs::Changes::change_meant))]
 #[unsafe(no_mangle)]
 pub extern "C" fn vetch_revoke(settings: &mut [u32], group: u32, class: u32) -> u32
     ensures { OnSettings (revoke group class) settings.old result settings.new }
 {
-    register::revoke(settings, group, class)
+    answer_number(register::change(settings, Change::Revoke { group, class }))
 }

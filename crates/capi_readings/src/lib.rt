@@ -11,6 +11,7 @@ ghost use Rattle.promises.specs.Relation.{with_lists, with_verdict, Promised, On
 ghost use Rattle.search_laws.specs.Answer.{AnsweredBy};
 ghost use Rattle.fresh_tables.specs.Lengths.{lengths_of};
 
+use layout::Header;
 use lent::View;
 
 #[unsafe(no_mangle)]
@@ -33,13 +34,25 @@ pub extern "C" fn vetch_lengths(
     ensures sketches_after { sketches.new ≡ (lengths_of (settings_given b m q page_capacity node_capacity [])).sketches }
     ensures working_after { working.new ≡ (lengths_of (settings_given b m q page_capacity node_capacity [])).working }
 {
-    let needed = fresh_tables::lengths::needed(b, m, q, page_capacity, node_capacity);
-    *settings = needed.settings;
-    *nodes = needed.nodes;
-    *pages = needed.pages;
-    *sketches = needed.sketches;
-    *working = needed.working;
-    needed.number
+    let h = Header::new(b, m, q, page_capacity, node_capacity);
+    match fresh_tables::lengths::needed(h) {
+        Ok(needed) => {
+            *settings = needed.settings;
+            *nodes = needed.nodes;
+            *pages = needed.pages;
+            *sketches = needed.sketches;
+            *working = needed.working;
+            0
+        }
+        Err(refusal) => {
+            *settings = 0;
+            *nodes = 0;
+            *pages = 0;
+            *sketches = 0;
+            *working = 0;
+            refusal.number()
+        }
+    }
 }
 
 #[unsafe(no_mangle)]
@@ -81,10 +94,18 @@ pub extern "C" fn vetch_show(
     ensures start_after { start.new ≡ start_shown (show_tables settings.now pages.now sketches.now) reader page }
     ensures length_after { length.new ≡ length_shown (show_tables settings.now pages.now sketches.now) reader page }
 {
-    let at = show_page::show::find_row(settings, pages, sketches, reader, page);
-    *start = at.start;
-    *length = at.length;
-    at.number
+    match show_page::show::find_row(settings, pages, sketches, reader, page) {
+        Ok(row) => {
+            *start = row.start;
+            *length = row.length;
+            0
+        }
+        Err(refusal) => {
+            *start = 0;
+            *length = 0;
+            refusal.number()
+        }
+    }
 }
 
 // The verdict for C is 1 for yes and 0 for no.

@@ -1,36 +1,29 @@
 // The call that drops a page.
-ghost use Rattle.std.specs.Prelude.{◌≡◌, []};
-ghost use Rattle.promises.specs.Tables.{tables};
+ghost use Rattle.std.specs.Prelude.{◌≡◌};
+ghost use Rattle.lent.specs.Lists.{lists, SameTables};
 ghost use Rattle.promises.specs.Store.{outcome, DropPromise};
+ghost use Rattle.refusals.specs.Refusals.{answer_number};
 ghost use Rattle.drop_laws.specs.After.{drop_page};
 
-use drop_steps::{questions, removal};
-use layout::Opening;
+use drop_steps::questions::admit;
+use drop_steps::removal::remove_all;
+use lent::Index;
+use refusals::Refusal;
 
-// Takes the page out of each block's trie and strikes it out. Gives the number of the first "no", or 0.
-pub fn drop_page(
-    settings: &mut [u32],
-    nodes: &mut [u32],
-    pages: &mut [u32],
-    sketches: &[u8],
-    page: u32,
-) -> u32
-    ensures drop_promise { DropPromise (tables settings.old nodes.old pages.old sketches.now []) page result (tables settings.new nodes.new pages.new sketches.now []) }
-    ensures model { outcome result (tables settings.new nodes.new pages.new sketches.now []) ≡ drop_page (tables settings.old nodes.old pages.old sketches.now []) page }
+// Takes the page out of each block's trie and strikes it out; or the first "no".
+pub fn drop_page(index: &mut Index<'_>, sketches: &[u8], page: u32) -> Result<(), Refusal>
+    ensures same { SameTables index.old index.new }
+    ensures drop_promise { DropPromise (lists index.old sketches.now) page (answer_number result) (lists index.new sketches.now) }
+    ensures model { outcome (answer_number result) (lists index.new sketches.now) ≡ drop_page (lists index.old sketches.now) page }
 {
-    let h = match questions::admit(settings, nodes, pages, sketches, page) {
-        Opening::Refused(number) => return number,
-        Opening::Shown(h) => h,
-    };
+    let h = admit(index.view(sketches), page)?;
+    let settings = &mut *index.settings;
+    let nodes = &mut *index.nodes;
+    let pages = &mut *index.pages;
     let free = settings::free_link(settings);
     let p = page as usize;
-    let removed = removal::remove_all(nodes, pages, sketches, h, p, free);
-    match removed {
-        Some(link) => {
-            settings::set_free_link(settings, link);
-            layout::pages::strike_page(pages, p);
-            0
-        }
-        None => 14,
-    }
+    let link = remove_all(nodes, pages, sketches, h, p, free).ok_or(Refusal::Unsound)?;
+    settings::set_free_link(settings, link);
+    layout::pages::strike_page(pages, p);
+    Ok(())
 }

@@ -1,5 +1,5 @@
 // The page taken out of the trie of each block.
-ghost use Rattle.std.specs.Prelude.{◌≡◌, ◌<◌, length};
+ghost use Rattle.std.specs.Prelude.{◌≡◌, ◌<◌};
 ghost use Rattle.layout.specs.Header.{bare};
 ghost use Rattle.layout.specs.Tables.{Lent};
 ghost use Rattle.trie_remove.specs.Remove.{gone};
@@ -8,13 +8,13 @@ ghost use Rattle.drop_laws.specs.Removal.{remove_block, remove_all};
 use blocks::packed::row_bytes;
 use blocks::{block_of, rows_of};
 use layout::Header;
+use trie::path::Passed;
 
-// Of one block; the arrays are for the path to the page's leaf.
+// Of one block; the array is for the path to the page's leaf.
 fn remove_block(
     nodes: &mut [u32],
     pages: &mut [u32],
-    above: &mut [u32; 64],
-    slots: &mut [u32; 64],
+    path: &mut [Passed; 64],
     sketches: &[u8],
     h: Header,
     p: usize,
@@ -24,19 +24,17 @@ fn remove_block(
     requires lent { Lent h nodes.old pages.old sketches.now }
     requires p_lt_pages { p < h.pages }
     requires j_lt_q { j < h.q }
-    requires above_len { (length above.old ≡ 64) × (length slots.old ≡ 64) }
-    ensures result_after { gone nodes.new pages.new result ≡ remove_block (bare h) sketches.now p j nodes.old pages.old free }
-    ensures long { (length above.new ≡ 64) × (length slots.new ≡ 64) }
+    ensures { gone nodes.new pages.new result ≡ remove_block (bare h) sketches.now p j nodes.old pages.old free }
 {
     let mut bytes = [0u8; 64];
     row_bytes(&mut bytes, h, sketches, p, j);
     let block = block_of(h, j);
     let rows = rows_of(h, j);
     let n = rows.bytes;
-    trie_remove::remove_page(nodes, pages, above, slots, block, j, &bytes[..n], p, free)
+    trie_remove::remove_page(nodes, pages, path, block, j, &bytes[..n], p, free)
 }
 
-// The free link then, or that it stopped on unsound tables.
+// The free link then, or none where it stopped on unsound tables.
 pub fn remove_all(
     nodes: &mut [u32],
     pages: &mut [u32],
@@ -49,24 +47,10 @@ pub fn remove_all(
     requires p_lt_pages { p < h.pages }
     ensures { gone nodes.new pages.new result ≡ remove_all (bare h) sketches.now p nodes.old pages.old free }
 {
-    let q = h.q;
-    let mut above = [0u32; 64];
-    let mut slots = [0u32; 64];
+    let mut path = [Passed { node: 0, slot: 0 }; 64];
     let mut link = free;
-    let mut j = 0;
-    while j < q {
-        let removed = remove_block(
-            nodes, pages, &mut above, &mut slots, sketches, h, p, j, link,
-        );
-        match removed {
-            Some(next) => {
-                link = next;
-                j += 1;
-            }
-            None => {
-                return None;
-            }
-        }
+    for j in 0..h.q {
+        link = remove_block(nodes, pages, &mut path, sketches, h, p, j, link)?;
     }
     Some(link)
 }

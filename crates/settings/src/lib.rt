@@ -103,7 +103,7 @@ pub fn set_free_link(settings: &mut [u32], link: u32)
     settings[FREE] = link;
 }
 
-// Writes the thresholds to their 64 words.
+// Writes the thresholds to their 64 words. No `copy_from_slice`: they are lent as numbers of 16 bits.
 fn write_thresholds(settings: &mut [u32], thresholds: &[u16])
     requires settings_length_in_bounds { settings_length ≤ length settings.old }
     requires thresholds_len { length thresholds.now ≡ 64 }
@@ -114,7 +114,7 @@ fn write_thresholds(settings: &mut [u32], thresholds: &[u16])
     }
 }
 
-// Writes an opening: the first 70 words.
+// Writes an opening: the first 70 words. Word by word: the table is a slice of words, and no struct.
 #[tactic(auto, unfolding(layout::specs::Settings::with_header))]
 pub fn write_header(settings: &mut [u32], h: Header, thresholds: &[u16])
     requires settings_length_in_bounds { settings_length ≤ length settings.old }

@@ -155,3 +155,15 @@ module _ (ws pages sketches : List ℕ) (r p : ℕ) where
 
     pub found-part : take q.length (drop q.start sketches) ≡ row_shown T r p
     found-part = subst (λ (P : Place). take P.length (drop P.start sketches) ≡ row_shown T r p) (sym e) (sym part-shown)
+
+    pub found-number : q.number ≡ number T [] (reading (show r p))
+    unfolding place_of
+    found-number = ap (λ (P : Place). P.number) e
+
+    pub found-start : q.start ≡ start_shown T r p
+    unfolding place_of
+    found-start = ap (λ (P : Place). P.start) e
+
+    pub found-length : q.length ≡ length_shown T r p
+    unfolding place_of
+    found-length = ap (λ (P : Place). P.length) e

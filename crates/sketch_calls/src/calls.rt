@@ -74,14 +74,14 @@ pub fn pack(b: u32, m: u32, x: &[u8], out: &mut [u8]) -> Result<u32, Refusal>
         return Err(Refusal::BadSettings);
     }
     let n = m as usize;
+    let needed = packed_length(b, n);
+    let value = needed as u32;
     if x.len() != n {
         return Err(Refusal::BadLength);
     }
     if !in_range(b, x) {
         return Err(Refusal::BadSymbol);
     }
-    let needed = packed_length(b, n);
-    let value = needed as u32;
     if out.len() < needed {
         return Err(Refusal::ShortOutput(value));
     }

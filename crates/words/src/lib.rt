@@ -40,7 +40,7 @@ pub fn zero_run(ws: &mut [u32], base: usize, n: usize)
     ws[base..base + n].fill(0);
 }
 
-// The lowest set bit of w, and 32 for 0.
+// The lowest set bit of w, and 32 for 0. No Option: every caller asks of a word that is not 0, and 32 is what the machine's count gives.
 #[tactic(auto, unfolding(crate::specs::Bits::lowest))]
 pub fn lowest_bit(w: u32) -> u32
     ensures { result ≡ lowest w }

@@ -1,49 +1,63 @@
 -- The function `place_page` is the definition `place_page`.
-use mathlib.Core.Path.{◌∙◌}
-use mathlib.Core.List.{[]}
-use Rattle.promises.specs.Tables.{Tables, tables}
+use native.Mathlib.Omega.{arith}
+use mathlib.Core.Path.{◌≡◌, ap, ◌∙◌, subst}
+use Rattle.std.specs.Prelude.{Err}
+use Rattle.trie.specs.declared.Stop.TheVariants.{Full, Broken}
+use Rattle.meaning.specs.Ledger.{add}
+use Rattle.lent.specs.Lists.{held}
+use Rattle.promises.specs.Store.{outcome}
+use Rattle.promises.specs.Tables.{Tables}
+use Rattle.entry.specs.Admission.{admission}
+use Rattle.add_laws.specs.Add.{put_page as put_m, place_page as place_m}
 use Rattle.add_laws.proofs.Passed.{Passed, told-shown}
 use Rattle.add_page.proofs.Puts.{place_short, place-broken, place-enough}
 use Rattle.add_page.proofs.add.place_page.Goals as goal
-use Rattle.add_page.proofs.add.place_page.Goals.{Start}
+use Rattle.add_page.proofs.add.place_page.Goals.{After-view-view}
 
-abbrev lent : Start → Tables
-lent s = tables s.args.settings.now s.args.nodes.now s.args.pages.now s.args.sketches.now []
+-- the tables as the view has them
+abbrev seen : After-view-view → Tables
+seen s = held s.view-view.result
 
-passed : (s : Start) → Passed (lent s) s.args.h s.args.p s.args.sketch.now
-passed s = (told-shown (lent s) s.args.p s.args.class s.args.sketch.now s.args.h s.requires).1
+passed : (s : After-view-view) → Passed (seen s) s.args.h s.args.p s.args.sketch.now
+passed s =
+    let call = add s.args.p s.args.class s.args.sketch.now in
+    (told-shown (seen s) s.args.p s.args.class s.args.sketch.now s.args.h (ap (λ T. admission T call) s.view-view.ensures ∙ s.requires)).1
 
 pub free_link-free-requires : goal.free_link-free-requires
-free_link-free-requires c = (passed (goal.at.free_link-free-requires c).Start).long
+free_link-free-requires c = (passed (goal.at.free_link-free-requires c).After-view-view).long
 
 pub thresholds-thresholds-requires : goal.thresholds-thresholds-requires
-thresholds-thresholds-requires c = (passed (goal.at.thresholds-thresholds-requires c).Start).long
+thresholds-thresholds-requires c = (passed (goal.at.thresholds-thresholds-requires c).After-view-view).long
 
-pub returns-in-Enough : goal.returns-in-Enough
-returns-in-Enough c =
-    let u = c in
-    u.put_page.ensures ∙
-    (let r = c in
-    let t = r in
-    place-enough (lent (goal.at.returns-in-Enough t).Start) _ (passed (goal.at.returns-in-Enough t).Start).header _ _ _ _ t.thresholds-thresholds.ensures _ t.free_link-free.ensures _ r.room-span.ensures c.in-Enough.is)
+pub returns-in-Ok-clause-model : goal.returns-in-Ok-clause-model
+returns-in-Ok-clause-model c =
+    let s = (goal.at.returns-in-Ok-clause-model c).After-view-view in
+    let a = c.args in
+    c.put_page.ensures.model
+    ∙ subst (λ T. put_m T a.p a.class a.sketch.now ≡ place_m T a.p a.class a.sketch.now) s.view-view.ensures
+    (place-enough (seen s) _ (passed s).header _ _ _ _ c.thresholds-thresholds.ensures _ c.free_link-free.ensures _ c.room.ensures c.in-Ok.is)
 
-pub returns-in-Short : goal.returns-in-Short
-returns-in-Short c =
-    let r = c in
-    let t = r in
-    place_short (lent (goal.at.returns-in-Short t).Start) _ (passed (goal.at.returns-in-Short t).Start).header _ _ _ _ t.thresholds-thresholds.ensures _ t.free_link-free.ensures _ r.room-span.ensures c.in-Short.is
+pub returns-in-Err-Full-clause-model : goal.returns-in-Err-Full-clause-model
+returns-in-Err-Full-clause-model c =
+    let s = (goal.at.returns-in-Err-Full-clause-model c).After-view-view in
+    let why : c.room.result ≡ Err Full = grind arith in
+    let a = c.args in
+    subst (λ T. outcome 12 T ≡ place_m T a.p a.class a.sketch.now) s.view-view.ensures
+    (place_short (seen s) _ (passed s).header _ _ _ _ c.thresholds-thresholds.ensures _ c.free_link-free.ensures _ c.room.ensures why)
 
-pub returns-in-None : goal.returns-in-None
-returns-in-None c =
-    let r = c in
-    let t = r in
-    place-broken (lent (goal.at.returns-in-None t).Start) _ (passed (goal.at.returns-in-None t).Start).header _ _ _ _ t.thresholds-thresholds.ensures _ t.free_link-free.ensures _ r.room-span.ensures c.in-None.is
+pub returns-in-Err-Broken-clause-model : goal.returns-in-Err-Broken-clause-model
+returns-in-Err-Broken-clause-model c =
+    let s = (goal.at.returns-in-Err-Broken-clause-model c).After-view-view in
+    let why : c.room.result ≡ Err Broken = grind arith in
+    let a = c.args in
+    subst (λ T. outcome 14 T ≡ place_m T a.p a.class a.sketch.now) s.view-view.ensures
+    (place-broken (seen s) _ (passed s).header _ _ _ _ c.thresholds-thresholds.ensures _ c.free_link-free.ensures _ c.room.ensures why)
 
-pub room-span-requires-clause-lent : goal.room-span-requires-clause-lent
-room-span-requires-clause-lent c = let ok = passed (goal.at.room-span-requires-clause-lent c).Start in ok.lent
+pub room-requires-clause-lent : goal.room-requires-clause-lent
+room-requires-clause-lent c = (passed (goal.at.room-requires-clause-lent c).After-view-view).lent
 
-pub room-span-requires-clause-thresholds_len : goal.room-span-requires-clause-thresholds_len
-room-span-requires-clause-thresholds_len c = let ok = passed (goal.at.room-span-requires-clause-thresholds_len c).Start in rw c.thresholds-thresholds.ensures ok.levels
+pub room-requires-clause-thresholds_len : goal.room-requires-clause-thresholds_len
+room-requires-clause-thresholds_len c = rw c.thresholds-thresholds.ensures (passed (goal.at.room-requires-clause-thresholds_len c).After-view-view).levels
 
-pub room-span-requires-clause-fits : goal.room-span-requires-clause-fits
-room-span-requires-clause-fits c = let ok = passed (goal.at.room-span-requires-clause-fits c).Start in ok.fits
+pub room-requires-clause-fits : goal.room-requires-clause-fits
+room-requires-clause-fits c = (passed (goal.at.room-requires-clause-fits c).After-view-view).fits

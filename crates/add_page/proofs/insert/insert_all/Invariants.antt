@@ -1,4 +1,4 @@
-use Prim.Native.Nat.{◌-◌, ◌≤◌}
+use Prim.Native.Nat.{◌-◌}
 use mathlib.Core.Path.{◌≡◌}
 use lib.ListN.{length}
 use Rattle.layout.specs.Header.{with_thresholds}
@@ -9,7 +9,4 @@ abbrev pub invariant-loop-j : goal.invariant-loop-j
 invariant-loop-j l =
     (insert_from (with_thresholds l.h l.thresholds) l.sketches l.sketch l.p (l.h.q - l.j) l.j l.nodes l.pages l.link
     ≡ insert_all (with_thresholds l.h l.thresholds) l.sketches l.sketch l.p l.initial.nodes l.initial.pages l.free)
-    × (l.j ≤ l.h.q) × (length l.nodes ≡ length l.initial.nodes) × (length l.pages ≡ length l.initial.pages)
-
-abbrev pub decreases-loop-j : goal.decreases-loop-j
-decreases-loop-j l = l.h.q - l.j
+    × (length l.nodes ≡ length l.initial.nodes) × (length l.pages ≡ length l.initial.pages)

@@ -6,9 +6,7 @@ use Rattle.add_questions.proofs.room.all_needed.Given as goal
 
 abbrev pub invariant-loop-j : goal.invariant-loop-j
 invariant-loop-j l =
-    (needed_from (block_needs (with_thresholds l.h l.thresholds) l.nodes l.pages l.sketches l.sketch) l.sum l.j (l.h.q - l.j)
-    ≡ all_needed (with_thresholds l.h l.thresholds) l.nodes l.pages l.sketches l.sketch)
-    × (l.j ≤ l.h.q) × (l.sum ≤ 65537 * l.j)
-
-abbrev pub decreases-loop-j : goal.decreases-loop-j
-decreases-loop-j l = l.h.q - l.j
+    let v = l.view in
+    (needed_from (block_needs (with_thresholds l.h l.thresholds) v.nodes.now v.pages.now v.sketches.now l.sketch) l.sum l.j (l.h.q - l.j)
+    ≡ all_needed (with_thresholds l.h l.thresholds) v.nodes.now v.pages.now v.sketches.now l.sketch)
+    × (l.sum ≤ 65537 * l.j)

@@ -9,15 +9,14 @@ use Rattle.add_questions.proofs.room.block_needs.Goals as goal
 use Rattle.add_questions.proofs.room.block_needs.Goals.{After-rows_of-rows}
 
 -- the block's tables
-tables : (c : After-rows_of-rows) → let entry = c in
-    InTables entry.args.nodes.now entry.args.pages.now entry.args.sketches.now entry.args.j
+tables : (c : After-rows_of-rows) → let v = c.args.view in
+    InTables v.nodes.now v.pages.now v.sketches.now c.args.j
     c.block_of-block.result c.rows_of-rows.result
 tables c =
-    let entry = c in
-    in_tables _ _ _ _ entry.requires.lent _ entry.requires.j_lt_q _ c.block_of-block.ensures _ c.rows_of-rows.ensures
+    in_tables _ _ _ _ c.requires.lent _ c.requires.j_lt_q _ c.block_of-block.ensures _ c.rows_of-rows.ensures
 
 pub slice_bounds-bytes-end : goal.slice_bounds-bytes-end
-slice_bounds-bytes-end c = omega (arith, (tables c).rows.short)
+slice_bounds-bytes-end c = omega (arith, (tables (goal.at.slice_bounds-bytes-end c).After-rows_of-rows).rows.short)
 
 pub slice_bounds-nodes_needed-end : goal.slice_bounds-nodes_needed-end
 slice_bounds-nodes_needed-end c =
@@ -25,21 +24,20 @@ slice_bounds-nodes_needed-end c =
 
 pub returns : goal.returns
 returns c =
-    let b = c in
     c.nodes_needed.ensures
-    ∙ needs-block _ _ _ _ _ _ _ _ b.block_of-block.ensures _ c.rows_of-rows.ensures _ b.block_bytes-bytes.ensures
+    ∙ needs-block _ _ _ _ _ _ _ _ c.block_of-block.ensures _ c.rows_of-rows.ensures _ c.block_bytes-bytes.ensures
 
 pub nodes_needed-requires-clause-node_table : goal.nodes_needed-requires-clause-node_table
-nodes_needed-requires-clause-node_table c = let t = tables (goal.at.nodes_needed-requires-clause-node_table c).After-rows_of-rows in let l = length-take-le c.rows_of-rows.result.bytes c.block_bytes-bytes.result (omega (arith, t.rows.short)) in let levels = c.requires.thresholds_len in t.nodes
+nodes_needed-requires-clause-node_table c = (tables (goal.at.nodes_needed-requires-clause-node_table c).After-rows_of-rows).nodes
 
 pub nodes_needed-requires-clause-page_table : goal.nodes_needed-requires-clause-page_table
-nodes_needed-requires-clause-page_table c = let t = tables (goal.at.nodes_needed-requires-clause-page_table c).After-rows_of-rows in let l = length-take-le c.rows_of-rows.result.bytes c.block_bytes-bytes.result (omega (arith, t.rows.short)) in let levels = c.requires.thresholds_len in t.pages
+nodes_needed-requires-clause-page_table c = (tables (goal.at.nodes_needed-requires-clause-page_table c).After-rows_of-rows).pages
 
 pub nodes_needed-requires-clause-row_table : goal.nodes_needed-requires-clause-row_table
-nodes_needed-requires-clause-row_table c = let t = tables (goal.at.nodes_needed-requires-clause-row_table c).After-rows_of-rows in let l = length-take-le c.rows_of-rows.result.bytes c.block_bytes-bytes.result (omega (arith, t.rows.short)) in let levels = c.requires.thresholds_len in t.rows
+nodes_needed-requires-clause-row_table c = (tables (goal.at.nodes_needed-requires-clause-row_table c).After-rows_of-rows).rows
 
 pub nodes_needed-requires-clause-bytes_in_bounds : goal.nodes_needed-requires-clause-bytes_in_bounds
-nodes_needed-requires-clause-bytes_in_bounds c = let t = tables (goal.at.nodes_needed-requires-clause-bytes_in_bounds c).After-rows_of-rows in let l = length-take-le c.rows_of-rows.result.bytes c.block_bytes-bytes.result (omega (arith, t.rows.short)) in let levels = c.requires.thresholds_len in omega (arith, t.rows.short, levels)
+nodes_needed-requires-clause-bytes_in_bounds c = omega (arith, (tables (goal.at.nodes_needed-requires-clause-bytes_in_bounds c).After-rows_of-rows).rows.short, c.requires.thresholds_len)
 
 pub nodes_needed-requires-clause-bytes_len : goal.nodes_needed-requires-clause-bytes_len
-nodes_needed-requires-clause-bytes_len c = let t = tables (goal.at.nodes_needed-requires-clause-bytes_len c).After-rows_of-rows in let l = length-take-le c.rows_of-rows.result.bytes c.block_bytes-bytes.result (omega (arith, t.rows.short)) in let levels = c.requires.thresholds_len in l
+nodes_needed-requires-clause-bytes_len c = length-take-le c.rows_of-rows.result.bytes c.block_bytes-bytes.result (omega (arith, (tables (goal.at.nodes_needed-requires-clause-bytes_len c).After-rows_of-rows).rows.short))

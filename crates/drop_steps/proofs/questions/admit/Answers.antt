@@ -1,34 +1,24 @@
 -- `admit` asks 5, 6, 8 and 9 in their order.
-use Rattle.std.specs.Prelude.{Ok}
-use mathlib.Core.Path.{◌≡◌, sym, ◌∙◌}
-use mathlib.Core.List.{[]}
-use Rattle.layout.specs.declared.Header.{Header}
-use Rattle.promises.specs.Tables.{tables}
-use Rattle.entry.specs.Entry.{store_entry}
+use Rattle.std.specs.Prelude.{Err}
+use native.Mathlib.Omega.{arith}
+use mathlib.Core.Path.{◌≡◌, refl, sym}
+use Rattle.refusals.proofs.Refusals.{not_zero}
 use Rattle.entry.proofs.Admits.{pages-fit}
 use Rattle.drop_steps.proofs.Admits.{admit-refused, admit-page, admit-all}
 use Rattle.drop_steps.proofs.questions.admit.Goals as goal
-use Rattle.drop_steps.proofs.questions.admit.Goals.{In-Shown}
 
-abbrev header : In-Shown → Header
-header k = k.in-Shown.h
+pub returns-in_err-h : goal.returns-in_err-h
+returns-in_err-h c =
+    let up : c.from_residual.result ≡ Err c.in_err-h.field-0.0 = grind arith in
+    rw up (admit-refused _ _ _ _ _ _ (sym c.in_err-h.ensures))
 
-shows : (k : In-Shown) → let a = k.args in
-    store_entry (tables a.settings.now a.nodes.now a.pages.now a.sketches.now []) ≡ Ok (header k)
-shows k = sym k.admit.ensures ∙ k.in-Shown.is
+pub ask_page-requires : goal.ask_page-requires
+ask_page-requires c = pages-fit _ _ (sym c.in_ok-h.ensures)
 
-pub returns-in-Refused : goal.returns-in-Refused
-returns-in-Refused c =
-    let number = c in
-    admit-refused _ _ _ _ _ _ (sym number.admit.ensures ∙ number.in-Refused.is)
-
-pub ask_page-number-requires : goal.ask_page-number-requires
-ask_page-number-requires c = pages-fit _ _ (shows c)
-
-pub returns-then-number-ne0 : goal.returns-then-number-ne0
-returns-then-number-ne0 c =
-    admit-page _ _ _ _ _ _ (shows (goal.at.returns-then-number-ne0 c).In-Shown) _ c.ask_page-number.ensures c.if-number-ne0.true
+pub returns-in_err-ask_page : goal.returns-in_err-ask_page
+returns-in_err-ask_page c =
+    let up : c.from_residual-in_err-ask_page.result ≡ Err c.in_err-ask_page.field-0.0 = grind arith in
+    rw up (admit-page _ _ _ _ _ _ (sym c.in_ok-h.ensures) _ c.in_err-ask_page.ensures (not_zero _))
 
 pub returns : goal.returns
-returns c =
-    admit-all _ _ _ _ _ _ (shows (goal.at.returns c).In-Shown) _ c.ask_page-number.ensures c.if-number-ne0.false
+returns c = admit-all _ _ _ _ _ _ (sym c.in_ok-h.ensures) _ c.in_ok-ask_page.ensures refl

@@ -1,4 +1,4 @@
-use Prim.Native.Nat.{◌-◌, ◌≤◌}
+use Prim.Native.Nat.{◌-◌}
 use mathlib.Core.Path.{◌≡◌}
 use lib.ListN.{length}
 use Rattle.layout.specs.Header.{bare}
@@ -8,7 +8,4 @@ use Rattle.drop_steps.proofs.removal.remove_all.Given as goal
 abbrev pub invariant-loop-j : goal.invariant-loop-j
 invariant-loop-j l =
     (remove_from (bare l.h) l.sketches l.p (l.h.q - l.j) l.j l.nodes l.pages l.link ≡ remove_all (bare l.h) l.sketches l.p l.initial.nodes l.initial.pages l.free)
-    × (l.j ≤ l.h.q) × (length l.nodes ≡ length l.initial.nodes) × (length l.pages ≡ length l.initial.pages) × (length l.above ≡ 64) × (length l.slots ≡ 64)
-
-abbrev pub decreases-loop-j : goal.decreases-loop-j
-decreases-loop-j l = l.h.q - l.j
+    × (length l.nodes ≡ length l.initial.nodes) × (length l.pages ≡ length l.initial.pages)

@@ -32,6 +32,6 @@ remove_page-requires-clause-node_table c = let r = c in let t = tables (goal.at.
 pub remove_page-requires-clause-page_table : goal.remove_page-requires-clause-page_table
 remove_page-requires-clause-page_table c = let r = c in let t = tables (goal.at.remove_page-requires-clause-page_table r).After-rows_of-rows in t.pages
 
-pub returns-clause-result_after : goal.returns-clause-result_after
-returns-clause-result_after c = let r = c in let n = r in r.remove_page.ensures.result_after
+pub returns : goal.returns
+returns c = let r = c in let n = r in r.remove_page.ensures
     ∙ remove-one _ _ _ _ _ _ _ _ n.block_of-block.ensures _ n.rows_of-rows.ensures _ n.row_bytes.ensures.bytes_after
