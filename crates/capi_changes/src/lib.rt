@@ -54,7 +54,12 @@ pub extern "C" fn vetch_add(
     ensures on_store { OnStore (add page «class» sketch.now) (tables settings.old nodes.old pages.old sketches.old []) result (tables settings.new nodes.new pages.new sketches.new []) }
     ensures model { outcome result (tables settings.new nodes.new pages.new sketches.new []) ≡ add_page (tables settings.old nodes.old pages.old sketches.old []) page «class» sketch.now }
 {
-    add_page::add::add(settings, nodes, pages, sketches, page, class, sketch)
+    let mut index = Index {
+        settings,
+        nodes,
+        pages,
+    };
+    answer_number(add_page::add::add(&mut index, sketches, page, class, sketch))
 }
 
 #[unsafe(no_mangle)]
@@ -68,7 +73,12 @@ pub extern "C" fn vetch_drop(
     ensures on_store { OnStore (drop page) (tables settings.old nodes.old pages.old sketches.now []) result (tables settings.new nodes.new pages.new sketches.now []) }
     ensures model { outcome result (tables settings.new nodes.new pages.new sketches.now []) ≡ drop_page (tables settings.old nodes.old pages.old sketches.now []) page }
 {
-    drop_page::drop::drop_page(settings, nodes, pages, sketches, page)
+    let mut index = Index {
+        settings,
+        nodes,
+        pages,
+    };
+    answer_number(drop_page::drop::drop_page(&mut index, sketches, page))
 }
 
 #[tactic(auto, unfolding(rights::specs::Changes::change_meant))]

@@ -63,7 +63,7 @@ pub fn group_of(b: u32, v: u8, i: usize) -> u8
     ((v as u32 >> (b as usize * i)) & mask) as u8
 }
 
-// n symbols out of bytes, written to the beginning of out.
+// n symbols out of bytes, written to the beginning of out. Byte and group are counted along: i / z and i % z would divide at each symbol.
 #[tactic(auto, unfolding(meaning::specs::Sketch::unpack))]
 pub fn unpack_into(b: u32, n: usize, bytes: &[u8], out: &mut [u8])
     requires bits { Bits b }

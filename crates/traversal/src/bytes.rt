@@ -6,8 +6,8 @@ ghost use Rattle.traversal.specs.Bytes.{BlockBytes};
 
 use layout::Header;
 
-// The bytes are the first n of the array.
-#[derive(Clone, Copy)]
+// The bytes are the first n of the array: fixed memory inside a call, since a search takes no heap.
+#[derive(Clone, Copy, Debug, PartialEq, Eq)]
 pub struct Packed {
     pub bytes: [u8; 64],
     pub n: usize,
