@@ -63,7 +63,8 @@ impl Rows {
     }
 }
 
-// Writes the packed bytes of block j of a page's row, at the beginning. Symbols are taken modulo 2^b, so that every table has such bytes.
+// Writes the packed bytes of block j of a page's row, at the beginning of an array of fixed length, since a call allocates nothing.
+// Symbols are taken modulo 2^b, so that every table has such bytes.
 #[tactic(auto, unfolding(meaning::specs::Forest::block_bytes, crate::specs::RowBytes::row_bytes))]
 pub fn row_bytes(bytes: &mut [u8; 64], h: Header, sketches: &[u8], p: usize, j: usize)
     requires header_limits { HeaderLimits h }
@@ -81,7 +82,7 @@ pub fn row_bytes(bytes: &mut [u8; 64], h: Header, sketches: &[u8], p: usize, j: 
     }
 }
 
-// The packed bytes of block j of a sketch, at the beginning.
+// The packed bytes of block j of a sketch, at the beginning of an array of fixed length; how many, `Rows` says.
 #[tactic(auto, unfolding(meaning::specs::Forest::block_bytes, meaning::specs::Forest::bytes_of_sketch))]
 pub fn block_bytes(h: Header, sketch: &[u8], j: usize) -> [u8; 64]
     requires header_limits { HeaderLimits h }

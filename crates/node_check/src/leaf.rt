@@ -33,7 +33,7 @@ pub fn kind_of(nodes: &[u32], cap: usize, x: usize) -> Option<Kind>
     }
 }
 
-// Are the first `depth` bytes of page p those of the path?
+// Are the first `depth` bytes of page p those of the path? An array with a depth: a path grows in the fixed memory of one walk.
 #[tactic(auto, unfolding(crate::specs::Leaf::on_path, meaning::specs::Lists::upto))]
 fn is_on_path(scope: &Scope<'_>, path: &[u8; 64], depth: usize, p: usize) -> bool
     requires p_lt_pages { p < scope.now.block.pages }

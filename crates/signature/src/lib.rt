@@ -31,7 +31,7 @@ pub fn signature_of(b: u32, row: &[u8]) -> u32
     s
 }
 
-// The distance of two signatures: four entries of the table of byte distances.
+// The distance of two signatures: four entries of the table of byte distances, one for each byte of the word.
 #[tactic(auto, unfolding(crate::specs::Distance::signature_distance, meaning::specs::Lists::sum, meaning::specs::Lists::from, meaning::specs::Lists::upto, meaning::specs::Sketch::group))]
 pub fn signature_distance(table: &Distances, b: u32, s: u32, t: u32) -> u32
     requires bits { Bits b }

@@ -6,6 +6,8 @@ ghost use Rattle.sketch.specs.Settings.{Bits};
 
 use crate::limits::{packed_length, per_byte};
 
+// `Bits b` stays a clause: b comes as a u32 from C and as a usize in the header, so that each call would make a type of it anew.
+
 // How many symbols byte k of a packing of n symbols holds.
 #[tactic(auto, unfolding(meaning::specs::Sketch::symbols_at))]
 pub fn symbols_at(b: u32, n: usize, k: usize) -> usize

@@ -1,4 +1,5 @@
-// The walk over one block's trie. It ends on any tables: each step, node and page draws on a budget.
+// The walk over one block's trie. It ends on any tables: each step, node and page draws on a budget. No twin of a search's walk, which
+// stops at each leaf, draws on a radius and keeps no path: one function for both would take every step from its parameter.
 ghost use Rattle.std.specs.Prelude.{◌≡◌, ◌+◌, ◌*◌, ◌-◌, ◌≤◌, ◌<◌, length};
 ghost use Rattle.layout.specs.Tables.{NodeTable};
 ghost use Rattle.children.specs.Order.{entered, past_child};
@@ -55,6 +56,7 @@ fn test_below(scope: &Scope<'_>, map: &mut [u32], root: usize, left: u32, live: 
         left,
         pages: live,
     };
+    // Fixed memory inside a call: a trie has at most 64 levels.
     let mut stack = [frame; 64];
     let mut path = [0u8; 64];
     for _turn in 0..layout::nodes::STEPS * (cap + 1) {

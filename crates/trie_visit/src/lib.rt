@@ -26,7 +26,7 @@ struct Child {
     link: u32,
 }
 
-// Where a visit leads.
+// Where a visit leads. An enum and no closure for each: the walk alone has the stack that a move changes.
 #[derive(Clone, Copy, Debug, PartialEq, Eq)]
 pub enum Move {
     // to the next chain, by its first link
