@@ -1,5 +1,5 @@
 // Where a page's bytes lead in one block's trie.
-ghost use Rattle.std.specs.Prelude.{◌≡◌, ◌≤◌, ◌<◌, length};
+ghost use Rattle.std.specs.Prelude.{◌≡◌, ◌≤◌, ◌<◌, length, true};
 ghost use Rattle.layout.specs.Tables.{NodeTable};
 ghost use Rattle.trie.specs.Descend.{step_to, StepInside, descend_to, Inside, passed_at, noted, Noted, level_of};
 
@@ -54,13 +54,28 @@ pub enum Reach {
     Broken,
 }
 
-// Down from a root by the bytes, a level for each.
-#[tactic(auto, unfolding(crate::specs::Descend::descend_to))]
-pub fn descend_to(nodes: &[u32], cap: usize, root: usize, bytes: &[u8]) -> Reach
+// A node that a way down passes, and the slot that links to it, 0 at the root.
+#[derive(Clone, Copy, Debug, PartialEq, Eq)]
+pub struct Passed {
+    pub node: u32,
+    pub slot: u32,
+}
+
+// Down from a root by the bytes, a level for each; with NOTES, each inner node passed is noted at its level.
+#[tactic(auto, unfolding(crate::specs::Descend::descend_to, crate::specs::Descend::passed_at))]
+fn walk<const NOTES: bool>(
+    nodes: &[u32],
+    cap: usize,
+    root: usize,
+    bytes: &[u8],
+    path: &mut [Passed],
+) -> Reach
     requires node_table { NodeTable cap nodes.now }
     requires root_lt_cap { root < cap }
+    requires room { NOTES ≡ true → length bytes.now ≤ length path.old }
     ensures value { result ≡ descend_to nodes.now cap root bytes.now }
     ensures inside { Inside cap (length bytes.now) result }
+    ensures path { NOTES ≡ true → Noted (noted path.new) (passed_at nodes.now cap root bytes.now) (level_of result) }
 {
     let mut n = root;
     let mut slot = 0;
@@ -68,6 +83,12 @@ pub fn descend_to(nodes: &[u32], cap: usize, root: usize, bytes: &[u8]) -> Reach
     loop {
         match step_to(nodes, cap, bytes, n, level) {
             Step::Child { slot: s, child } => {
+                if NOTES {
+                    path[level] = Passed {
+                        node: n as u32,
+                        slot: slot as u32,
+                    };
+                }
                 n = child;
                 slot = s;
                 level += 1;
@@ -91,15 +112,17 @@ pub fn descend_to(nodes: &[u32], cap: usize, root: usize, bytes: &[u8]) -> Reach
     }
 }
 
-// A node that a way down passes, and the slot that links to it, 0 at the root.
-#[derive(Clone, Copy, Debug, PartialEq, Eq)]
-pub struct Passed {
-    pub node: u32,
-    pub slot: u32,
+// The way down, with nothing noted.
+pub fn descend_to(nodes: &[u32], cap: usize, root: usize, bytes: &[u8]) -> Reach
+    requires node_table { NodeTable cap nodes.now }
+    requires root_lt_cap { root < cap }
+    ensures value { result ≡ descend_to nodes.now cap root bytes.now }
+    ensures inside { Inside cap (length bytes.now) result }
+{
+    walk::<false>(nodes, cap, root, bytes, &mut [])
 }
 
-// The same way; each inner node passed is noted at its level.
-#[tactic(auto, unfolding(crate::specs::Descend::descend_to, crate::specs::Descend::passed_at))]
+// The same way, with its nodes noted.
 pub fn trace_to(
     nodes: &[u32],
     cap: usize,
@@ -114,35 +137,5 @@ pub fn trace_to(
     ensures inside { Inside cap (length bytes.now) result }
     ensures path { Noted (noted path.new) (passed_at nodes.now cap root bytes.now) (level_of result) }
 {
-    let mut n = root;
-    let mut slot = 0;
-    let mut level = 0;
-    loop {
-        match step_to(nodes, cap, bytes, n, level) {
-            Step::Child { slot: s, child } => {
-                path[level] = Passed {
-                    node: n as u32,
-                    slot: slot as u32,
-                };
-                n = child;
-                slot = s;
-                level += 1;
-            }
-            Step::Leaf => {
-                return Reach::Leaf(Reached {
-                    node: n,
-                    slot,
-                    level,
-                });
-            }
-            Step::Gap { slot } => {
-                return Reach::Gap(Reached {
-                    node: n,
-                    slot,
-                    level,
-                });
-            }
-            Step::Broken => return Reach::Broken,
-        }
-    }
+    walk::<true>(nodes, cap, root, bytes, path)
 }
