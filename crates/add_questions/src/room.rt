@@ -13,13 +13,20 @@ use trie::span::enough_free;
 use trie_room::needed::nodes_needed;
 
 // How many nodes the trie of block j needs.
-fn block_needs(view: View<'_>, thresholds: &[u32], h: Header, sketch: &[u8], j: usize) -> Option<usize>
+fn block_needs(
+    view: View<'_>,
+    thresholds: &[u32],
+    h: Header,
+    sketch: &[u8],
+    j: usize,
+) -> Option<usize>
     requires lent { Lent h view.nodes.now view.pages.now view.sketches.now }
     requires thresholds_len { length thresholds.now ≡ 64 }
     requires fits { Fits h sketch.now }
     requires j_lt_q { j < h.q }
     ensures { result ≡ block_needs (with_thresholds h thresholds.now) view.entry.nodes.now view.entry.pages.now view.entry.sketches.now sketch.now j }
 {
+    // An array and not a Vec, since there is no heap; what is called gets the block's part of it.
     let bytes = block_bytes(h, sketch, j);
     let block = block_of(h, j);
     let rows = rows_of(h, j);
@@ -53,7 +60,13 @@ fn all_needed(view: View<'_>, thresholds: &[u32], h: Header, sketch: &[u8]) -> O
 
 // Are so many free, from the free link on?
 #[tactic(auto, unfolding(layout::specs::Lengths::nodes_length))]
-pub fn room(view: View<'_>, thresholds: &[u32], h: Header, sketch: &[u8], free: u32) -> Result<(), Stop>
+pub fn room(
+    view: View<'_>,
+    thresholds: &[u32],
+    h: Header,
+    sketch: &[u8],
+    free: u32,
+) -> Result<(), Stop>
     requires lent { Lent h view.nodes.now view.pages.now view.sketches.now }
     requires thresholds_len { length thresholds.now ≡ 64 }
     requires fits { Fits h sketch.now }
