@@ -15,7 +15,7 @@ use Rattle.layout.specs.Header.{bare}
 use Rattle.layout.specs.Limits.{HeaderLimits}
 use Rattle.descent.specs.declared.Cursor.{Cursor}
 use Rattle.descent.specs.declared.Descents.{Descents}
-use Rattle.descent.specs.Cursor.{Inside, AllInside, ended, arrive, descended, drawn, drawn_all, left_of, Descended, leaf_of}
+use Rattle.descent.specs.Cursor.{Inside, AllInside, ended, arrive, descended, drawn, drawn_all, left_of, Descended, leaf_of, AllLeaves}
 use Rattle.meaning.proofs.Each.{each-put}
 use Rattle.descent.proofs.Steps.{inside-arrive}
 use Rattle.block_leaves.specs.Leaves.{block_size, Packed, Started, leaf_in, drawn_in, drawn_from, Leaves}
@@ -144,24 +144,6 @@ module _ (h : Header) (N bytes : List ℕ) where
         (omega (arith, size-most h limits j l, limits.blocks-most)));
   }
 
--- ---- collected, from where the descents ended
-module _ (h : Header) (ends : List Cursor) where
-  pub record LeavesTo (firsts : List ℕ) (j : ℕ) : Type 0 where
-    pub most : j ≤ h.q
-    pub long : length firsts ≡ 8
-    pub each : (i : ℕ) → i < j → get_or firsts i 0 ≡ leaf_of (get_or ends i (ended 0))
-
-  pub leaves_none : (firsts : List ℕ) → length firsts ≡ 8 → LeavesTo firsts 0
-  leaves_none firsts e = record { most = omega arith; long = e; each = λ i l. absurd (omega arith) }
-
-  pub leaves-next : {firsts : List ℕ} {j : ℕ} → LeavesTo firsts j → j < h.q → h.q ≤ 8 → (first : ℕ) → first ≡ leaf_of (get_or ends j (ended 0))
-      → LeavesTo (set firsts j first) (j + 1)
-  leaves-next {firsts} {j} t more few first e = record {
-    most = omega arith;
-    long = length-set firsts j first ∙ t.long;
-    each = each-put (λ i f. f ≡ leaf_of (get_or ends i (ended 0))) 0 firsts j first (omega (arith, t.long)) e t.each;
-  }
-
 -- ---- led to their leaves
 module _ (h : Header) (N x bytes : List ℕ) (limits : HeaderLimits h) (count : length x ≡ h.m) (p : Packed h x bytes)
     (cs : List Cursor) (s : Started h N bytes cs) where
@@ -199,9 +181,9 @@ module _ (h : Header) (N x bytes : List ℕ) (limits : HeaderLimits h) (count : 
       ap (λ c. drawn_all N h.nodes bytes (take (suc k) c)) (drop-cons cs j (ended 0) (omega (arith, s.long, limits.blocks-most)))
       ∙ ap₂ ◌+◌ (drawn-led j (omega arith)) (drawn-from k (suc j) (omega arith))
 
-  pub leaves_all : {firsts : List ℕ} {j budget : ℕ} (found : Descents) → Descended N h.nodes bytes cs h.q budget found
-      → LeavesTo h found.cursors firsts j → h.q ≤ j → Leaves h N x budget record { firsts = firsts; left = found.left }
-  leaves_all {budget = budget} found d t end = record {
+  pub leaves_all : {firsts : List ℕ} {budget : ℕ} (found : Descents) → Descended N h.nodes bytes cs h.q budget found
+      → AllLeaves 8 found.cursors h.q firsts → Leaves h N x budget record { firsts = firsts; left = found.left }
+  leaves_all {budget = budget} found d t = record {
     left = d.left ∙ ap (left_of budget) (drawn-from h.q 0 (omega arith));
-    each = λ k e i l. t.each i (omega (arith, t.most)) ∙ ap leaf_of (d.each k e i l) ∙ led i l;
+    each = λ k e i l. t.each i l ∙ ap leaf_of (d.each k e i l) ∙ led i l;
   }

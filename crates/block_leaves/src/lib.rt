@@ -7,10 +7,11 @@ ghost use Rattle.layout.specs.Nodes.{node_words};
 ghost use Rattle.layout.specs.Limits.{HeaderLimits};
 ghost use Rattle.block_leaves.specs.Leaves.{Packed, Started, Leaves};
 
-use descent::{Cursor, Descents};
+use descent::Cursor;
 use layout::Header;
 
 // For each block the link of the first page of its leaf, and what is left of the nodes that may be read: none where they were spent.
+// At most eight blocks: a fixed array, of which q places are taken.
 #[derive(Clone, Copy, Debug, PartialEq, Eq)]
 pub struct Ends {
     pub firsts: [u32; 8],
@@ -63,10 +64,8 @@ pub fn leaves(nodes: &[u32], h: Header, sketch: &[u8], budget: u32) -> Ends
     pack_blocks(h, sketch, &mut bytes);
     let started = start_all(nodes, h, &bytes);
     let found = descent::descend(nodes, h.nodes, &bytes, started, h.q, budget);
-    let Descents { cursors, left } = found;
-    let mut firsts = [0u32; 8];
-    for j in 0..h.q {
-        firsts[j] = descent::leaf_of(cursors[j]);
+    Ends {
+        firsts: descent::leaves_of(found.cursors, h.q),
+        left: found.left,
     }
-    Ends { firsts, left }
 }

@@ -15,9 +15,8 @@ use Rattle.layout.proofs.Rows.{length-row}
 use Rattle.sketch.proofs.BlockEnds.{block-ends}
 use Rattle.sketch.proofs.Places.{part-range}
 use Rattle.sketch_laws.proofs.Packing.{pack-length, packed-most, pack-byte}
-use Rattle.sketch.specs.Reduced.{reduced}
-use Rattle.sketch.proofs.Reduced.{reduced-range}
-use Rattle.blocks.specs.RowBytes.{row_bytes}
+use Rattle.blocks.specs.RowBytes.{reduced, row_bytes}
+use Rattle.blocks.proofs.RowBytes.{reduced-range}
 
 module _ (s : Settings) (j : ℕ) (h : j < s.blocks) where
   pub bytes_most : block_bytes s j ≤ s.symbols

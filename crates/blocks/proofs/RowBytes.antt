@@ -2,13 +2,17 @@
 use mathlib.Core.Path.{◌≡◌, refl, sym, ap, ◌∙◌}
 use mathlib.Core.Logic.{by_cases}
 use mathlib.Core.Bool.{true}
-use mathlib.Core.List.{List}
-use Prim.Native.Nat.{ℕ, zero, suc, ◌+◌, ◌-◌, ◌*◌, ◌^◌, ◌<◌, ◌≤◌, min}
-use native.Mathlib.Nat.{zero-mod}
+use mathlib.Core.List.{List, [], ◌∷◌}
+use Prim.Native.Nat.{ℕ, zero, suc, ◌+◌, ◌-◌, ◌*◌, ◌%◌, ◌^◌, ◌<◌, ◌≤◌, min}
+use native.Mathlib.Nat.{mod-lt, mod-eq_of_lt, zero-mod}
 use native.Mathlib.Decide.{dec_lt, dec_le}
 use native.Mathlib.Omega.{arith}
-use lib.ListN.{length, take, drop, drop_of_length-le, get_or-eq_default}
+use lib.Dec.{ltb}
+use lib.Pow.{pow_pos}
+use lib.ListN.{length, get_or, take, drop, drop_of_length-le, get_or-eq_default}
 use lib.Seq.{drop-drop, drop-cons, take-nil}
+use borrow.Author.Tests.{ltb-true}
+use Rattle.meaning.specs.Lists.{all}
 use Rattle.meaning.specs.Sketch.{in_range, per_byte, pack_byte, block, block_start, block_length}
 use Rattle.meaning.specs.Trie.{byte_at}
 use Rattle.meaning.specs.Ledger.{Settings}
@@ -18,16 +22,43 @@ use Rattle.sketch.specs.Settings.{Bits}
 use Rattle.sketch.proofs.Lists.{window}
 use Rattle.sketch.proofs.BlockEnds.{block-ends}
 use Rattle.sketch.proofs.Width.{z-most, z-fits}
-use Rattle.sketch_laws.proofs.Packing.{pack-at, packed-most}
+use Rattle.sketch_laws.proofs.Packing.{pack-at, packed-most, range-of}
+use Rattle.meaning.proofs.Lists.{and_first, and_second}
 use Rattle.blocks.specs.Tables.{RowTable}
 use Rattle.blocks.specs.Packed.{row_byte, page_byte, level_at}
-use Rattle.sketch.specs.Reduced.{reduced}
-use Rattle.sketch.proofs.Reduced.{reduced-same, reduced-take, reduced-drop}
-use Rattle.blocks.specs.RowBytes.{row_bytes, rows_of}
+use Rattle.blocks.specs.RowBytes.{reduced, row_bytes, rows_of}
 
 module _ (b : ℕ) where
+  -- symbols in range stay as they are
+  pub reduced-same : (xs : List ℕ) → in_range b xs ≡ true → reduced b xs ≡ xs
+  unfolding reduced in_range all
+  reduced-same [] r = refl
+  reduced-same (x ∷ xs) r =
+      rw (mod-eq_of_lt (ltb-true x (2 ^ b) (and_first (ltb x (2 ^ b)) (in_range b xs) r)), reduced-same xs (and_second (ltb x (2 ^ b)) (in_range b xs) r))
+
+  reduced-at : (xs : List ℕ) (i : ℕ) → get_or (reduced b xs) i 0 ≡ get_or xs i 0 % 2 ^ b
+  unfolding reduced
+  reduced-at [] i = sym (zero-mod (2 ^ b))
+  reduced-at (x ∷ xs) zero = refl
+  reduced-at (x ∷ xs) (suc i) = reduced-at xs i
+
+  pub reduced-range : (xs : List ℕ) → in_range b (reduced b xs) ≡ true
+  reduced-range xs = range-of b (reduced b xs) (λ i l. rw (reduced-at xs i) (mod-lt (get_or xs i 0) (pow_pos b)))
+
+  reduced-take : (n : ℕ) (xs : List ℕ) → take n (reduced b xs) ≡ reduced b (take n xs)
+  unfolding reduced
+  reduced-take zero xs = refl
+  reduced-take (suc n) [] = refl
+  reduced-take (suc n) (x ∷ xs) = rw (reduced-take n xs)
+
+  reduced-drop : (n : ℕ) (xs : List ℕ) → drop n (reduced b xs) ≡ reduced b (drop n xs)
+  unfolding reduced
+  reduced-drop zero xs = refl
+  reduced-drop (suc n) [] = refl
+  reduced-drop (suc n) (x ∷ xs) = reduced-drop n xs
+
   -- a byte of the table packs its symbols
-  pub row-packs : (S : List ℕ) (i n : ℕ) → row_byte b S i n ≡ pack_byte b (reduced b (take n (drop i S)))
+  row-packs : (S : List ℕ) (i n : ℕ) → row_byte b S i n ≡ pack_byte b (reduced b (take n (drop i S)))
   unfolding row_byte pack_byte reduced
   row-packs S i zero = refl
   row-packs S i (suc n) =

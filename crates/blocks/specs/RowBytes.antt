@@ -1,12 +1,14 @@
 -- What belongs to block j of a page: where its trie lies, where its symbols stand in a row, and its packed bytes.
-use Rattle.std.specs.Prelude.{ℕ, List}
+use Rattle.std.specs.Prelude.{ℕ, ◌%◌, ◌^◌, List, map}
 use Rattle.meaning.specs.Sketch.{per_byte, block_start, block_length}
 use Rattle.meaning.specs.Ledger.{Settings}
 use Rattle.meaning.specs.Forest.{block_bytes, bytes_of_sketch}
 use Rattle.layout.specs.Pages.{next_at, row_of}
 use Rattle.layout.specs.declared.Block.{Block}
-pub use Rattle.sketch.specs.Reduced.{reduced}
 use Rattle.blocks.specs.declared.Rows.{Rows}
+
+unfoldable pub reduced : ℕ → List ℕ → List ℕ
+reduced b xs = map (λ x. x % 2 ^ b) xs
 
 -- the packed bytes of page p in block j
 unfoldable pub row_bytes : Settings → ℕ → List ℕ → ℕ → List ℕ

@@ -14,7 +14,8 @@ pub record SketchTable (pcap : ℕ) (v : Level) (S : List ℕ) : Type 0 where
   pub narrow : v.bits ≤ 8
   pub fits : v.bits * v.count ≤ 8
 
--- a table with a row for each page, in which a block's symbols lie, and as many as are packed to a byte fit one
+-- a table with a row for each page, in which a block's symbols lie, and as many as are packed to a byte fit one. A clause beside the
+-- value: its first part ties it to a lent table, so that each function would still ask it if the rest stood in the type
 pub record RowTable (pcap : ℕ) (r : Rows) (S : List ℕ) : Type 0 where
   pub long : pcap * r.symbols ≤ length S
   pub inside : r.start + r.length ≤ r.symbols

@@ -12,6 +12,8 @@ use layout::{Block, Header};
 use sketch::blocks::{block_length, block_start};
 use sketch::limits::{packed_length, per_byte};
 
+// A clause ties each to the lent sketch table (`SketchTable`, `RowTable`): the table is a slice, and no part of the value.
+
 // Where the symbols of one block stand in a page's row of `symbols` symbols: `length` of them from place `start`, of `bits` bits each.
 // They are packed into `bytes` bytes, `per` to a byte.
 #[derive(Clone, Copy)]

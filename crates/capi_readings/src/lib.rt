@@ -12,7 +12,8 @@ ghost use Rattle.search_laws.specs.Answer.{AnsweredBy};
 ghost use Rattle.fresh_tables.specs.Lengths.{lengths_of};
 
 use layout::Header;
-use lent::View;
+use lent::{Lists, View};
+use refusals::number_and_value;
 
 #[unsafe(no_mangle)]
 pub extern "C" fn vetch_lengths(
@@ -72,11 +73,20 @@ pub extern "C" fn vetch_search(
     ensures promised { Promised (reading (search reader radius sketch.now (lists output.old distances.old))) (tables settings.now nodes.now pages.now sketches.now working.old) (with_lists result count.new (lists output.new distances.new)) (tables settings.now nodes.now pages.now sketches.now working.new) }
     ensures model { AnsweredBy (tables settings.now nodes.now pages.now sketches.now working.old) reader radius sketch.now (lists output.old distances.old) result count.new (lists output.new distances.new) }
 {
-    let found = search::search::search(
-        settings, nodes, pages, sketches, working, reader, radius, sketch, output, distances,
-    );
-    *count = found.count;
-    found.number
+    let view = View {
+        settings,
+        nodes,
+        pages,
+        sketches,
+    };
+    let mut two = Lists {
+        pages: output,
+        distances,
+    };
+    let answer = search::search::search(view, working, reader, radius, sketch, &mut two);
+    let (number, found) = number_and_value(answer);
+    *count = found;
+    number
 }
 
 // An exported function cannot return a part of a slice: the row is given by its start and length in the sketch table.

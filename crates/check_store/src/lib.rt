@@ -30,7 +30,7 @@ fn test_store(view: View<'_>, map: &mut [u32], h: Header, free: u32) -> bool
     let Some(left) = free::test_free(view.nodes, h.nodes, free) else {
         return false;
     };
-    windows::test_windows(view.nodes, view.pages, view.sketches, map, h, left, live)
+    windows::test_windows(view, map, h, left, live)
 }
 
 // Past 6 the answer is yes exactly where the store is sound, and the needed part of the working table is left zero.

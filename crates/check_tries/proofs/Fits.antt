@@ -22,7 +22,7 @@ use Rattle.blocks.specs.RowBytes.{rows_of, block_of}
 use Rattle.blocks.proofs.RowBytes.{rows-table}
 use Rattle.blocks.proofs.Tables.{roomy}
 use Rattle.node_check.specs.declared.mark.Window.{Window}
-use Rattle.trie_visit.specs.Visit.{given, Fitting}
+use Rattle.node_check.specs.Given.{given, Readable, Fitting}
 use Rattle.trie_check.specs.Trie.{test_trie}
 use Rattle.check_tries.specs.Windows.{block_given}
 
@@ -44,9 +44,9 @@ module _ (s : Settings) (N P S : List ℕ) (lent : Lent (header_of s) N P S) whe
         byte_of s.bits (block_length s.symbols s.blocks j) 0 bits
         (omega (arith, block-some s.symbols s.blocks j (omega (arith, lent.limits.blocks-least)) lent.limits.blocks-fit))
 
-    pub fitting : (w : Window) (map : List ℕ) → w.size ≤ 32 * length map → Fitting (block_given s N P S w j) map
+    readable : (w : Window) → Readable (block_given s N P S w j)
     unfolding block_given sketches_length rows_of block_bytes
-    fitting w map room = record {
+    readable w = record {
       nodes = (roomy s N P S lent).nodes;
       pages = (roomy s N P S lent).pages j l;
       behind = omega arith;
@@ -55,14 +55,16 @@ module _ (s : Settings) (N P S : List ℕ) (lent : Lent (header_of s) N P S) whe
       symbols = omega (arith, block-ends s.symbols s.blocks j l, lent.limits.symbols-most);
       bytes = refl;
       some = bytes-some;
-      bitmap = room;
     }
 
-    -- the block and its rows, as the code reads them
-    pub fitting-block : (b : Block) → b ≡ block_of s j → (r : Rows) → r ≡ rows_of s j → (w : Window) (map : List ℕ) → w.size ≤ 32 * length map →
-        Fitting (given N P S b r w) map
+    pub fitting : (w : Window) (map : List ℕ) → w.size ≤ 32 * length map → Fitting (block_given s N P S w j) map
     unfolding block_given
-    fitting-block b e r f w map room = rw (e, f) (fitting w map room)
+    fitting w map room = record { readable = readable w; bitmap = room }
+
+    -- the block and its rows, as the code reads them
+    pub readable-block : (b : Block) → b ≡ block_of s j → (r : Rows) → r ≡ rows_of s j → (w : Window) → Readable (given N P S b r w)
+    unfolding block_given
+    readable-block b e r f w = rw (e, f) (readable w)
 
     pub root-inside : j < s.nodes
     root-inside = omega (arith, lent.limits.nodes-least)

@@ -25,7 +25,7 @@ use Rattle.trie_laws.specs.Walk.{sound_walk}
 use Rattle.blocks.specs.RowBytes.{row_bytes, rows_of}
 use Rattle.blocks.proofs.RowBytes.{level-byte}
 use Rattle.node_check.specs.declared.mark.Window.{Window}
-use Rattle.trie_visit.specs.Visit.{Given}
+use Rattle.node_check.specs.Given.{Given}
 use Rattle.trie_check.specs.Trie.{tested, test_trie}
 use Rattle.trie_check_laws.specs.Uses.{uses}
 use Rattle.trie_check_laws.specs.Found.{Reads, Found, Marked, one}

@@ -11,7 +11,7 @@ use lib.Dec.{ltb, eqb}
 use lib.ListN.{length}
 use Rattle.meaning.specs.Ledger.{Settings}
 use Rattle.words.specs.Bits.{zeroed}
-use Rattle.trie_visit.specs.Visit.{Given}
+use Rattle.node_check.specs.Given.{Given}
 use Rattle.trie_check.specs.Trie.{tested, test_trie}
 use Rattle.check_tries.specs.Windows.{Passed, passed, on_tested, on_yes, window_at, blocks_from, block_given, test_window, windows_from, test_windows}
 

@@ -5,7 +5,7 @@ use Rattle.meaning.specs.Ledger.{Settings}
 use Rattle.words.specs.Bits.{zeroed}
 use Rattle.blocks.specs.RowBytes.{rows_of, block_of}
 use Rattle.node_check.specs.declared.mark.Window.{Window}
-use Rattle.trie_visit.specs.Visit.{Given, given}
+use Rattle.node_check.specs.Given.{Given, given}
 use Rattle.trie_check.specs.Trie.{Tested, test_trie}
 
 abbrev pub window_at : ℕ → ℕ → Window

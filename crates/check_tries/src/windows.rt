@@ -8,18 +8,17 @@ ghost use Rattle.check_tries.specs.Windows.{passed, blocks_from, block_given, te
 
 use blocks::{block_of, rows_of};
 use layout::Header;
+use lent::View;
 use node_check::mark::Window;
+use node_check::scope::Scope;
 use trie_check::test::test_trie;
-use trie_visit::Scope;
 
 // How many passes reach all nodes.
 const WINDOWS: usize = 8;
 
 // The trie of block j.
 fn test_block(
-    nodes: &[u32],
-    pages: &[u32],
-    sketches: &[u8],
+    view: View<'_>,
     map: &mut [u32],
     h: Header,
     window: Window,
@@ -27,38 +26,39 @@ fn test_block(
     left: u32,
     live: u32,
 ) -> Option<u32>
-    requires lent { Lent h nodes.now pages.now sketches.now }
+    requires lent { Lent h view.nodes.now view.pages.now view.sketches.now }
     requires size_bound { window.size ≤ 32 * length map.old }
     requires j_lt_q { j < h.q }
-    ensures { tested map.new result ≡ test_trie (block_given (bare h) nodes.now pages.now sketches.now window j) j map.old left live }
+    ensures { tested map.new result ≡ test_trie (block_given (bare h) view.entry.nodes.now view.entry.pages.now view.entry.sketches.now window j) j map.old left live }
 {
     let scope = Scope {
+        nodes: view.nodes,
+        pages: view.pages,
+        sketches: view.sketches,
         block: block_of(h, j),
         rows: rows_of(h, j),
         window,
     };
-    test_trie(nodes, pages, sketches, map, scope, j, left, live)
+    test_trie(&scope, map, j, left, live)
 }
 
 // The tries of all blocks: `budget` nodes together, each with `live` pages.
 #[tactic(auto, unfolding(crate::specs::Windows::blocks_from))]
 fn test_blocks(
-    nodes: &[u32],
-    pages: &[u32],
-    sketches: &[u8],
+    view: View<'_>,
     map: &mut [u32],
     h: Header,
     window: Window,
     budget: u32,
     live: u32,
 ) -> bool
-    requires lent { Lent h nodes.now pages.now sketches.now }
+    requires lent { Lent h view.nodes.now view.pages.now view.sketches.now }
     requires size_bound { window.size ≤ 32 * length map.old }
-    ensures { passed map.new result ≡ blocks_from (block_given (bare h) nodes.now pages.now sketches.now window) live h.q 0 map.old budget }
+    ensures { passed map.new result ≡ blocks_from (block_given (bare h) view.entry.nodes.now view.entry.pages.now view.entry.sketches.now window) live h.q 0 map.old budget }
 {
     let mut left = budget;
     for j in 0..h.q {
-        let Some(rest) = test_block(nodes, pages, sketches, map, h, window, j, left, live) else {
+        let Some(rest) = test_block(view, map, h, window, j, left, live) else {
             return false;
         };
         left = rest;
@@ -68,18 +68,16 @@ fn test_blocks(
 
 // One pass, over the nodes from `from` on. The map has a bit for each of them.
 fn test_window(
-    nodes: &[u32],
-    pages: &[u32],
-    sketches: &[u8],
+    view: View<'_>,
     map: &mut [u32],
     h: Header,
     from: usize,
     left: u32,
     live: u32,
 ) -> bool
-    requires lent { Lent h nodes.now pages.now sketches.now }
+    requires lent { Lent h view.nodes.now view.pages.now view.sketches.now }
     requires map_len_bound { length map.old ≤ 2048 }
-    ensures { passed map.new result ≡ test_window (bare h) nodes.now pages.now sketches.now (length map.old) left live from map.old }
+    ensures { passed map.new result ≡ test_window (bare h) view.entry.nodes.now view.entry.pages.now view.entry.sketches.now (length map.old) left live from map.old }
 {
     let words = map.len();
     words::zero_run(map, 0, words);
@@ -87,22 +85,14 @@ fn test_window(
         from,
         size: 32 * words,
     };
-    test_blocks(nodes, pages, sketches, map, h, window, left, live)
+    test_blocks(view, map, h, window, left, live)
 }
 
 // All passes.
-pub fn test_windows(
-    nodes: &[u32],
-    pages: &[u32],
-    sketches: &[u8],
-    map: &mut [u32],
-    h: Header,
-    left: u32,
-    live: u32,
-) -> bool
-    requires lent { Lent h nodes.now pages.now sketches.now }
+pub fn test_windows(view: View<'_>, map: &mut [u32], h: Header, left: u32, live: u32) -> bool
+    requires lent { Lent h view.nodes.now view.pages.now view.sketches.now }
     requires map_len_bound { length map.old ≤ 2048 }
-    ensures { passed map.new result ≡ test_windows (bare h) nodes.now pages.now sketches.now (length map.old) left live map.old }
+    ensures { passed map.new result ≡ test_windows (bare h) view.entry.nodes.now view.entry.pages.now view.entry.sketches.now (length map.old) left live map.old }
 {
     let size = 32 * map.len();
     for k in 0..WINDOWS {
@@ -110,7 +100,7 @@ pub fn test_windows(
         if h.nodes <= from {
             return true;
         }
-        if !test_window(nodes, pages, sketches, map, h, from, left, live) {
+        if !test_window(view, map, h, from, left, live) {
             return false;
         }
     }

@@ -30,7 +30,7 @@ pub struct Frame {
     pub least: u32,
 }
 
-// A step to what is still to come of a frame.
+// A step to what is still to come of a frame. An enum: three things can come next.
 #[derive(Clone, Copy, Debug, PartialEq, Eq)]
 pub enum Step {
     // to the next chain, by its first link

@@ -90,3 +90,8 @@ pub record Descended (nodes : List ℕ) (cap : ℕ) (bytes : List ℕ) (before :
 -- the link of the leaf's first page, 0 for none; one past every page where the descent did not end
 unfoldable pub leaf_of : Cursor → ℕ
 leaf_of c = cond (eqb c.link 0) c.first outside
+
+-- the leaves of the first n descents, in so many places
+pub record AllLeaves (size : ℕ) (cs : List Cursor) (n : ℕ) (links : List ℕ) : Type 0 where
+  pub long : length links ≡ size
+  pub each : (j : ℕ) → j < n → get_or links j 0 ≡ leaf_of (get_or cs j (ended 0))

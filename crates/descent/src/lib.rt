@@ -3,7 +3,7 @@
 #![tactic(auto)]
 
 ghost use Rattle.std.specs.Prelude.{◌≡◌, ◌*◌, ◌<◌, ◌≤◌, length};
-ghost use Rattle.descent.specs.Cursor.{Fits, Inside, AllInside, ended, arrive, advance, going, Descended, leaf_of};
+ghost use Rattle.descent.specs.Cursor.{Fits, Inside, AllInside, ended, arrive, advance, going, Descended, leaf_of, AllLeaves};
 
 use children::cursor::{Child, first_for, look};
 use layout::nodes::{Kind, kind_of};
@@ -18,14 +18,16 @@ pub struct Cursor {
     pub first: u32,
 }
 
-// Descents that have ended, and what they leave of the nodes that may be read: none where the budget was spent.
+// Descents that have ended, and what they leave of the nodes that may be read: none where the budget was spent. Arrays of 16 with a
+// number of them beside: fixed memory inside a call, since a search takes no heap.
 #[derive(Clone, Copy, Debug, PartialEq, Eq)]
 pub struct Descents {
     pub cursors: [Cursor; 16],
     pub left: Option<u32>,
 }
 
-// A link past every page: what a descent gives that meets a link out of order.
+// A link past every page: what a descent gives that meets a link out of order. A number, as any leaf's: the chain that begins there is
+// found broken where it is met.
 const OUTSIDE: u32 = 65536;
 
 // A descent that has ended, at a leaf by the link of its first page.
@@ -154,4 +156,16 @@ pub fn leaf_of(c: Cursor) -> u32
         return OUTSIDE;
     }
     c.first
+}
+
+// The first pages of the leaves that n descents led to, in an array of N.
+pub fn leaves_of<const N: usize>(cursors: [Cursor; 16], n: usize) -> [u32; N]
+    requires { (n ≤ 16) × (n ≤ N) }
+    ensures { AllLeaves N cursors n result }
+{
+    let mut links = [0u32; N];
+    for i in 0..n {
+        links[i] = leaf_of(cursors[i]);
+    }
+    links
 }

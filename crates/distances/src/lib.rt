@@ -75,6 +75,7 @@ const BYTE_DISTANCES: [u8; 2048] = [
 ];
 
 // The table as a value, with the fact that it is the table of byte distances. A search makes it once and lends it to each step.
+#[derive(Drop)]
 pub struct Distances {
     table: [u8; 2048],
     ghost is_table: { table ≡ distance_table },

@@ -31,8 +31,7 @@ use Rattle.children.specs.Places.{place_from, find_place}
 use Rattle.children.specs.Phys.{Phys, no_kid, kid, heads_from, leaf_p, inner_p}
 use Rattle.trie_laws.specs.Sound.{filled, sound_trie, Stands}
 use Rattle.trie.specs.Descend.{step_to, descend, descend_to, passed_at}
-use Rattle.sketch.specs.Reduced.{reduced}
-use Rattle.blocks.specs.RowBytes.{row_bytes}
+use Rattle.blocks.specs.RowBytes.{reduced, row_bytes}
 use Rattle.trie_remove.specs.Take.{take_page}
 use Rattle.trie.specs.Model.{free_child}
 use Rattle.trie_remove.specs.Prune.{prune_up}

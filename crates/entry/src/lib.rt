@@ -14,6 +14,7 @@ use layout::Header;
 use lent::View;
 use refusals::Refusal;
 
+// A test for each table: one for all would be handed the length, and then say nothing of a table.
 #[tactic(auto, unfolding(layout::specs::Lengths::nodes_length))]
 pub fn long_nodes(h: Header, nodes: &[u32]) -> bool
     requires { HeaderLimits h }
@@ -75,7 +76,7 @@ pub fn ask_page(h: Header, pages: &[u32], page: u32, live: bool) -> Result<(), R
     Ok(())
 }
 
-// 5 and 6 of a call that takes all the tables: the opening.
+// 5 and 6 of a call that takes all the tables: the opening. Beside `admit`: other calls are lent no working table.
 #[tactic(auto, unfolding(crate::specs::Entry::entry))]
 pub fn enter(view: View<'_>, working: &[u32]) -> Result<Header, Refusal>
     ensures { numbered result ≡ entry (held_with view.entry working.now) }

@@ -50,6 +50,7 @@ fn state_word(h: Header, x: usize) -> u32
     state.word()
 }
 
+// Not one function with `write_chain`: it would take the word as a closure, whose contract is longer than the loop.
 #[tactic(auto, unfolding(promises::specs::Answers::fresh_state, meaning::specs::Lists::upto))]
 fn write_states(nodes: &mut [u32], h: Header)
     requires { (h.nodes ≤ most_nodes) × (h.nodes + h.nodes ≤ length nodes.old) }

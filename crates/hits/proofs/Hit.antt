@@ -1,6 +1,6 @@
 -- The test of a page, step by step, and that its words and its row lie in the tables.
-use Rattle.std.specs.Prelude.{Some, None}
-use mathlib.Core.Path.{◌≡◌, refl, sym}
+use Rattle.std.specs.Prelude.{Option, Some, None}
+use mathlib.Core.Path.{◌≡◌, refl, sym, ◌∙◌}
 use mathlib.Core.Bool.{Bool, true, false, cond, ◌&&◌, and-false}
 use mathlib.Core.List.{List}
 use mathlib.Core.Logic.{◌≢◌}
@@ -21,7 +21,8 @@ use Rattle.rights.specs.Open.{is_open}
 use Rattle.comparison.specs.Verdicts.{verdict_of}
 use Rattle.signature.proofs.Most.{signature-most}
 use Rattle.hits.specs.Hit.{Test, Fitting, far, is_hit, is_near, near_query, passes, verdict}
-use Rattle.hits.specs.Probes.{filters_of}
+use Rattle.layout.specs.Signature.{signature}
+use Rattle.hits.specs.Probes.{filters_of, signature_for}
 
 -- where signatures cannot tell pages apart
 pub near-all : (h : Header) (pages : List ℕ) (s radius p : ℕ) → filters_of h radius ≡ false → true ≡ is_near h pages s radius p
@@ -98,3 +99,19 @@ verdict-beyond t p = go (passes t p)
     go : (s : Bool) → cond s (Some (far t p)) None ≡ None → s ≡ false
     go true e = let z : ◌≡◌ {A = ℕ} 0 1 = cc in absurd (omega arith)
     go false e = refl
+
+-- ---- the query's signature, where signatures tell pages apart
+module _ (h : Header) (query : List ℕ) (radius : ℕ) (s : Option ℕ) (e : s ≡ signature_for h query radius) where
+  pub telling-none : s ≡ None → filters_of h radius ≡ false
+  telling-none q = go (filters_of h radius) (sym e ∙ q)
+    where
+      go : (t : Bool) → cond t (Some (signature h.b query)) None ≡ None → t ≡ false
+      go true f = let z : ◌≡◌ {A = ℕ} 0 1 = cc in absurd (omega arith)
+      go false f = refl
+
+  pub telling-some : (n : ℕ) → s ≡ Some n → n ≡ signature h.b query
+  telling-some n q = go (filters_of h radius) (sym e ∙ q)
+    where
+      go : (t : Bool) → cond t (Some (signature h.b query)) None ≡ Some n → n ≡ signature h.b query
+      go true f = cc
+      go false f = let z : ◌≡◌ {A = ℕ} 0 1 = cc in absurd (omega arith)

@@ -1,2 +1,3 @@
 pub mod Hit
 pub mod Probes
+pub mod Trials

@@ -1,5 +1,5 @@
 -- What the pages of one search are tested by, worked out once.
-use Rattle.std.specs.Prelude.{ℕ, ◌*◌, ◌≡◌, Bool, List, ltb}
+use Rattle.std.specs.Prelude.{ℕ, ◌*◌, ◌≡◌, Bool, cond, List, ltb, Option, Some, None}
 use Rattle.meaning.specs.Sketch.{per_byte}
 use Rattle.layout.specs.declared.Header.{Header}
 use Rattle.layout.specs.Signature.{signature}
@@ -12,14 +12,17 @@ use Rattle.hits.specs.Hit.{Test, test}
 abbrev pub filters_of : Header → ℕ → Bool
 filters_of h radius = ltb radius (4 * per_byte h.b)
 
+-- the query's signature, where they do
+abbrev pub signature_for : Header → List ℕ → ℕ → Option ℕ
+signature_for h query radius = cond (filters_of h radius) (Some (signature h.b query)) None
+
 abbrev pub probe_of : Header → Classes → List ℕ → ℕ → Probe
 probe_of h classes query radius = record {
   header = h;
   classes = classes;
   radius = radius;
   shape = shape_of h.b h.m;
-  signature = signature h.b query;
-  filters = filters_of h radius;
+  signature = signature_for h query radius;
 }
 
 -- a probe that was made for the query

@@ -23,26 +23,26 @@ use Rattle.journal_answers.specs.Answers.{page_capacity, node_capacity}
 use Rattle.journal_calls.specs.Commands.{found_after, Executed}
 
 -- a call that gives a number alone
-module _ (T : Tables) (found : Output) (r : ℕ) {n k : ℕ} (e : n ≡ r) (z : k ≡ 0) where
+module _ (T : Tables) (found : Output) (r : ℕ) {n k : ℕ} (e : n ≡ r) (z : n ≡ 0 → k ≡ 0) where
   pub open-executed : (b m q t : ℕ) (settings nodes pages : List ℕ) → OpenPromise (settings_given b m q page_capacity node_capacity (replicate 64 t)) T r settings nodes pages
       → Executed (opens b m q t) T found n k (with_opening T settings nodes pages) found
   unfolding call_of found_after
-  open-executed b m q t settings nodes pages p = record { promised = (rw e p, refl); output = refl; inside = λ _. (omega (arith, z), omega (arith, z)) }
+  open-executed b m q t settings nodes pages p = record { promised = (rw e p, refl); output = refl; inside = λ a. (omega (arith, z a), omega (arith, z a)) }
 
   module _ (settings nodes pages : List ℕ) where
     pub add-executed : (sketches : List ℕ) (p c : ℕ) (x : List ℕ) → AddPromise (to_store T) p c x r (tables settings nodes pages sketches [])
         → Executed (adds p c x) T found n k (tables settings nodes pages sketches T.working) found
     unfolding call_of found_after
-    add-executed sketches p c x h = record { promised = (rw e h, refl); output = refl; inside = λ _. (omega (arith, z), omega (arith, z)) }
+    add-executed sketches p c x h = record { promised = (rw e h, refl); output = refl; inside = λ a. (omega (arith, z a), omega (arith, z a)) }
 
     pub drop-executed : (p : ℕ) → DropPromise (to_store T) p r (tables settings nodes pages T.sketches [])
         → Executed (drops p) T found n k (tables settings nodes pages T.sketches T.working) found
     unfolding call_of found_after
-    drop-executed p h = record { promised = (rw e h, refl); output = refl; inside = λ _. (omega (arith, z), omega (arith, z)) }
+    drop-executed p h = record { promised = (rw e h, refl); output = refl; inside = λ a. (omega (arith, z a), omega (arith, z a)) }
 
   pub change-executed : (c : Change) (settings : List ℕ) → RightsPromise c T.settings r settings → Executed (changes c) T found n k (with_settings T settings) found
   unfolding call_of found_after
-  change-executed c settings h = record { promised = (rw e h, refl); output = refl; inside = λ _. (omega (arith, z), omega (arith, z)) }
+  change-executed c settings h = record { promised = (rw e h, refl); output = refl; inside = λ a. (omega (arith, z a), omega (arith, z a)) }
 
 -- room in both lists
 room-inside : (k : ℕ) (o : Output) → has_room k o ≡ true → (k ≤ length o.pages) × (k ≤ length o.distances)

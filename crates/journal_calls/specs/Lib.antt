@@ -1,1 +1,2 @@
 pub mod Commands
+pub mod Desk

@@ -1,120 +1,78 @@
 // A command of a journal is carried out: the call that it makes, on lent tables.
 ghost use Rattle.std.specs.Prelude.{◌≤◌, ◌≡◌, length, replicate};
-ghost use Rattle.promises.specs.Tables.{tables};
-ghost use Rattle.meaning.specs.Output.{output};
 ghost use Rattle.meaning.specs.Ledger.{settings_given};
-ghost use Rattle.promises.specs.Calls.{OpenPromise, RightsPromise};
+ghost use Rattle.promises.specs.Tables.{tables};
+ghost use Rattle.promises.specs.Calls.{OpenPromise};
 ghost use Rattle.promises.specs.Readings.{SearchPromise};
-ghost use Rattle.journal.specs.Steps.{change_meant, meant, symbols_end};
+ghost use Rattle.journal.specs.Steps.{meant, symbols_end};
 ghost use Rattle.journal_answers.specs.Answers.{page_capacity, node_capacity};
 ghost use Rattle.journal_calls.specs.Commands.{Executed};
+ghost use Rattle.journal_calls.specs.Desk.{SameDesk, tables_of};
+ghost use Rattle.lent.specs.Lists.{SameLists, SameTables, output_of};
+ghost use Rattle.refusals.specs.Refusals.{answer_number, answer_value};
 
+use crate::desk::Desk;
 use add_page::add::add;
 use drop_page::drop::drop_page;
-use journal::commands::{Change, Command, symbols_at};
+use journal::commands::{Command, symbols_at};
+use layout::Header;
+use lent::{Index, Lists};
+use refusals::Refusal;
+use search::search::search;
 
 // The capacities of the program's tables.
 pub const PAGES: u32 = 512;
 
 pub const NODES: u32 = 1024;
 
-// What a command came to: the number of its refusal or 0, and the count of a search.
-#[derive(Clone, Copy)]
-pub struct Outcome {
-    pub number: u32,
-    pub count: u32,
-}
-
-// That of a call that gives a number alone.
-fn numbered(number: u32) -> Outcome
-    ensures { (result.number ≡ number) × (result.count ≡ 0) }
+// What a call without a count comes to: accepted, its count is 0.
+fn uncounted(answer: Result<(), Refusal>) -> Result<u32, Refusal>
+    ensures number { answer_number result ≡ answer_number answer }
+    ensures count { answer_number result ≡ 0 → answer_value result ≡ 0 }
 {
-    Outcome { number, count: 0 }
+    answer.map(|()| 0)
 }
 
 // Sets up the index, with one threshold for all levels.
 fn open_levels(
-    settings: &mut [u32],
-    nodes: &mut [u32],
-    pages: &mut [u32],
+    index: &mut Index<'_>,
     sketches: &[u8],
     working: &[u32],
     b: u32,
     m: u8,
     q: u32,
     threshold: u16,
-) -> u32
-    ensures { OpenPromise (settings_given b m q page_capacity node_capacity (replicate 64 threshold)) (tables settings.old nodes.old pages.old sketches.now working.now) result settings.new nodes.new pages.new }
+) -> Result<(), Refusal>
+    ensures same { SameTables index.old index.new }
+    ensures open_promise { OpenPromise (settings_given b m q page_capacity node_capacity (replicate 64 threshold)) (tables index.old.settings.now index.old.nodes.now index.old.pages.now sketches.now working.now) (answer_number result) index.new.settings.now index.new.nodes.now index.new.pages.now }
 {
     let thresholds = [threshold; 64];
-    open::open(
-        settings,
-        nodes,
-        pages,
-        sketches,
-        working,
-        b,
-        m as u32,
-        q,
-        PAGES,
-        NODES,
-        &thresholds,
-    )
+    let header = Header::new(b, u32::from(m), q, PAGES, NODES);
+    open::open(index, sketches, working, header, &thresholds)
 }
 
-// Changes the register.
-#[tactic(auto, unfolding(journal::specs::Steps::change_meant))]
-fn change_register(settings: &mut [u32], change: Change) -> u32
-    ensures { RightsPromise (change_meant change) settings.old result settings.new }
-{
-    match change {
-        Change::Join { reader, group } => register::join(settings, reader, group),
-        Change::Leave { reader, group } => register::leave(settings, reader, group),
-        Change::Grant { group, class } => register::grant(settings, group, class),
-        Change::Revoke { group, class } => register::revoke(settings, group, class),
-    }
-}
-
-// Searches with a query of the journal's bytes.
-fn search_for(
-    settings: &[u32],
-    nodes: &[u32],
-    pages: &[u32],
+// Searches in an index.
+fn search_in(
+    index: &Index<'_>,
     sketches: &[u8],
     working: &mut [u32],
     reader: u32,
     radius: u32,
     query: &[u8],
-    found: &mut [u16],
-    distances: &mut [u16],
-) -> Outcome
-    ensures { SearchPromise (tables settings.now nodes.now pages.now sketches.now working.old) reader radius query.now (output found.old distances.old) result.number result.count (output found.new distances.new) working.new }
+    output: &mut Lists<'_>,
+) -> Result<u32, Refusal>
+    ensures same { SameLists output.old output.new }
+    ensures search_promise { SearchPromise (tables index.now.settings.now index.now.nodes.now index.now.pages.now sketches.now working.old) reader radius query.now (output_of output.old) (answer_number result) (answer_value result) (output_of output.new) working.new }
 {
-    let answer = search::search::search(
-        settings, nodes, pages, sketches, working, reader, radius, query, found, distances,
-    );
-    Outcome {
-        number: answer.number,
-        count: answer.count,
-    }
+    search(index.view(sketches), working, reader, radius, query, output)
 }
 
-// Carries a command out. Its m symbols, where it has any, lie in the journal's bytes.
+// Carries a command out; that of a search gives its count, and any other 0. Its m symbols, where it has any, lie in the journal's bytes.
 #[tactic(auto, unfolding(journal::specs::Steps::symbols_end, journal::specs::Steps::meant))]
-pub fn execute(
-    settings: &mut [u32],
-    nodes: &mut [u32],
-    pages: &mut [u32],
-    sketches: &mut [u8],
-    working: &mut [u32],
-    found: &mut [u16],
-    distances: &mut [u16],
-    bytes: &[u8],
-    m: u8,
-    command: Command,
-) -> Outcome
+pub fn execute(desk: &mut Desk<'_>, bytes: &[u8], m: u8, command: Command) -> Result<u32, Refusal>
     requires { symbols_end m command ≤ length bytes.now }
-    ensures { Executed (meant m bytes.now command) (tables settings.old nodes.old pages.old sketches.old working.old) (output found.old distances.old) result.number result.count (tables settings.new nodes.new pages.new sketches.new working.new) (output found.new distances.new) }
+    ensures executed { Executed (meant m bytes.now command) (tables_of desk.old) (output_of desk.old.lists) (answer_number result) (answer_value result) (tables_of desk.new) (output_of desk.new.lists) }
+    ensures same { SameDesk desk.old desk.new }
 {
     match command {
         Command::Open {
@@ -122,26 +80,35 @@ pub fn execute(
             m: n,
             q,
             threshold: t,
-        } => numbered(open_levels(settings, nodes, pages, sketches, working, b, n, q, t)),
+        } => {
+            let sketches = &mut *desk.sketches;
+            let working = &mut *desk.working;
+            uncounted(open_levels(&mut desk.index, sketches, working, b, n, q, t))
+        }
         Command::Add {
             page,
             class,
             symbols,
         } => {
             let x = symbols_at(bytes, symbols, m);
-            numbered(add(settings, nodes, pages, sketches, page, class, x))
+            let sketches = &mut *desk.sketches;
+            uncounted(add(&mut desk.index, sketches, page, class, x))
         }
-        Command::Drop { page } => numbered(drop_page(settings, nodes, pages, sketches, page)),
-        Command::Register(change) => numbered(change_register(settings, change)),
+        Command::Drop { page } => {
+            let sketches = &mut *desk.sketches;
+            uncounted(drop_page(&mut desk.index, sketches, page))
+        }
+        Command::Register(change) => uncounted(register::change(desk.index.settings, change)),
         Command::Search {
             reader,
             radius,
             symbols,
         } => {
             let x = symbols_at(bytes, symbols, m);
-            search_for(
-                settings, nodes, pages, sketches, working, reader, radius, x, found, distances,
-            )
+            let sketches = &mut *desk.sketches;
+            let working = &mut *desk.working;
+            let lists = &mut desk.lists;
+            search_in(&desk.index, sketches, working, reader, radius, x, lists)
         }
     }
 }

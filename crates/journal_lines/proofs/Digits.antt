@@ -41,32 +41,42 @@ number-stored l at k n ys ds h e d long fits =
 -- ---- fields
 
 -- a field stored, the rest of the line still to come
-pub field-first : (l : List ℕ) (at n : ℕ) (rest : List ℕ) {last : List ℕ} {to : ℕ} → last ≡ sets l at (field n) → to ≡ at + length (field n)
+pub field_first : (l : List ℕ) (at n : ℕ) (rest : List ℕ) {last : List ℕ} {to : ℕ} → last ≡ sets l at (field n) → to ≡ at + length (field n)
     → sets last to rest ≡ sets l at (field n ++ rest)
-field-first l at n rest e f = ap₂ (λ (a : List ℕ) (b : ℕ). sets a b rest) e f ∙ sym (sets-append l at (field n) rest)
+field_first l at n rest e f = ap₂ (λ (a : List ℕ) (b : ℕ). sets a b rest) e f ∙ sym (sets-append l at (field n) rest)
+
+-- a field, and a number behind it
+pub hit_first : (l : List ℕ) (at n : ℕ) (rest : List ℕ) {first last : List ℕ} {to : ℕ} → first ≡ sets l at (field n) → to ≡ at + length (field n)
+    → last ≡ sets first to rest → last ≡ sets l at (field n ++ rest)
+hit_first l at n rest e f g = g ∙ field_first l at n rest e f
 
 -- two fields, and the rest of the line behind them
-pub two-first : (l : List ℕ) (at m n : ℕ) (rest : List ℕ) {first second last : List ℕ} {to end : ℕ} → first ≡ sets l at (field m) → to ≡ at + length (field m)
+pub two_first : (l : List ℕ) (at m n : ℕ) (rest : List ℕ) {first second last : List ℕ} {to end : ℕ} → first ≡ sets l at (field m) → to ≡ at + length (field m)
     → second ≡ sets first to (field n) → end ≡ to + length (field n) → last ≡ sets second end rest → last ≡ sets l at (field m ++ (field n ++ rest))
-two-first l at m n rest {first} {to = to} e f g h k = k ∙ (field-first first to n rest g h ∙ field-first l at m (field n ++ rest) e f)
+two_first l at m n rest {first} {to = to} e f g h k = k ∙ (field_first first to n rest g h ∙ field_first l at m (field n ++ rest) e f)
 
 pub field_stored : (l : List ℕ) (at n : ℕ) (ns : List ℕ) {last : List ℕ} {to : ℕ} → last ≡ sets l at (field n) → to ≡ at + length (field n)
     → sets last to (fields ns) ≡ sets l at (fields (n ∷ ns))
 unfolding fields
-field_stored l at n ns e f = field-first l at n (fields ns) e f
+field_stored l at n ns e f = field_first l at n (fields ns) e f
 
 -- the last field and the end of the line
-pub line-stored : (l : List ℕ) (at n : ℕ) {last : List ℕ} {to : ℕ} → last ≡ sets l at (field n) → to ≡ at + length (field n) → set last to 10 ≡ sets l at (fields (n ∷ []))
+pub line_stored : (l : List ℕ) (at n : ℕ) {last : List ℕ} {to : ℕ} → last ≡ sets l at (field n) → to ≡ at + length (field n) → set last to 10 ≡ sets l at (fields (n ∷ []))
 unfolding fields
-line-stored l at n e f = field_stored l at n [] e f
+line_stored l at n e f = field_stored l at n [] e f
 
-pub field-long : (n : ℕ) (rest : List ℕ) → length (field n ++ rest) ≡ length (field n) + length rest
-field-long n rest = length-append (field n) rest
+-- two fields and the end of the line
+pub two_stored : (l : List ℕ) (at m n : ℕ) {first second : List ℕ} {to end : ℕ} → first ≡ sets l at (field m) → to ≡ at + length (field m)
+    → second ≡ sets first to (field n) → end ≡ to + length (field n) → set second end 10 ≡ sets l at (fields (m ∷ (n ∷ [])))
+two_stored l at m n {first} {to = to} e f g h = line_stored first to n g h ∙ field_stored l at m (n ∷ []) e f
 
-pub fields-long : (n : ℕ) (ns : List ℕ) → length (fields (n ∷ ns)) ≡ length (field n) + length (fields ns)
+pub field_long : (n : ℕ) (rest : List ℕ) → length (field n ++ rest) ≡ length (field n) + length rest
+field_long n rest = length-append (field n) rest
+
+pub fields_long : (n : ℕ) (ns : List ℕ) → length (fields (n ∷ ns)) ≡ length (field n) + length (fields ns)
 unfolding fields
-fields-long n ns = field-long n (fields ns)
+fields_long n ns = field_long n (fields ns)
 
-pub end-long : length (fields []) ≡ 1
+pub end_long : length (fields []) ≡ 1
 unfolding fields
-end-long = refl
+end_long = refl

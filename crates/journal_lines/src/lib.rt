@@ -44,7 +44,7 @@ fn put_field(n: u32, out: &mut [u8], at: usize) -> usize
 }
 
 // A hit: a blank, the page, a colon and its distance.
-#[tactic(auto, unfolding(meaning::specs::Journal::decimal))]
+#[tactic(auto, unfolding(meaning::specs::Journal::decimal), using(crate::proofs::Digits::hit_first))]
 fn put_hit(page: u32, distance: u32, out: &mut [u8], at: usize) -> usize
     requires { at + 22 ≤ length out.old }
     ensures out_after { out.new ≡ sets out.old at (field page ++ (58 ∷ decimal distance)) }
@@ -55,7 +55,7 @@ fn put_hit(page: u32, distance: u32, out: &mut [u8], at: usize) -> usize
     put_marked(b':', distance, out, colon)
 }
 
-// The hits, and the end of the line.
+// The hits, and the end of the line. Pages and distances are two lists, here and below, as a search is lent them.
 #[tactic(auto, unfolding(meaning::specs::Journal::hits))]
 fn put_hits(pages: &[u16], distances: &[u16], out: &mut [u8], at: usize) -> usize
     requires pages_len { length pages.now ≡ length distances.now }
@@ -72,8 +72,9 @@ fn put_hits(pages: &[u16], distances: &[u16], out: &mut [u8], at: usize) -> usiz
     to + 1
 }
 
-// `S`, the reader, the count and the hits. The length of the line is given, here and below.
-#[tactic(auto, unfolding(meaning::specs::Journal::search_line))]
+// `S`, the reader, the count and the hits. The length of the line is given, here and below, and not the line: of a buffer whose part is
+// given back, `out_after` could not say what it holds.
+#[tactic(auto, unfolding(meaning::specs::Journal::search_line), using(crate::proofs::Digits::two_first))]
 pub fn search_line(reader: u32, pages: &[u16], distances: &[u16], out: &mut [u8]) -> usize
     requires pages_len { length pages.now ≡ length distances.now }
     requires pages_len_bound { length pages.now ≤ 65535 }
@@ -89,7 +90,7 @@ pub fn search_line(reader: u32, pages: &[u16], distances: &[u16], out: &mut [u8]
 }
 
 // `E`, the offset of the refused command and the number.
-#[tactic(auto, unfolding(meaning::specs::Journal::refusal_line))]
+#[tactic(auto, unfolding(meaning::specs::Journal::refusal_line), using(crate::proofs::Digits::two_stored, crate::proofs::Digits::fields_long, crate::proofs::Digits::end_long))]
 pub fn refusal_line(at: u32, number: u32, out: &mut [u8]) -> usize
     requires { 24 ≤ length out.old }
     ensures out_after { out.new ≡ sets out.old 0 (refusal_line at number) }
@@ -104,7 +105,7 @@ pub fn refusal_line(at: u32, number: u32, out: &mut [u8]) -> usize
 }
 
 // `Z` and the count of bytes taken.
-#[tactic(auto, unfolding(meaning::specs::Journal::last_line))]
+#[tactic(auto, unfolding(meaning::specs::Journal::last_line), using(crate::proofs::Digits::line_stored, crate::proofs::Digits::fields_long, crate::proofs::Digits::end_long))]
 pub fn last_line(count: u32, out: &mut [u8]) -> usize
     requires { 24 ≤ length out.old }
     ensures out_after { out.new ≡ sets out.old 0 (last_line count) }

@@ -7,7 +7,9 @@ use native.Mathlib.Omega.{arith}
 use lib.ListN.{length, take, drop}
 use lib.Seq.{sets, sets-eq, length-sets, take_at}
 use Rattle.meaning.specs.Output.{Output}
-use Rattle.meaning.specs.Journal.{refusal_line}
+use Rattle.meaning.specs.Journal.{refused, refusal_line}
+use Rattle.refusals.specs.Refusals.{number_of}
+use Rattle.refusals.specs.declared.Refusal.{Refusal}
 use Rattle.promises.specs.Tables.{Tables}
 use Rattle.promises.specs.Relation.{Answer}
 use Rattle.journal.specs.Steps.{meant, told, Stepped}
@@ -40,12 +42,12 @@ module _ (bytes before after : List ℕ) (T : Tables) (found : Output) (at m r :
   take_ended st = ends (sym st.told-right) (record { wrote = refl; stops = refl; stays = refl })
 
   module _ (fits : r ≤ length after) where
-    pub take-refused : (n : ℕ) → Stepped m bytes at (Refused n) → after ≡ sets before 0 (refusal_line at n) → r ≡ length (refusal_line at n)
+    pub take-refused : (k : Refusal) (n : ℕ) → Stepped m bytes at (Refused k) → n ≡ number_of k → after ≡ sets before 0 (refusal_line at n) → r ≡ length (refusal_line at n)
         → Turned bytes (state T found at m) (take r after) false (state T found at m) × ((after ≡ sets before 0 (take r after)) × (r ≤ length after))
     unfolding told
-    take-refused n st e f =
+    take-refused k n st is e f =
         let wrote = read_back (refusal_line at n) before after r e f fits in
-        (refuses n (sym st.told-right) (record { wrote = wrote; stops = refl; stays = refl }), (e ∙ ap (sets before 0) (sym wrote), fits))
+        (refuses n (sym st.told-right ∙ ap refused (sym is)) (record { wrote = wrote; stops = refl; stays = refl }), (e ∙ ap (sets before 0) (sym wrote), fits))
 
     pub carried-out : (c : Command) (to n k : ℕ) (T' : Tables) (found' : Output) (going : Bool) (at' m' : ℕ)
         → Executed (meant m bytes c) T found n k T' found'

@@ -11,7 +11,7 @@ ghost use Rattle.std.specs.Prelude.{◌≡◌, []};
 ghost use Rattle.meaning.specs.Ledger.{settings_given};
 ghost use Rattle.layout.specs.Header.{header_of};
 
-// What a call goes by: b, m, q and the capacities.
+// What a call goes by: b, m, q and the capacities. It may hold any numbers, since question 4 is asked of it; that it passed is a clause.
 #[derive(Clone, Copy)]
 pub struct Header {
     pub b: usize,

@@ -1,4 +1,6 @@
 // The words of the node table: a link with a byte above it, where the words of a node stand, and what a node is by its state.
+// Nodes are linked by numbers in one slice of words: the table is lent, and an index allocates nothing.
+// That the slice is long enough for its nodes is a clause (`NodeTable`): a table is lent as a slice, the form that document 01 names.
 ghost use Rattle.std.specs.Prelude.{◌≡◌, ◌≤◌, ◌<◌, set};
 ghost use Rattle.layout.specs.Nodes.{most_nodes, link_base, link_of, byte_of, chain_word, with_link, state_at, head_at};
 ghost use Rattle.layout.specs.Pages.{most_pages};
@@ -114,7 +116,7 @@ pub fn kind_of(nodes: &[u32], cap: usize, x: usize) -> Kind
     Kind::Leaf(state % COUNTS)
 }
 
-// The link to the first page of leaf x; 0 of another node.
+// The link to the first page of leaf x; 0 of another node. No Option: 0 is the link to none, in the table too.
 #[tactic(auto, unfolding(crate::specs::States::kind_of))]
 pub fn first_page(nodes: &[u32], cap: usize, x: usize) -> u32
     requires node_table { NodeTable cap nodes.now }

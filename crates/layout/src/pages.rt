@@ -1,4 +1,6 @@
 // The words of the page table, and the rows of the sketch table.
+// The pages of a leaf are linked by numbers in one slice of words: the table is lent, and an index allocates nothing.
+// That a slice is long enough for its pages is a clause: a table is lent as a slice, the form that document 01 names.
 ghost use Rattle.std.specs.Prelude.{◌≡◌, ◌+◌, ◌*◌, ◌≤◌, ◌<◌, length, get_or};
 ghost use Rattle.layout.specs.Pages.{most_pages, is_live, class_of, signature_at, next_at, row_of, with_page, without_page, with_row};
 
@@ -18,7 +20,7 @@ pub fn is_live(pages: &[u32], p: usize) -> bool
     page_word(pages, p) > 0
 }
 
-// The class of page p; 0 of a page that is not live.
+// The class of page p; 0 of a page that is not live. No Option: `class_of` of the promises on a show and a search has 0 too.
 #[tactic(auto, unfolding(crate::specs::Pages::class_of))]
 pub fn class_of(pages: &[u32], p: usize) -> u32
     requires { p < length pages.now }

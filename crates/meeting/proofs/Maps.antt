@@ -4,9 +4,10 @@ use Prim.Native.Nat.{ℕ, ◌+◌, ◌*◌, ◌/◌, ◌<◌, ◌≤◌}
 use native.Mathlib.Omega.{arith}
 use native.Mathlib.Nat.{add-zero, zero-add}
 use mathlib.Core.Path.{◌≡◌, refl, sym, ap, subst, ◌∙◌}
-use mathlib.Core.Bool.{Bool, true, false, false≢true, ◌&&◌, ◌||◌, or-false}
+use mathlib.Core.Bool.{Bool, true, false, cond, false≢true, ◌&&◌, ◌||◌, or-false}
 use mathlib.Core.List.{List, [], ◌∷◌, ◌++◌}
 use lib.Dec.{eqb}
+use mir.Val.{bool_byte}
 use lib.ListN.{length, get_or, set}
 use borrow.Author.Tests.{eqb-true}
 use Rattle.meaning.specs.Lists.{any, keep, upto}
@@ -126,6 +127,11 @@ module _ (hit : ℕ → Bool) (words : ℕ) where
         none : (t : Bool) → t && false ≡ false
         none true = refl
         none false = refl
+
+-- ---- a test as a number
+pub as-number : (t : Bool) → bool_byte t ≡ cond t 1 0
+as-number true = refl
+as-number false = refl
 
 -- ---- one page, as the code has it
 module _ (t : Test) (words : ℕ) (map : List ℕ) (p : ℕ) (inside : p / 32 < words) (room : Room map words) (counts : List ℕ) (c : Counts (far t) map words counts) where

@@ -1,15 +1,11 @@
 -- What meeting pages leaves in the maps, whatever the order in which they are met; and what it asks of the tables.
-use Rattle.std.specs.Prelude.{ℕ, ◌+◌, ◌*◌, ◌<◌, ◌≤◌, ◌≡◌, Bool, ◌&&◌, ◌||◌, List, eqb, length, get_or, drop}
+use Rattle.std.specs.Prelude.{ℕ, ◌+◌, ◌*◌, ◌<◌, ◌≤◌, ◌≡◌, Bool, ◌&&◌, ◌||◌, List, eqb, length, get_or, drop, Option, Some, None}
 use Rattle.meaning.specs.Lists.{any}
 use Rattle.words.specs.Bits.{flag}
-use Rattle.marks.specs.Marks.{summary_of, Room, Summarised, list_of, Counts}
-use Rattle.hits.specs.Hit.{Test, Fitting, far, passes}
-use Rattle.hits.specs.Probes.{Prepared, test_by}
+use Rattle.marks.specs.Marks.{summary_of, Summarised, list_of, Counts}
+use Rattle.hits.specs.Hit.{Test, far, passes}
 use Rattle.meeting.specs.declared.Chain.{Chain}
-use Rattle.meeting.specs.declared.Scope.{Scope}
 use Rattle.meeting.specs.declared.Tally.{Tally}
-use Rattle.meeting.specs.declared.Tallies.{Tallies}
-use Rattle.meeting.specs.declared.Tallies.TheVariants.{Some, Broken}
 use Rattle.meeting.specs.Meets.{Meets, met, broken, chain}
 
 -- what lies behind both maps stays
@@ -29,17 +25,10 @@ pub record Tallied (t : Test) (words : ℕ) (map counts : List ℕ) (n : ℕ) : 
   pub each : Counts (far t) map words counts
 
 -- the answer to chains whose pages are m, the maps before and after, and the counts then
-pub record Meeting (t : Test) (words : ℕ) (m : Meets) (before after counts : List ℕ) (r : Tallies) : Type 0 where
+pub record Meeting (t : Test) (words : ℕ) (m : Meets) (before after counts : List ℕ) (r : Option Tally) : Type 0 where
   pub kept : Kept words before after
   pub some : (n : Tally) → r ≡ Some n → (ps : List ℕ) × (m ≡ met ps n.left) × Met (passes t) words before ps after × Tallied t words after counts n.count
-  pub none : r ≡ Broken → m ≡ broken
-
--- the tables and the map are long enough for the pages, and the probe was made for the query
-pub record Ready (pages sketches query map : List ℕ) (s : Scope) : Type 0 where
-  pub fitting : Fitting (test_by pages sketches query s.probe)
-  pub prepared : Prepared query s.probe
-  pub room : Room map s.words
-  pub bits : s.probe.header.pages ≤ s.words * 32
+  pub none : r ≡ None → m ≡ broken
 
 -- the first n of 16 chains: their links lie in a table of so many words
 pub record Inside (cap long : ℕ) (cs : List Chain) (n : ℕ) : Type 0 where

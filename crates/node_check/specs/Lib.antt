@@ -1,3 +1,5 @@
 pub mod Mark
+pub mod Given
+pub mod Scope
 pub mod Leaf
 pub mod Frame

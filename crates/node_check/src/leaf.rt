@@ -1,12 +1,10 @@
 // What a node is, and the test of a leaf: each of its pages is live, and has the bytes that led to the leaf, and they are as many as it says.
 ghost use Rattle.std.specs.Prelude.{◌≡◌, ◌≤◌, ◌<◌};
-ghost use Rattle.layout.specs.Tables.{NodeTable, PageTable};
-ghost use Rattle.blocks.specs.Tables.{RowTable};
+ghost use Rattle.layout.specs.Tables.{NodeTable};
 ghost use Rattle.node_check.specs.Leaf.{kind_of, on_path, test_pages, test_leaf};
 
-use blocks::Rows;
+use crate::scope::Scope;
 use children::order::is_bare;
-use layout::Block;
 
 // What a node of a trie is.
 #[derive(Clone, Copy, Debug, PartialEq, Eq)]
@@ -35,24 +33,16 @@ pub fn kind_of(nodes: &[u32], cap: usize, x: usize) -> Option<Kind>
     }
 }
 
-// Are the first `depth` bytes of page p those of the path?
+// Are the first `depth` bytes of page p those of the path? An array with a depth: a path grows in the fixed memory of one walk.
 #[tactic(auto, unfolding(crate::specs::Leaf::on_path, meaning::specs::Lists::upto))]
-fn is_on_path(
-    sketches: &[u8],
-    block: Block,
-    rows: Rows,
-    path: &[u8; 64],
-    depth: usize,
-    p: usize,
-) -> bool
-    requires row_table { RowTable block.pages rows sketches.now }
-    requires p_lt_pages { p < block.pages }
+fn is_on_path(scope: &Scope<'_>, path: &[u8; 64], depth: usize, p: usize) -> bool
+    requires p_lt_pages { p < scope.now.block.pages }
     requires depth_bound { depth ≤ 64 }
-    ensures { result ≡ on_path sketches.now rows path.now depth p }
+    ensures { result ≡ on_path scope.now.sketches.now scope.now.rows path.now depth p }
 {
     for k in 0..depth {
-        let level = rows.level_at(k);
-        if level.page_byte(sketches, block, p) as u8 != path[k] {
+        let level = scope.rows.level_at(k);
+        if level.page_byte(scope.sketches, scope.block, p) as u8 != path[k] {
             return false;
         }
     }
@@ -62,21 +52,17 @@ fn is_on_path(
 // Tests the pages of a leaf, from a link on, of which there are at most `budget`. What is left of it; none where the test fails.
 // No `for`: what is left of the budget is the answer.
 fn test_pages(
-    pages: &[u32],
-    sketches: &[u8],
-    block: Block,
-    rows: Rows,
+    scope: &Scope<'_>,
     path: &[u8; 64],
     depth: usize,
     first: u32,
     budget: u32,
 ) -> Option<u32>
-    requires page_table { PageTable block.pages block.base pages.now }
-    requires pages_le_base { block.pages ≤ block.base }
-    requires row_table { RowTable block.pages rows sketches.now }
     requires depth_bound { depth ≤ 64 }
-    ensures { result ≡ test_pages pages.now sketches.now block.pages block.base rows path.now depth first budget }
+    ensures { result ≡ test_pages scope.now.pages.now scope.now.sketches.now scope.now.block.pages scope.now.block.base scope.now.rows path.now depth first budget }
 {
+    let pages = scope.pages;
+    let block = scope.block;
     let mut link = first;
     let mut left = budget;
     loop {
@@ -93,7 +79,7 @@ fn test_pages(
         if !layout::pages::is_live(pages, p) {
             return None;
         }
-        if !is_on_path(sketches, block, rows, path, depth, p) {
+        if !is_on_path(scope, path, depth, p) {
             return None;
         }
         link = pages[block.base + p];
@@ -105,23 +91,17 @@ fn test_pages(
 // What is left of the budget; none where the test fails.
 #[tactic(auto, unfolding(crate::specs::Leaf::test_leaf))]
 pub fn test_leaf(
-    pages: &[u32],
-    sketches: &[u8],
-    block: Block,
-    rows: Rows,
+    scope: &Scope<'_>,
     path: &[u8; 64],
     depth: usize,
     first: u32,
     count: u32,
     budget: u32,
 ) -> Option<u32>
-    requires page_table { PageTable block.pages block.base pages.now }
-    requires pages_le_base { block.pages ≤ block.base }
-    requires row_table { RowTable block.pages rows sketches.now }
     requires depth_bound { depth ≤ 64 }
-    ensures { result ≡ test_leaf pages.now sketches.now block.pages block.base rows path.now depth first count budget }
+    ensures { result ≡ test_leaf scope.now.pages.now scope.now.sketches.now scope.now.block.pages scope.now.block.base scope.now.rows path.now depth first count budget }
 {
-    let n = test_pages(pages, sketches, block, rows, path, depth, first, budget)?;
+    let n = test_pages(scope, path, depth, first, budget)?;
     if (n as usize) + (count as usize) != budget as usize {
         return None;
     }

@@ -4,3 +4,4 @@
 pub mod frame;
 pub mod leaf;
 pub mod mark;
+pub mod scope;

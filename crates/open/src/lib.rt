@@ -16,7 +16,7 @@ ghost use Rattle.promises.specs.Calls.{OpenPromise};
 
 use fresh_tables::fresh;
 use layout::Header;
-use layout::settings::{LENGTH, MEMBERS, REGISTER};
+use layout::settings::{LENGTH, LEVELS, MEMBERS, REGISTER};
 use lent::{Index, View};
 use refusals::Refusal;
 
@@ -31,10 +31,9 @@ fn long_enough(h: Header, view: View<'_>, working: &[u32]) -> bool
 
 // The settings table: the header, a register with no pairs, and the free chain's first link.
 #[tactic(auto, unfolding(promises::specs::Answers::fresh_settings))]
-fn write_settings(settings: &mut [u32], h: Header, thresholds: &[u16])
+fn write_settings(settings: &mut [u32], h: Header, thresholds: &[u16; LEVELS])
     requires settings_length_in_bounds { settings_length ≤ length settings.old }
     requires header_limits { HeaderLimits h }
-    requires thresholds_len { length thresholds.now ≡ 64 }
     ensures { settings.new ≡ onto (fresh_settings (with_thresholds h thresholds.now)) settings.old }
 {
     settings::write_header(settings, h, thresholds);
@@ -44,9 +43,8 @@ fn write_settings(settings: &mut [u32], h: Header, thresholds: &[u16])
 
 // Every table that an opening writes, over its beginning.
 #[tactic(auto, unfolding(promises::specs::Answers::fresh_settings, promises::specs::Answers::fresh_nodes, promises::specs::Answers::fresh_pages))]
-fn lay_out(index: &mut Index<'_>, h: Header, thresholds: &[u16])
+fn lay_out(index: &mut Index<'_>, h: Header, thresholds: &[u16; LEVELS])
     requires header_limits { HeaderLimits h }
-    requires thresholds_len { length thresholds.now ≡ 64 }
     requires settings_length_in_bounds { settings_length ≤ length index.old.settings.now }
     requires h_in_bounds { nodes_length (bare h) ≤ length index.old.nodes.now }
     requires h_in_bounds_2 { pages_length (bare h) ≤ length index.old.pages.now }
@@ -80,6 +78,6 @@ pub fn open(
     if !long_enough(h, index.view(sketches), working) {
         return Err(Refusal::ShortTable);
     }
-    lay_out(index, h, thresholds);
+    lay_out(index, h, thresholds.try_into().unwrap());
     Ok(())
 }

@@ -1,6 +1,7 @@
 // The rights register in the settings table. Memberships and grants are its records; beside them stands for each reader an entry, the
 // set of the classes that they open to him. Every change of a record writes the entries that hang on it.
 // The laws of the definitions that the contracts cite are in proofs/.
+// That the table is long enough is a clause, since it is lent as a slice; that a change is in range is one, asked by `is_in_range`.
 #![tactic(auto)]
 
 ghost use Rattle.std.specs.Prelude.{◌≡◌, ◌≤◌, ◌<◌, length, true};

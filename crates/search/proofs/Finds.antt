@@ -1,4 +1,5 @@
 -- Once the tries are walked: what the search answers by the pages met, and by the map of those that passed.
+use Rattle.std.specs.Prelude.{Option, Some}
 use Prim.Native.Nat.{ℕ, ◌*◌, ◌≤◌, ◌<◌}
 use native.Mathlib.Omega.{arith}
 use mathlib.Core.Path.{◌≡◌, refl, sym, ap, ◌∙◌}
@@ -14,17 +15,13 @@ use Rattle.meaning.proofs.Nearest.{keep_all}
 use Rattle.words.specs.Bits.{flag}
 use Rattle.words.proofs.Rising.{rising_none}
 use Rattle.promises.specs.Readings.{Lists}
-use Rattle.marks.specs.Marks.{Summarised, list_of, Counts}
+use Rattle.marks.specs.Marks.{Room, Summarised, list_of, Counts}
 use Rattle.hits.specs.Hit.{Test, far, passes}
-use Rattle.hits.specs.Probes.{test_by}
 use Rattle.hits.proofs.Filter.{passes-below}
 use Rattle.hits.proofs.Hit.{passes-near}
 use Rattle.meeting.specs.declared.Tally.{Tally}
-use Rattle.meeting.specs.declared.Tallies.{Tallies}
-use Rattle.meeting.specs.declared.Tallies.TheVariants.{Some}
 use Rattle.meeting.specs.Meets.{Meets, met, broken}
-use Rattle.meeting.specs.declared.Scope.{Scope}
-use Rattle.meeting.specs.Mets.{Tallied, Meeting, Ready}
+use Rattle.meeting.specs.Mets.{Tallied, Meeting}
 use Rattle.meeting.proofs.Maps.{kept-room, met-listed}
 use Rattle.listing.specs.Listable.{Listable}
 use Rattle.search_laws.specs.Answer.{passing, Answered}
@@ -49,7 +46,7 @@ answers-listed m t out ps k n count after e l = record {
 }
 
 -- the walks ended
-module _ {t : Test} {words : ℕ} {m : Meets} {map after counts : List ℕ} {a : Tallies} (r : Meeting t words m map after counts a) (n : Tally) (e : a ≡ Some n) where
+module _ {t : Test} {words : ℕ} {m : Meets} {map after counts : List ℕ} {a : Option Tally} (r : Meeting t words m map after counts a) (n : Tally) (e : a ≡ Some n) where
   found-summary : Summarised map words → Summarised after words
   found-summary = (r.some n e).2.summarised
 
@@ -88,13 +85,12 @@ module _ {t : Test} {words : ℕ} {m : Meets} {map after counts : List ℕ} {a :
         answers-listed m t out (r.some n e).0 n.left number count left (r.some n e).1 (rw found-pages at l)
 
 -- what was found can be listed
-module _ {pages sketches query map after counts : List ℕ} {s : Scope} (ready : Ready pages sketches query map s) where
-  pub found-listable : {m : Meets} {a : Tallies} (r : Meeting (test_by pages sketches query s.probe) s.words m map after counts a) (n : Tally) (e : a ≡ Some n)
-      → list_of map s.words ≡ [] → Summarised map s.words → Listable sketches query after counts s
+module _ {t : Test} {words : ℕ} {map after counts : List ℕ} (room : Room map words) (bits : t.header.pages ≤ words * 32) where
+  pub found-listable : {m : Meets} {a : Option Tally} (r : Meeting t words m map after counts a) (n : Tally) (e : a ≡ Some n)
+      → list_of map words ≡ [] → Summarised map words → Listable t after counts words
   found-listable r n e none summary = record {
-    room = kept-room r.kept ready.room;
+    room = kept-room r.kept room;
     summarised = found-summary r n e summary;
-    measurable = record { limits = ready.fitting.limits; rows = ready.fitting.sketches; query = ready.fitting.query };
     counts = found-counts r n e;
-    near = found-near r n e none ready.bits;
+    near = found-near r n e none bits;
   }

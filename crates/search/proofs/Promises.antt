@@ -1,6 +1,6 @@
 -- A search keeps its promise, by the way out.
 use Rattle.std.specs.Prelude.{Ok, Err}
-use Prim.Native.Nat.{ℕ, ◌+◌}
+use Prim.Native.Nat.{ℕ, ◌+◌, ◌<◌}
 use native.Mathlib.Omega.{arith}
 use native.Mathlib.Nat.{zero-add}
 use mathlib.Core.Path.{◌≡◌, refl, sym, ap, ◌∙◌}
@@ -19,6 +19,9 @@ use Rattle.meaning.specs.Trie.{Tree}
 use Rattle.meaning.specs.Ledger.{search, reading}
 use Rattle.meaning.specs.Questions.{asked}
 use Rattle.words.specs.Bits.{zeroed}
+use Rattle.refusals.specs.declared.Refusal.{Refusal}
+use Rattle.refusals.specs.declared.Refusal.TheVariants.{UnknownCommand, MisplacedCommand, MissingOperands, BadSettings, ShortTable, NoOpening, OutOfRange, NoSuchPage, PageState, BadLength, BadSymbol, NoRoom, ShortOutput, Unsound, Blank}
+use Rattle.refusals.specs.Refusals.{number_of, needed_of}
 use Rattle.layout.specs.declared.Header.{Header}
 use Rattle.layout.specs.Settings.{settings_length, shows_opening}
 use Rattle.layout.specs.Header.{header_of, bare}
@@ -43,6 +46,51 @@ use Rattle.search_laws.specs.Answer.{Answered, meets, AnsweredBy}
 use Rattle.search_laws.proofs.Lists.{found_in, met_by, list-met, walks-whole, list_all}
 use Rattle.search.specs.Questions.{query_asked}
 use Rattle.search.proofs.Queries.{query-passed}
+
+-- ---- a refusal of 5, 6, 7, 10 or 11 needs no length
+needed-none : (r : Refusal) → number_of r ≢ 13 → needed_of r ≡ 0
+needed-none UnknownCommand h = refl
+needed-none MisplacedCommand h = refl
+needed-none MissingOperands h = refl
+needed-none BadSettings h = refl
+needed-none ShortTable h = refl
+needed-none NoOpening h = refl
+needed-none OutOfRange h = refl
+needed-none NoSuchPage h = refl
+needed-none PageState h = refl
+needed-none BadLength h = refl
+needed-none BadSymbol h = refl
+needed-none NoRoom h = refl
+needed-none (ShortOutput n) h = absurd (h refl)
+needed-none Unsound h = refl
+needed-none Blank h = refl
+
+two-short : (s t : Bool) → first_no (ask 5 s ∷ ask 6 t ∷ []) < 13
+unfolding first_no
+two-short true true = omega arith
+two-short true false = omega arith
+two-short false t = omega arith
+
+three-short : (s t u : Bool) → first_no (ask 7 s ∷ ask 10 t ∷ ask 11 u ∷ []) < 13
+unfolding first_no
+three-short true true true = omega arith
+three-short true true false = omega arith
+three-short true false u = omega arith
+three-short false t u = omega arith
+
+tables-short : (T : Tables) → first_no (tables_asked T) < 13
+unfolding tables_asked
+tables-short T = two-short _ _
+
+pub tables-needed : (T : Tables) (r : Refusal) → entry T ≡ Err (number_of r) → needed_of r ≡ 0
+tables-needed T r e = needed-none r (λ z. omega (arith, (entry-refused T (number_of r) e).0, tables-short T))
+
+query-short : (h : Header) (reader radius : ℕ) (x : List ℕ) → first_no (query_asked h reader radius x) < 13
+unfolding query_asked
+query-short h reader radius x = three-short _ _ _
+
+pub query-needed : (h : Header) (reader radius : ℕ) (x : List ℕ) (r : Refusal) → number_of r ≡ first_no (query_asked h reader radius x) → needed_of r ≡ 0
+query-needed h reader radius x r e = needed-none r (λ z. omega (arith, e, query-short h reader radius x))
 
 -- ---- past 11, by the pages met
 module _ (T : Tables) (reader radius : ℕ) (x : List ℕ) (before : Output) (n count : ℕ) (after : Output)

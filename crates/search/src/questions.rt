@@ -1,32 +1,34 @@
 // The questions of a search behind 5 and 6.
 ghost use Rattle.std.specs.Prelude.{◌≡◌};
 ghost use Rattle.meaning.specs.Refusal.{first_no};
+ghost use Rattle.refusals.specs.Refusals.{answer_number};
 ghost use Rattle.layout.specs.Limits.{HeaderLimits};
 ghost use Rattle.search.specs.Questions.{query_asked};
 
 use layout::Header;
+use refusals::Refusal;
 
 const READERS: u32 = 256;
 
 const RADIUS: u32 = 64;
 
-// 7, 10 and 11: the number of the first that says no, else 0.
+// 7, 10 and 11: the first that says no.
 #[tactic(auto, unfolding(meaning::specs::Refusal::first_no, crate::specs::Questions::query_asked))]
-pub fn query_number(h: Header, reader: u32, radius: u32, sketch: &[u8]) -> u32
+pub fn ask_query(h: Header, reader: u32, radius: u32, sketch: &[u8]) -> Result<(), Refusal>
     requires { HeaderLimits h }
-    ensures { result ≡ first_no (query_asked h reader radius sketch.now) }
+    ensures { answer_number result ≡ first_no (query_asked h reader radius sketch.now) }
 {
     if READERS <= reader {
-        return 7;
+        return Err(Refusal::OutOfRange);
     }
     if RADIUS < radius {
-        return 7;
+        return Err(Refusal::OutOfRange);
     }
     if sketch.len() != h.m {
-        return 10;
+        return Err(Refusal::BadLength);
     }
     if !sketch::symbols::in_range(h.b as u32, sketch) {
-        return 11;
+        return Err(Refusal::BadSymbol);
     }
-    0
+    Ok(())
 }

@@ -1,4 +1,5 @@
 // The settings table: question 4, the opening that the table shows, its thresholds, the free link, and writing an opening.
+// That the table is long enough is a clause: a type for it would be two, to be read and to be written, made anew for every call.
 #![tactic(auto)]
 
 ghost use Rattle.std.specs.Prelude.{◌≡◌, ◌≤◌, ltb, length, get_or, set};
@@ -28,6 +29,7 @@ pub fn limits(h: Header, thresholds: usize) -> bool
 }
 
 // Is each threshold in the table below 65,536? No branch: one pass joins their bits.
+// Not one function with `sketch::symbols::in_range`: there the limit is a number of bits, and bytes are joined.
 #[tactic(auto, unfolding(layout::specs::Settings::settings_of))]
 fn thresholds_fit(settings: &[u32]) -> bool
     requires { settings_length ≤ length settings.now }
@@ -103,10 +105,9 @@ pub fn set_free_link(settings: &mut [u32], link: u32)
     settings[FREE] = link;
 }
 
-// Writes the thresholds to their 64 words.
-fn write_thresholds(settings: &mut [u32], thresholds: &[u16])
+// Writes the thresholds to their 64 words. No `copy_from_slice`: they are lent as numbers of 16 bits.
+fn write_thresholds(settings: &mut [u32], thresholds: &[u16; LEVELS])
     requires settings_length_in_bounds { settings_length ≤ length settings.old }
-    requires thresholds_len { length thresholds.now ≡ 64 }
     ensures { settings.new ≡ paste settings.old 6 thresholds.now 64 }
 {
     for k in 0..LEVELS {
@@ -114,12 +115,11 @@ fn write_thresholds(settings: &mut [u32], thresholds: &[u16])
     }
 }
 
-// Writes an opening: the first 70 words.
+// Writes an opening: the first 70 words. Word by word: the table is a slice of words, and no struct.
 #[tactic(auto, unfolding(layout::specs::Settings::with_header))]
-pub fn write_header(settings: &mut [u32], h: Header, thresholds: &[u16])
+pub fn write_header(settings: &mut [u32], h: Header, thresholds: &[u16; LEVELS])
     requires settings_length_in_bounds { settings_length ≤ length settings.old }
     requires header_limits { HeaderLimits h }
-    requires thresholds_len { length thresholds.now ≡ 64 }
     ensures { settings.new ≡ with_header settings.old (with_thresholds h thresholds.now) }
 {
     settings[0] = MARK;

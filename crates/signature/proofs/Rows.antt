@@ -6,7 +6,7 @@ use mathlib.Core.Path.{◌≡◌, sym, ap, ◌∙◌}
 use mathlib.Core.Bool.{true}
 use mathlib.Core.List.{List, []}
 use lib.Bits.{bit_xor, bit_or}
-use lib.ListN.{length, get_or, take, drop}
+use lib.ListN.{length, get_or, take, drop, length-map}
 use lib.Seq.{take_all, take-length, drop-length, drop-cons}
 use borrow.Author.Tests.{le-ltb}
 use Rattle.meaning.specs.Sketch.{in_range, per_byte, packed_length, pack, symbols_at, block, block_start, block_length}
@@ -19,10 +19,8 @@ use Rattle.sketch.proofs.Packed.{part-ends}
 use Rattle.sketch.proofs.Width.{byte-begins, bits-within}
 use Rattle.sketch_laws.proofs.Packing.{range_at, range-drop, pack-length}
 use Rattle.blocks.specs.Packed.{row_byte, page_byte, level_at}
-use Rattle.sketch.specs.Reduced.{reduced}
-use Rattle.sketch.proofs.Reduced.{reduced-length, reduced-same, reduced-range}
-use Rattle.blocks.specs.RowBytes.{row_bytes, rows_of}
-use Rattle.blocks.proofs.RowBytes.{level-byte}
+use Rattle.blocks.specs.RowBytes.{reduced, row_bytes, rows_of}
+use Rattle.blocks.proofs.RowBytes.{reduced-same, reduced-range, level-byte}
 use Rattle.layout.specs.Signature.{folded, signature}
 use Rattle.signature.proofs.Folded.{packed-range, folded-none, folded_more}
 
@@ -43,8 +41,12 @@ module _ (b : ℕ) (S : List ℕ) where
   abbrev bytes : List ℕ
   bytes = pack b (reduced b S)
 
+  reduced-length : length (reduced b S) ≡ length S
+  unfolding reduced
+  reduced-length = length-map S (λ x. x % 2 ^ b)
+
   bytes-length : length bytes ≡ packed_length b (length S)
-  bytes-length = pack-length b (length S) (reduced b S) (reduced-length b S)
+  bytes-length = pack-length b (length S) (reduced b S) reduced-length
 
   row-byte-packed : (k : ℕ) → k * per_byte b < length S → row_byte b S (k * per_byte b) (symbols_at b (length S) k) ≡ get_or bytes k 0
   unfolding row_bytes bytes_of_sketch rows_of level_at page_byte byte_at row_of block symbols_at
@@ -53,7 +55,7 @@ module _ (b : ℕ) (S : List ℕ) where
       let at : 0 * n + (0 + min (k * per_byte b) n) ≡ k * per_byte b = omega arith in
       let all : take n (drop (0 * n) S) ≡ S = rw (zero-mul n) (take-length S) in
       let byte = level-byte (whole b n) 0 (omega arith) S k 0 in
-      sym (rw (starts n, ends n, all, take_all n (reduced b S) (le_of_eq (reduced-length b S)), at) at byte)
+      sym (rw (starts n, ends n, all, take_all n (reduced b S) (le_of_eq reduced-length), at) at byte)
 
   -- ---- the loop, from the last byte to the first
   pub row-none : (k : ℕ) → k ≡ packed_length b (length S) → 0 ≡ folded (drop k bytes)

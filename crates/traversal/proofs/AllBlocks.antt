@@ -1,4 +1,5 @@
 -- The loop over the blocks, each within the block radius r.
+use Rattle.std.specs.Prelude.{Option, Some, None}
 use Prim.Native.Nat.{ℕ, suc, ◌+◌, ◌-◌, ◌/◌, ◌≤◌, ◌<◌}
 use native.Mathlib.Omega.{arith}
 use native.Mathlib.Numerals.{add-one}
@@ -10,8 +11,6 @@ use Rattle.walk.specs.Leaves.{Leaves, leaves, broken}
 use Rattle.walk.specs.Walk.{walk_from}
 use Rattle.hits.specs.Hit.{Test}
 use Rattle.meeting.specs.declared.Tally.{Tally}
-use Rattle.meeting.specs.declared.Tallies.{Tallies}
-use Rattle.meeting.specs.declared.Tallies.TheVariants.{Some, Broken}
 use Rattle.meeting.specs.Meets.{Meets, met, broken as unmet, and_then, with_left, chains_of, chain}
 use Rattle.meeting.specs.Mets.{Meeting}
 use Rattle.traversal.specs.Meets.{walk_of, pages_of, meet_block, meet_from, meet_blocks}
@@ -49,7 +48,7 @@ module _ (h : Header) (N P x : List ℕ) (r : ℕ) where
         let none : h.q - j ≡ 0 = omega arith in
         going-over asked words g left (ap (λ k. meet_from h N P x r k j left) none)
 
-    module _ (l : j < h.q) {now counts' : List ℕ} {a : Tallies} (call : Meeting asked words (meet_block h N P x r j left) map now counts' a) where
+    module _ (l : j < h.q) {now counts' : List ℕ} {a : Option Tally} (call : Meeting asked words (meet_block h N P x r j left) map now counts' a) where
       abbrev others : ℕ → Meets
       others n = meet_from h N P x r (h.q - (j + 1)) (j + 1) n
 
@@ -66,5 +65,5 @@ module _ (h : Header) (N P x : List ℕ) (r : ℕ) where
       pub blocks-left : (t : Tally) → a ≡ Some t → t.left ≤ left
       blocks-left t e = let x = call.some t e in block-left j left x.0 t.left x.1
 
-      pub blocks-stop : a ≡ Broken → Meeting asked words m map₀ now counts' Broken
+      pub blocks-stop : a ≡ None → Meeting asked words m map₀ now counts' None
       blocks-stop e = going-stop asked words g call e (λ q. first ∙ ap (λ z. and_then z others) q)

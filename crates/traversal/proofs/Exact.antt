@@ -1,4 +1,5 @@
 -- A block radius of 0: the descents of all blocks draw on the budget first, then the pages of their leaves are met.
+use Rattle.std.specs.Prelude.{Option, Some, None}
 use Prim.Native.Nat.{ℕ, zero, suc, ◌+◌, ◌-◌, ◌*◌, ◌≤◌, ◌<◌}
 use native.Mathlib.Omega.{arith}
 use mathlib.Core.Path.{◌≡◌, refl, sym, ap, ◌∙◌}
@@ -12,7 +13,6 @@ use Rattle.meaning.proofs.Lists.{length_from}
 use Rattle.layout.specs.declared.Header.{Header}
 use Rattle.layout.specs.Pages.{next_at}
 use Rattle.hits.specs.Hit.{Test}
-use Rattle.descent.specs.declared.Left.TheVariants as left
 use Rattle.descent.specs.Cursor.{left_of}
 use Rattle.block_leaves.specs.declared.Ends.{Ends}
 use Rattle.block_leaves.specs.Leaves.{leaf_in, drawn_in, drawn_from, Leaves}
@@ -22,8 +22,6 @@ use Rattle.walk.proofs.Run.{from-exact}
 use Rattle.meeting.specs.declared.Chain.{Chain}
 use Rattle.meeting.specs.declared.Chains.{Chains}
 use Rattle.meeting.specs.declared.Tally.{Tally}
-use Rattle.meeting.specs.declared.Tallies.{Tallies}
-use Rattle.meeting.specs.declared.Tallies.TheVariants.{Some, Broken}
 use Rattle.meeting.specs.Meets.{Meets, met, broken, after, and_then, with_left, chain_of, chains_of, chain}
 use Rattle.meeting.specs.Mets.{Tallied, Meeting}
 use Rattle.meeting.specs.Chains.{base_of, Linked}
@@ -34,19 +32,19 @@ use Rattle.traversal.specs.Meets.{walk_of, pages_of, meet_block, meet_from}
 use Rattle.traversal.proofs.Going.{Going, going_start, going-same, going-over, going-met, going-stop}
 
 -- ---- what is left of a budget, by the code's answer
-left-some : (n d k : ℕ) → left_of n d ≡ left.Some k → (d ≤ n) × (n - d ≡ k)
+left-some : (n d k : ℕ) → left_of n d ≡ Some k → (d ≤ n) × (n - d ≡ k)
 unfolding left_of
 left-some n d k = go (ltb n d) refl
   where
-    go : (t : Bool) → ltb n d ≡ t → cond t left.Broken (left.Some (n - d)) ≡ left.Some k → (d ≤ n) × (n - d ≡ k)
+    go : (t : Bool) → ltb n d ≡ t → cond t None (Some (n - d)) ≡ Some k → (d ≤ n) × (n - d ≡ k)
     go true e h = let w : ◌≡◌ {A = ℕ} 0 1 = cc in absurd (omega arith)
     go false e h = (omega (arith, ltb-false n d e), cc)
 
-left-broken : (n d : ℕ) → left_of n d ≡ left.Broken → n < d
+left-none : (n d : ℕ) → left_of n d ≡ None → n < d
 unfolding left_of
-left-broken n d = go (ltb n d) refl
+left-none n d = go (ltb n d) refl
   where
-    go : (t : Bool) → ltb n d ≡ t → cond t left.Broken (left.Some (n - d)) ≡ left.Broken → n < d
+    go : (t : Bool) → ltb n d ≡ t → cond t None (Some (n - d)) ≡ None → n < d
     go true e h = ltb-true n d e
     go false e h = let w : ◌≡◌ {A = ℕ} 0 1 = cc in absurd (omega arith)
 
@@ -119,10 +117,10 @@ module _ (h : Header) (N P x : List ℕ) where
 
   -- ---- as the code goes: the descents, then the chains
   module _ (budget : ℕ) (ends : Ends) (found : Leaves h N x budget ends) where
-    pub exact-spent : ends.left ≡ left.Broken → meet_from h N P x 0 h.q 0 budget ≡ broken
-    exact-spent e = blocks-spent h.q 0 budget (left-broken budget (drawn_from h N x h.q 0) (sym found.left ∙ e))
+    pub exact-spent : ends.left ≡ None → meet_from h N P x 0 h.q 0 budget ≡ broken
+    exact-spent e = blocks-spent h.q 0 budget (left-none budget (drawn_from h N x h.q 0) (sym found.left ∙ e))
 
-    exact-lasts : (over : ℕ) → ends.left ≡ left.Some over → (r : Chains) → Linked (base_of (next_at h.pages 0) h.pages) ends.firsts h.q r → h.q ≤ 16
+    exact-lasts : (over : ℕ) → ends.left ≡ Some over → (r : Chains) → Linked (base_of (next_at h.pages 0) h.pages) ends.firsts h.q r → h.q ≤ 16
         → meet_from h N P x 0 h.q 0 budget ≡ with_left over (chains_of P h.pages (h.q * h.pages) (take r.n r.each))
     exact-lasts over e r linked few =
         let lasts = left-some budget (drawn_from h N x h.q 0) over (sym found.left ∙ e) in
@@ -134,8 +132,8 @@ module _ (h : Header) (N P x : List ℕ) where
         ∙ ap (λ ds. with_left over (chains_of P h.pages (h.q * h.pages) ds)) (sym (linked-each h.pages linked few (leaf_in h N x) (found.each over e)))
 
     -- the chains are met
-    module _ (over : ℕ) (e : ends.left ≡ left.Some over) {cs : Chains} (linked : Linked (base_of (next_at h.pages 0) h.pages) ends.firsts h.q cs) (few : h.q ≤ 16)
-        (asked : Test) (words : ℕ) {map now counts counts' : List ℕ} (count : ℕ) (counted : Tallied asked words map counts count) {r : Tallies}
+    module _ (over : ℕ) (e : ends.left ≡ Some over) {cs : Chains} (linked : Linked (base_of (next_at h.pages 0) h.pages) ends.firsts h.q cs) (few : h.q ≤ 16)
+        (asked : Test) (words : ℕ) {map now counts counts' : List ℕ} (count : ℕ) (counted : Tallied asked words map counts count) {r : Option Tally}
         (call : Meeting asked words (chains_of P h.pages (h.q * h.pages) (take cs.n cs.each)) map now counts' r) where
       begun : Going asked words (meet_from h N P x 0 h.q 0 budget) map map counts (with_left over (chains_of P h.pages (h.q * h.pages) (take cs.n cs.each))) count
       begun = going-same asked words (going_start asked words map counts (meet_from h N P x 0 h.q 0 budget) count counted) _ (exact-lasts over e cs linked few)
@@ -145,5 +143,5 @@ module _ (h : Header) (N P x : List ℕ) where
           going-over asked words
           (going-met asked words begun call t f (met [] over) (λ ps q. ap (with_left over) q ∙ ap (λ qs. met qs over) (sym (append-nil ps)))) over refl
 
-      pub exact-unmet : r ≡ Broken → Meeting asked words (meet_from h N P x 0 h.q 0 budget) map now counts' Broken
+      pub exact-unmet : r ≡ None → Meeting asked words (meet_from h N P x 0 h.q 0 budget) map now counts' None
       exact-unmet f = going-stop asked words begun call f (λ q. ap (with_left over) q)

@@ -1,12 +1,11 @@
 -- Of the pages of a search some are met, and others are to come.
+use Rattle.std.specs.Prelude.{Option, Some, None}
 use Prim.Native.Nat.{ℕ}
 use native.Mathlib.Omega.{arith}
 use mathlib.Core.Path.{◌≡◌, sym, ap, subst, ◌∙◌}
 use mathlib.Core.List.{List, [], ◌++◌, append-nil}
 use Rattle.hits.specs.Hit.{Test, passes}
 use Rattle.meeting.specs.declared.Tally.{Tally}
-use Rattle.meeting.specs.declared.Tallies.{Tallies}
-use Rattle.meeting.specs.declared.Tallies.TheVariants.{Some, Broken}
 use Rattle.meeting.specs.Meets.{Meets, met, broken, after}
 use Rattle.meeting.specs.Mets.{Met, Tallied, Meeting}
 use Rattle.meeting.proofs.Links.{after_none, after-after}
@@ -15,10 +14,10 @@ use Rattle.meeting.proofs.Maps.{kept_on, met-none, met-on}
 abbrev tally : ℕ → ℕ → Tally
 tally left count = record { left = left; count = count }
 
-differ : (t : Tally) → Broken ≡ Some t → ⊥
+differ : (t : Tally) → None ≡ Some t → ⊥
 differ t q = let z : ◌≡◌ {A = ℕ} 0 1 = cc in omega arith
 
-pub meeting-same : {asked : Test} {words : ℕ} {m p : Meets} {map now counts : List ℕ} {r : Tallies} → m ≡ p
+pub meeting-same : {asked : Test} {words : ℕ} {m p : Meets} {map now counts : List ℕ} {r : Option Tally} → m ≡ p
     → Meeting asked words m map now counts r → Meeting asked words p map now counts r
 meeting-same {asked} {words} {map = map} {now = now} {counts = counts} {r = r} e = subst (λ q. Meeting asked words q map now counts r) e
 
@@ -38,7 +37,7 @@ module _ (asked : Test) (words : ℕ) where
     going-same others e = record { seen = g.seen; same = ap (after g.seen) (sym e) ∙ g.same; met = g.met; tallied = g.tallied }
 
     -- ---- the ends
-    pub going-broken : rest ≡ broken → Meeting asked words m before map counts Broken
+    pub going-broken : rest ≡ broken → Meeting asked words m before map counts None
     going-broken e = record {
       kept = g.met.kept;
       some = λ t q. absurd (differ t q);
@@ -56,7 +55,7 @@ module _ (asked : Test) (words : ℕ) where
     }
 
     -- ---- pages p are met
-    module _ {p : Meets} {now counts' : List ℕ} {r : Tallies} (call : Meeting asked words p map now counts' r) where
+    module _ {p : Meets} {now counts' : List ℕ} {r : Option Tally} (call : Meeting asked words p map now counts' r) where
       pub going-met : (t : Tally) → r ≡ Some t → (others : Meets) → ((ps : List ℕ) → p ≡ met ps t.left → rest ≡ after ps others)
           → Going m before now counts' others t.count
       going-met t e others on =
@@ -67,7 +66,7 @@ module _ (asked : Test) (words : ℕ) where
             tallied = x.3;
           }
 
-      pub going-stop : r ≡ Broken → (p ≡ broken → rest ≡ broken) → Meeting asked words m before now counts' Broken
+      pub going-stop : r ≡ None → (p ≡ broken → rest ≡ broken) → Meeting asked words m before now counts' None
       going-stop e on = record {
         kept = kept_on g.met.kept call.kept;
         some = λ t q. absurd (differ t q);

@@ -17,10 +17,7 @@ use Rattle.layout.specs.Lengths.{nodes_length, pages_length}
 use Rattle.block_leaves.specs.Leaves.{block_size}
 use Rattle.block_leaves.proofs.Sizes.{bytes-length, size-most, size-some}
 use Rattle.walk_steps.specs.Given.{given, Fitting}
-use Rattle.meeting.specs.declared.Scope.{Scope}
-use Rattle.meeting.specs.Mets.{Kept, Ready}
-use Rattle.meeting.proofs.Maps.{kept-room}
-use Rattle.traversal.specs.Ready.{Prepared}
+use Rattle.layout.specs.Limits.{HeaderLimits}
 
 -- the packed bytes of block j
 pub bytes-first : (h : Header) (x : List ℕ) → length x ≡ h.m → (j : ℕ) → j < h.q → (n : ℕ) (out : List ℕ) → n ≡ block_size h j
@@ -29,38 +26,24 @@ unfolding onto bytes_of_sketch
 bytes-first h x all j l n out e =
     take_at (pack h.b (block h.m h.q j x)) (drop (length (pack h.b (block h.m h.q j x))) out) n (bytes-length h x all j l ∙ sym e)
 
--- another map
-pub ready-kept : {P S x M M' : List ℕ} {s : Scope} → Kept s.words M M' → Ready P S x M s → Ready P S x M' s
-ready-kept k r = record { fitting = r.fitting; prepared = r.prepared; room = kept-room k r.room; bits = r.bits }
+pub nodes-there : (h : Header) (N : List ℕ) → nodes_length (bare h) ≤ length N → node_words h.nodes ≤ length N
+unfolding nodes_length
+nodes-there h N long = long
 
-module _ {N P S x M : List ℕ} {s : Scope} (given-all : Prepared N P S x M s) where
-  pub prepared-kept : {M' : List ℕ} → Kept s.words M M' → Prepared N P S x M' s
-  prepared-kept k = record { ready = ready-kept k given-all.ready; nodes-long = given-all.nodes-long; range = given-all.range }
+pub links-inside : (h : Header) (P : List ℕ) → pages_length (bare h) ≤ length P → (j : ℕ) → j < h.q → next_at h.pages j + h.pages ≤ length P
+unfolding pages_length
+links-inside h P long j l =
+    let behind : 2 + j < 2 + h.q = omega arith in
+    omega (arith, rw suc-mul at (mul-le-mul_right h.pages behind), long)
 
-  pub nodes-there : node_words s.probe.header.nodes ≤ length N
-  unfolding nodes_length
-  nodes-there = given-all.nodes-long
-
-  module _ (j : ℕ) (l : j < s.probe.header.q) where
-    pub links-inside : next_at s.probe.header.pages j + s.probe.header.pages ≤ length P
-    unfolding pages_length
-    links-inside =
-        let behind : 2 + j < 2 + s.probe.header.q = omega arith in
-        omega (arith, rw suc-mul at (mul-le-mul_right s.probe.header.pages behind), given-all.ready.fitting.pages)
-
-    pub links-small : next_at s.probe.header.pages j < 2097152
-    links-small =
-        let few : 2 + j ≤ 10 = omega (arith, given-all.ready.fitting.limits.blocks-most) in
-        omega (arith, mul-le-mul_right s.probe.header.pages few, given-all.ready.fitting.limits.pages-most)
-
-    -- what the walk of block j asks
-    pub fitting : (bytes : List ℕ) → bytes ≡ bytes_of_sketch (bare s.probe.header) j x → Fitting (given N s.probe.header.nodes s.probe.header.b bytes)
-    fitting bytes e =
-        let f = given-all.ready.fitting in
-        let long : length (bytes_of_sketch (bare s.probe.header) j x) ≡ _ = bytes-length s.probe.header x f.query j l in
-        rw e record {
-          nodes = record { long = nodes-there; small = f.limits.nodes-most };
-          b = (f.limits.bits-least, f.limits.bits_most);
-          some = rw long (size-some s.probe.header f.limits j l);
-          bytes = omega (arith, long, size-most s.probe.header f.limits j l);
-        }
+-- what the walk of block j asks
+pub fitting : (h : Header) → HeaderLimits h → (N x : List ℕ) → nodes_length (bare h) ≤ length N → length x ≡ h.m → (j : ℕ) → j < h.q
+    → (bytes : List ℕ) → bytes ≡ bytes_of_sketch (bare h) j x → Fitting (given N h.nodes h.b bytes)
+fitting h limits N x there query j l bytes e =
+    let long : length (bytes_of_sketch (bare h) j x) ≡ _ = bytes-length h x query j l in
+    rw e record {
+      nodes = record { long = nodes-there h N there; small = limits.nodes-most };
+      b = (limits.bits-least, limits.bits_most);
+      some = rw long (size-some h limits j l);
+      bytes = omega (arith, long, size-most h limits j l);
+    }

@@ -1,3 +1,2 @@
 pub mod Meets
-pub mod Ready
 pub mod Bytes

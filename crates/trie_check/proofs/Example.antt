@@ -19,7 +19,8 @@ use Rattle.node_check.specs.Mark.{mark_once}
 use Rattle.node_check.specs.Leaf.{kind_of, on_path, test_pages, test_leaf}
 use Rattle.children.specs.Order.{bare, entered, step_along, next_child}
 use Rattle.node_check.specs.Frame.{step_in}
-use Rattle.trie_visit.specs.Visit.{given, Fitting, visit_child, visit}
+use Rattle.node_check.specs.Given.{given, Readable, Fitting}
+use Rattle.trie_visit.specs.Visit.{visit_child, visit}
 use Rattle.trie_check.specs.Trie.{left_if, run, test_below, test_trie}
 
 -- three symbols of 8 bits, a byte each; 6 nodes, 3 pages
@@ -52,9 +53,9 @@ window : Window
 window = record { from = 0; size = 6 }
 
 -- the tables fit
-fits : Fitting (given nodes pages sketches block rows window) (0 ∷ [])
+readable : Readable (given nodes pages sketches block rows window)
 unfolding block rows sketches pages nodes window packed_length per_byte
-fits = record {
+readable = record {
   nodes = record { long = omega arith; small = omega arith };
   pages = record { long = omega arith; small = omega arith };
   behind = omega arith;
@@ -63,8 +64,11 @@ fits = record {
   symbols = omega arith;
   bytes = refl;
   some = omega arith;
-  bitmap = omega arith;
 }
+
+fits : Fitting (given nodes pages sketches block rows window) (0 ∷ [])
+unfolding window
+fits = record { readable = readable; bitmap = omega arith }
 
 -- the answer for a window, a node table and a page table, with so many nodes allowed and so many pages wanted
 answer_in : Window → List ℕ → List ℕ → ℕ → ℕ → Option ℕ

@@ -2,7 +2,6 @@
 use Rattle.std.specs.Bool.{then_some}
 use Rattle.std.specs.Prelude.{Option, Some, None}
 use Prim.Native.Nat.{ℕ, suc, ◌+◌, ◌-◌, ◌<◌}
-use native.Mathlib.Omega.{arith}
 use mathlib.Core.Path.{◌≡◌, refl, sym, ap, ◌∙◌}
 use mathlib.Core.Bool.{Bool, true, false}
 use mathlib.Core.List.{List, [], ◌∷◌}
@@ -15,22 +14,10 @@ use Rattle.trie_visit.specs.declared.Place.{Place}
 use Rattle.trie_visit.specs.declared.Move.{Move}
 use Rattle.trie_visit.specs.declared.Move.TheVariants as move
 use Rattle.children.specs.Order.{entered, past_child, next_chain}
-use Rattle.trie_visit.specs.Visit.{Given, Fitting, Visited, visited, visit, placed}
+use Rattle.node_check.specs.Given.{Given}
+use Rattle.trie_visit.specs.Visit.{Visited, visited, visit, placed}
 use Rattle.trie_check.specs.Trie.{State, state, Tested, tested, left_if, follow, run, test_below}
 use Rattle.trie_check.proofs.Stack.{no_frame}
-
-pub fitting-kept : (w : Given) (map after : List ℕ) → length after ≡ length map → Fitting w map → Fitting w after
-fitting-kept w map after e h = record {
-  nodes = h.nodes;
-  pages = h.pages;
-  behind = h.behind;
-  rows = h.rows;
-  bits = h.bits;
-  symbols = h.symbols;
-  bytes = h.bytes;
-  some = h.some;
-  bitmap = omega (arith, h.bitmap);
-}
 
 -- what is left where a test holds, as the code says it
 pub left-by : (left : ℕ) (q : Bool) → then_some q left ≡ left_if left q

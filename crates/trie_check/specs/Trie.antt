@@ -9,7 +9,8 @@ use Rattle.trie_visit.specs.declared.Move.TheVariants as move
 use Rattle.node_check.specs.Mark.{mark_once}
 use Rattle.node_check.specs.Leaf.{kind_of}
 use Rattle.children.specs.Order.{entered, past_child, next_chain}
-use Rattle.trie_visit.specs.Visit.{Given, Visited, visit, leaf_left}
+use Rattle.node_check.specs.Given.{Given}
+use Rattle.trie_visit.specs.Visit.{Visited, visit, leaf_left}
 
 -- the map, the path, what is left of both budgets, the frame of a node, and those of the nodes above, the nearest first
 pub record State : Type 0 where

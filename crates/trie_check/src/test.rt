@@ -1,13 +1,16 @@
-// The walk over one block's trie. It ends on any tables: each step, node and page draws on a budget.
-ghost use Rattle.std.specs.Prelude.{◌≡◌, ◌+◌, ◌-◌, ◌<◌};
+// The walk over one block's trie. It ends on any tables: each step, node and page draws on a budget. No twin of a search's walk, which
+// stops at each leaf, draws on a radius and keeps no path: one function for both would take every step from its parameter.
+ghost use Rattle.std.specs.Prelude.{◌≡◌, ◌+◌, ◌*◌, ◌-◌, ◌≤◌, ◌<◌, length};
 ghost use Rattle.layout.specs.Tables.{NodeTable};
 ghost use Rattle.children.specs.Order.{entered, past_child};
-ghost use Rattle.trie_visit.specs.Visit.{within, Fitting, placed};
+ghost use Rattle.node_check.specs.Scope.{within};
+ghost use Rattle.trie_visit.specs.Visit.{placed};
 ghost use Rattle.trie_check.specs.Trie.{left_if, tested, test_below, test_trie};
 
 use children::order::{enter, next_chain, past_child};
-use node_check::leaf::Kind;
-use trie_visit::{Move, Place, Scope, visit};
+use node_check::leaf::{Kind, kind_of, test_leaf};
+use node_check::scope::Scope;
+use trie_visit::{Move, Place, visit};
 
 // After a leaf with a byte: `link` is after it, `pages` what is left of the page budget.
 fn past_leaf(place: Place, byte: u32, link: u32, pages: u32) -> Place
@@ -39,20 +42,12 @@ fn enter_child(nodes: &[u32], cap: usize, place: Place, x: u32) -> Place
 }
 
 // Tests what is below an inner root. What is left of the node budget; the page budget is to be spent.
-fn test_below(
-    nodes: &[u32],
-    pages: &[u32],
-    sketches: &[u8],
-    map: &mut [u32],
-    scope: Scope,
-    root: usize,
-    left: u32,
-    live: u32,
-) -> Option<u32>
-    requires fitting { Fitting (within nodes.now pages.now sketches.now scope) map.old }
-    requires root_lt_nodes { root < scope.block.nodes }
-    ensures { tested map.new result ≡ test_below (within nodes.now pages.now sketches.now scope) root map.old left live }
+fn test_below(scope: &Scope<'_>, map: &mut [u32], root: usize, left: u32, live: u32) -> Option<u32>
+    requires bitmap { scope.now.window.size ≤ 32 * length map.old }
+    requires root_lt_nodes { root < scope.now.block.nodes }
+    ensures { tested map.new result ≡ test_below (within scope.now) root map.old left live }
 {
+    let nodes = scope.nodes;
     let cap = scope.block.nodes;
     let frame = enter(nodes, cap, root);
     let mut place = Place {
@@ -61,20 +56,17 @@ fn test_below(
         left,
         pages: live,
     };
+    // Fixed memory inside a call: a trie has at most 64 levels.
     let mut stack = [frame; 64];
     let mut path = [0u8; 64];
     for _turn in 0..layout::nodes::STEPS * (cap + 1) {
-        let next = visit(nodes, pages, sketches, map, &mut path, scope, place)?;
+        let next = visit(scope, map, &mut path, place)?;
         match next {
             Move::Chain(link) => {
                 place.frame = next_chain(place.frame, link);
             }
-            Move::Past {
-                byte,
-                link,
-                pages: left,
-            } => {
-                place = past_leaf(place, byte, link, left);
+            Move::Past { byte, link, pages } => {
+                place = past_leaf(place, byte, link, pages);
             }
             Move::Down { node, byte, link } => {
                 let depth = place.depth;
@@ -97,18 +89,15 @@ fn test_below(
 // Tests the trie of the block with this root, in which as many pages are to stand as `live`. What is left of a budget of nodes.
 #[tactic(auto, unfolding(crate::specs::Trie::test_trie, crate::specs::Trie::left_if))]
 pub fn test_trie(
-    nodes: &[u32],
-    pages: &[u32],
-    sketches: &[u8],
+    scope: &Scope<'_>,
     map: &mut [u32],
-    scope: Scope,
     root: usize,
     budget: u32,
     live: u32,
 ) -> Option<u32>
-    requires fitting { Fitting (within nodes.now pages.now sketches.now scope) map.old }
-    requires root_lt_nodes { root < scope.block.nodes }
-    ensures { tested map.new result ≡ test_trie (within nodes.now pages.now sketches.now scope) root map.old budget live }
+    requires bitmap { scope.now.window.size ≤ 32 * length map.old }
+    requires root_lt_nodes { root < scope.now.block.nodes }
+    ensures { tested map.new result ≡ test_trie (within scope.now) root map.old budget live }
 {
     if budget == 0 {
         return None;
@@ -117,22 +106,12 @@ pub fn test_trie(
         return None;
     }
     let left = budget - 1;
-    match node_check::leaf::kind_of(nodes, scope.block.nodes, root)? {
-        Kind::Inner => test_below(nodes, pages, sketches, map, scope, root, left, live),
+    match kind_of(scope.nodes, scope.block.nodes, root)? {
+        Kind::Inner => test_below(scope, map, root, left, live),
         Kind::Leaf(first) => {
             let path = [0u8; 64];
-            let count = layout::nodes::page_count(nodes, scope.block.nodes, root);
-            let n = node_check::leaf::test_leaf(
-                pages,
-                sketches,
-                scope.block,
-                scope.rows,
-                &path,
-                0,
-                first,
-                count,
-                live,
-            )?;
+            let count = layout::nodes::page_count(scope.nodes, scope.block.nodes, root);
+            let n = test_leaf(scope, &path, 0, first, count, live)?;
             (n == 0).then_some(left)
         }
     }

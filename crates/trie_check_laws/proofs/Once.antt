@@ -20,7 +20,7 @@ use Rattle.trie_laws.proofs.Sound.{inner-parts, child-parts}
 use Rattle.trie_laws.proofs.Walk.{walk-sound}
 use Rattle.trie_laws.proofs.Distinct.{distinct-once, distinct-count}
 use Rattle.trie_laws.proofs.Pages.{off_byte, off-bytes}
-use Rattle.trie_visit.specs.Visit.{Given}
+use Rattle.node_check.specs.Given.{Given}
 use Rattle.trie_check_laws.specs.Found.{Found}
 use Rattle.trie_check_laws.proofs.Same.{same-pages}
 

@@ -16,7 +16,8 @@ use Rattle.node_check.specs.Mark.{mark_once}
 use Rattle.node_check.specs.Leaf.{kind_of, on_path, test_pages, test_leaf}
 use Rattle.children.specs.Order.{bare, entered, step_along, next_child}
 use Rattle.node_check.specs.Frame.{step_in}
-use Rattle.trie_visit.specs.Visit.{Given, given, Fitting, visit_child, visit}
+use Rattle.node_check.specs.Given.{Given, given, Readable, Fitting}
+use Rattle.trie_visit.specs.Visit.{visit_child, visit}
 use Rattle.trie_check.specs.Trie.{tested, run, left_if, test_below, test_trie}
 use Rattle.trie_check_laws.specs.Found.{Reads, Found, Marked}
 use Rattle.trie_check_laws.proofs.RightTrie.{test-right}
@@ -41,9 +42,9 @@ unfolding test_trie test_below run visit visit_child left_if entered step_in nex
     flag with_flag bit with_bit packable symbols_at per_byte all upto from
 example = refl
 
-fits : Fitting w (0 ∷ [])
+readable : Readable w
 unfolding packed_length per_byte
-fits = record {
+readable = record {
   nodes = record { long = omega arith; small = omega arith };
   pages = record { long = omega arith; small = omega arith };
   behind = omega arith;
@@ -59,8 +60,10 @@ fits = record {
   symbols = omega arith;
   bytes = refl;
   some = omega arith;
-  bitmap = omega arith;
 }
+
+fits : Fitting w (0 ∷ [])
+fits = record { readable = readable; bitmap = omega arith }
 
 abbrev bytes_of : ℕ → List ℕ
 bytes_of p = 228 ∷ []

@@ -29,7 +29,8 @@ use Rattle.children.proofs.Leaves.{held-state}
 use Rattle.trie_laws.proofs.Path.{shift}
 use Rattle.node_check.specs.declared.leaf.Kind.TheVariants.{Inner, Leaf}
 use Rattle.node_check.specs.Leaf.{childless, kind_of, on_path, counted, test_pages, test_leaf}
-use Rattle.trie_visit.specs.Visit.{Given, leaf_left}
+use Rattle.node_check.specs.Given.{Given}
+use Rattle.trie_visit.specs.Visit.{leaf_left}
 use Rattle.trie_check_laws.specs.Found.{Reads}
 use Rattle.children.proofs.Tests.{refused, passed}
 

@@ -21,7 +21,7 @@ use Rattle.trie_laws.specs.Walk.{sound_walk, walk_from}
 use Rattle.meaning.proofs.Lists.{and_intro, and_first, and_second, all_append}
 use Rattle.children.specs.declared.order.Frame.{Frame}
 use Rattle.children.specs.Order.{entered, past_child, next_chain}
-use Rattle.trie_visit.specs.Visit.{Given}
+use Rattle.node_check.specs.Given.{Given}
 use Rattle.trie_check_laws.specs.Uses.{uses_among}
 use Rattle.trie_check_laws.proofs.RightStep.{AtChild}
 use Rattle.children.proofs.StepWords.{AtChain, AtEnd}

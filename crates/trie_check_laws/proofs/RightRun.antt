@@ -10,7 +10,7 @@ use Rattle.words.specs.Bits.{flag}
 use Rattle.children.specs.Phys.{Phys, Kids, no_kid, kid, tree, children_of}
 use Rattle.children.specs.declared.order.Frame.{Frame}
 use Rattle.children.specs.Order.{past_child, next_chain}
-use Rattle.trie_visit.specs.Visit.{Given}
+use Rattle.node_check.specs.Given.{Given}
 use Rattle.trie_check_laws.specs.Uses.{uses, uses_among}
 use Rattle.trie_check_laws.specs.Found.{one}
 use Rattle.trie_check_laws.proofs.RightStep.{AtChild}

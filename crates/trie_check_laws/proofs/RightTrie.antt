@@ -29,7 +29,8 @@ use Rattle.node_check.specs.Mark.{mark_once}
 use Rattle.node_check.specs.Leaf.{kind_of}
 use Rattle.children.specs.Order.{entered, past_child, next_chain}
 use Rattle.node_check.specs.Frame.{step_in}
-use Rattle.trie_visit.specs.Visit.{Given, Fitting, Visited, visited, child_move, leaf_left, past_leaf, visit_child, visit_step, visit}
+use Rattle.node_check.specs.Given.{Given, Fitting}
+use Rattle.trie_visit.specs.Visit.{Visited, visited, child_move, leaf_left, past_leaf, visit_child, visit_step, visit}
 use Rattle.trie_check.specs.Trie.{state, Tested, tested, follow, run, left_if, left_leaf, test_below, test_kind, test_trie}
 use Rattle.trie_check_laws.specs.Uses.{uses_among}
 use Rattle.trie_check_laws.specs.Found.{Reads, Found, Marked, one}
@@ -323,4 +324,4 @@ test-right w bytes_of at left total map map' left' fit reads inside h =
     go false z false u h = absurd (failed w bytes_of reads map' left' map₁ h)
     go false z true u h =
         kind-root w bytes_of reads map' left' at left total map inside (eqb-false left 0 z) fit.bitmap map₁
-        (mark-fresh w.window map at fit.bitmap u) (kind_of w.nodes w.block.nodes at) refl fit.rows.short fit.some h
+        (mark-fresh w.window map at fit.bitmap u) (kind_of w.nodes w.block.nodes at) refl fit.readable.rows.short fit.readable.some h

@@ -18,7 +18,8 @@ use Rattle.node_check.specs.Mark.{noted, mark_once}
 use Rattle.node_check.specs.Leaf.{kind_of}
 use Rattle.children.specs.Order.{entered, past_child, next_chain, next_child}
 use Rattle.node_check.specs.Frame.{step_in}
-use Rattle.trie_visit.specs.Visit.{Given, Visited, visited, child_move, on_mark, visit_child, on_child, visit_step, visit}
+use Rattle.node_check.specs.Given.{Given}
+use Rattle.trie_visit.specs.Visit.{Visited, visited, child_move, on_mark, visit_child, on_child, visit_step, visit}
 use Rattle.trie_check.specs.Trie.{State, state, Tested, tested, left_if, follow, run}
 
 -- ---- from state to state

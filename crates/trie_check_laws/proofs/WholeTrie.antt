@@ -24,7 +24,8 @@ use Rattle.node_check.specs.declared.leaf.Kind.TheVariants as kind
 use Rattle.node_check.specs.Mark.{Noted, noted, mark_once}
 use Rattle.node_check.specs.Leaf.{kind_of}
 use Rattle.children.specs.Order.{entered, past_child, next_chain, next_child}
-use Rattle.trie_visit.specs.Visit.{Given, Fitting, leaf_left, past_leaf}
+use Rattle.node_check.specs.Given.{Given, Fitting}
+use Rattle.trie_visit.specs.Visit.{leaf_left, past_leaf}
 use Rattle.trie_check.specs.Trie.{State, state, Tested, tested, left_if, left_leaf, run, test_below, test_kind, test_trie}
 use Rattle.trie_check_laws.specs.Uses.{uses, uses_among}
 use Rattle.trie_check_laws.specs.Found.{Reads, Found, Marked, one}
@@ -462,7 +463,7 @@ pub test-whole : (w : Given) (bytes_of : ℕ → List ℕ) (root left total : �
     → (map' : List ℕ) × (test_trie w root map left total ≡ tested map' (Some (left - nodes (tree t)))) × Marked w t map map'
 test-whole w bytes_of root left total map t fits reads found l m c =
     let count : size t ≡ nodes (tree t) = size-nodes t in
-    let answer = root-whole w bytes_of fits.nodes.small fits.pages.small fits.rows.short reads t map left total found.holds found.sound
+    let answer = root-whole w bytes_of fits.readable.nodes.small fits.readable.pages.small fits.readable.rows.short reads t map left total found.holds found.sound
     (fit bytes_of (is_live w.pages) w.rows.bits w.rows.length w.rows.bytes t [] found.walked found.live)
     fits.bitmap c (omega arith) (omega arith) (load-pages t ∙ found.pages) in (
       answer.after,

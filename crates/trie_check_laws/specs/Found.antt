@@ -9,7 +9,7 @@ use Rattle.children.specs.Phys.{Phys, root, tree, cells}
 use Rattle.children.specs.Phys.{Sound as SoundNodes}
 use Rattle.blocks.specs.Packed.{page_byte, level_at}
 use Rattle.trie_laws.specs.Walk.{sound_walk}
-use Rattle.trie_visit.specs.Visit.{Given}
+use Rattle.node_check.specs.Given.{Given}
 use Rattle.trie_check_laws.specs.Uses.{uses}
 
 -- the packed bytes are those that the rows of the sketch table give

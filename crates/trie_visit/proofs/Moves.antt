@@ -18,7 +18,8 @@ use Rattle.trie_visit.specs.declared.Move.TheVariants as move
 use Rattle.node_check.specs.Mark.{mark_once}
 use Rattle.node_check.specs.Leaf.{kind_of}
 use Rattle.node_check.specs.Frame.{step_in}
-use Rattle.trie_visit.specs.Visit.{Given, past_leaf, leaf_left, child_move, visit_child, visited, visit_step, visit}
+use Rattle.node_check.specs.Given.{Given}
+use Rattle.trie_visit.specs.Visit.{past_leaf, leaf_left, child_move, visit_child, visited, visit_step, visit}
 use Rattle.node_check.proofs.Steps.{chain-within, child-within}
 
 -- a visit leads to a chain of the eight, or past a byte while nodes are left, or to a node of the table above the last level

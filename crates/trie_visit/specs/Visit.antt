@@ -1,53 +1,18 @@
--- What a walk over a block's trie goes by, and where a visit leads.
-use Rattle.std.specs.Prelude.{ℕ, ◌+◌, ◌*◌, ◌<◌, ◌≤◌, ◌≡◌, cond, List, ltb, eqb, length, set, Option, Some, None}
-use Rattle.meaning.specs.Sketch.{packed_length}
-use Rattle.sketch.specs.Settings.{Bits}
-use Rattle.layout.specs.declared.Block.{Block}
-use Rattle.blocks.specs.declared.Rows.{Rows}
-use Rattle.layout.specs.Tables.{NodeTable, PageTable}
+-- Where a visit of a walk over a block's trie leads.
+use Rattle.std.specs.Prelude.{ℕ, ◌+◌, cond, List, ltb, eqb, set, Option, Some, None}
 use Rattle.layout.specs.States.{count_of}
-use Rattle.blocks.specs.Tables.{RowTable}
 use Rattle.children.specs.declared.order.Frame.{Frame}
 use Rattle.children.specs.declared.order.Step.{Step}
 use Rattle.children.specs.declared.order.Step.TheVariants as step
 use Rattle.node_check.specs.declared.leaf.Kind.{Kind}
 use Rattle.node_check.specs.declared.leaf.Kind.TheVariants as kind
-use Rattle.node_check.specs.declared.mark.Window.{Window}
-use Rattle.trie_visit.specs.declared.Scope.{Scope}
+use Rattle.node_check.specs.Given.{Given}
 use Rattle.trie_visit.specs.declared.Place.{Place}
 use Rattle.trie_visit.specs.declared.Move.{Move}
 use Rattle.trie_visit.specs.declared.Move.TheVariants as move
 use Rattle.node_check.specs.Mark.{Noted, mark_once}
 use Rattle.node_check.specs.Leaf.{kind_of, test_leaf}
 use Rattle.node_check.specs.Frame.{step_in}
-
--- what a test goes by: the tables, the block, its rows, and the nodes that the map has bits for
-pub record Given : Type 0 where
-  pub nodes : List ℕ
-  pub pages : List ℕ
-  pub sketches : List ℕ
-  pub block : Block
-  pub rows : Rows
-  pub window : Window
-
-abbrev pub given : List ℕ → List ℕ → List ℕ → Block → Rows → Window → Given
-given nodes pages sketches block rows window =
-    record { nodes = nodes; pages = pages; sketches = sketches; block = block; rows = rows; window = window }
-
-abbrev pub within : List ℕ → List ℕ → List ℕ → Scope → Given
-within nodes pages sketches s = given nodes pages sketches s.block s.rows s.window
-
--- the tables and the map are long enough
-pub record Fitting (w : Given) (map : List ℕ) : Type 0 where
-  pub nodes : NodeTable w.block.nodes w.nodes
-  pub pages : PageTable w.block.pages w.block.base w.pages
-  pub behind : w.block.pages ≤ w.block.base
-  pub rows : RowTable w.block.pages w.rows w.sketches
-  pub bits : Bits w.rows.bits
-  pub symbols : w.rows.length ≤ 64
-  pub bytes : w.rows.bytes ≡ packed_length w.rows.bits w.rows.length
-  pub some : 0 < w.rows.bytes
-  pub bitmap : w.window.size ≤ 32 * length map
 
 -- where a walk stands
 abbrev pub placed : ℕ → Frame → ℕ → ℕ → Place

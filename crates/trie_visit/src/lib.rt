@@ -1,22 +1,13 @@
 // A visit: one step of the walk over a block's trie, and the test of the child that it leads to.
 #![tactic(auto)]
 
-ghost use Rattle.std.specs.Prelude.{◌≡◌, ◌<◌};
-ghost use Rattle.trie_visit.specs.Visit.{within, Fitting, seen, visit_child, visited, visit};
+ghost use Rattle.std.specs.Prelude.{◌≡◌, ◌*◌, ◌≤◌, ◌<◌, length};
+ghost use Rattle.node_check.specs.Scope.{within};
+ghost use Rattle.trie_visit.specs.Visit.{seen, visit_child, visited, visit};
 
-use blocks::Rows;
 use children::order::{Frame, Step};
-use layout::Block;
-use node_check::leaf::Kind;
-use node_check::mark::Window;
-
-// What a walk goes by: the block, its rows, and the nodes that the map has bits for.
-#[derive(Clone, Copy)]
-pub struct Scope {
-    pub block: Block,
-    pub rows: Rows,
-    pub window: Window,
-}
+use node_check::leaf::{Kind, kind_of, test_leaf};
+use node_check::scope::Scope;
 
 // Where a walk stands: the level, the children still to be tested there, and what is left of the node and the page budget.
 #[derive(Clone, Copy, Debug, PartialEq, Eq)]
@@ -35,7 +26,7 @@ struct Child {
     link: u32,
 }
 
-// Where a visit leads.
+// Where a visit leads. An enum and no closure for each: the walk alone has the stack that a move changes.
 #[derive(Clone, Copy, Debug, PartialEq, Eq)]
 pub enum Move {
     // to the next chain, by its first link
@@ -51,25 +42,22 @@ pub enum Move {
 // Tests a child of the node where the walk stands. None where the trie is not sound.
 #[tactic(auto, unfolding(crate::specs::Visit::visit_child))]
 fn visit_child(
-    nodes: &[u32],
-    pages: &[u32],
-    sketches: &[u8],
+    scope: &Scope<'_>,
     map: &mut [u32],
     path: &[u8; 64],
-    scope: Scope,
     place: Place,
     child: Child,
 ) -> Option<Move>
-    requires fitting { Fitting (within nodes.now pages.now sketches.now scope) map.old }
-    requires node_lt_nodes { (child.node < scope.block.nodes) × (place.depth < scope.rows.bytes) }
-    ensures { seen map.new result ≡ visit_child (within nodes.now pages.now sketches.now scope) map.old path.now place.depth child.node child.byte child.link place.pages }
+    requires bitmap { scope.now.window.size ≤ 32 * length map.old }
+    requires node_lt_nodes { (child.node < scope.now.block.nodes) × (place.depth < scope.now.rows.bytes) }
+    ensures { seen map.new result ≡ visit_child (within scope.now) map.old path.now place.depth child.node child.byte child.link place.pages }
 {
     let x = child.node as usize;
     if !node_check::mark::mark_once(map, scope.window, x) {
         return None;
     }
     let below = place.depth + 1;
-    match node_check::leaf::kind_of(nodes, scope.block.nodes, x)? {
+    match kind_of(scope.nodes, scope.block.nodes, x)? {
         Kind::Inner => {
             if below >= scope.rows.bytes {
                 return None;
@@ -84,22 +72,12 @@ fn visit_child(
             if first == 0 {
                 return None;
             }
-            let count = layout::nodes::page_count(nodes, scope.block.nodes, x);
-            let left = node_check::leaf::test_leaf(
-                pages,
-                sketches,
-                scope.block,
-                scope.rows,
-                path,
-                below,
-                first,
-                count,
-                place.pages,
-            )?;
+            let count = layout::nodes::page_count(scope.nodes, scope.block.nodes, x);
+            let pages = test_leaf(scope, path, below, first, count, place.pages)?;
             Some(Move::Past {
                 byte: child.byte,
                 link: child.link,
-                pages: left,
+                pages,
             })
         }
     }
@@ -107,28 +85,13 @@ fn visit_child(
 
 // Takes one step from a place, and tests the child that it leads to. None where the trie is not sound.
 #[tactic(auto, unfolding(crate::specs::Visit::visit))]
-pub fn visit(
-    nodes: &[u32],
-    pages: &[u32],
-    sketches: &[u8],
-    map: &mut [u32],
-    path: &mut [u8; 64],
-    scope: Scope,
-    place: Place,
-) -> Option<Move>
-    requires fitting { Fitting (within nodes.now pages.now sketches.now scope) map.old }
-    requires node_lt_nodes { (place.frame.node < scope.block.nodes) × (place.frame.group < 8) × (place.depth < scope.rows.bytes) }
-    ensures { visited map.new path.new result ≡ visit (within nodes.now pages.now sketches.now scope) map.old path.old place.depth place.frame place.left place.pages }
+pub fn visit(scope: &Scope<'_>, map: &mut [u32], path: &mut [u8; 64], place: Place) -> Option<Move>
+    requires bitmap { scope.now.window.size ≤ 32 * length map.old }
+    requires node_lt_nodes { (place.frame.node < scope.now.block.nodes) × (place.frame.group < 8) × (place.depth < scope.now.rows.bytes) }
+    ensures { visited map.new path.new result ≡ visit (within scope.now) map.old path.old place.depth place.frame place.left place.pages }
 {
     let depth = place.depth;
-    let step = node_check::frame::next_step(
-        nodes,
-        scope.block.nodes,
-        scope.rows.bits,
-        scope.rows.length,
-        depth,
-        place.frame,
-    )?;
+    let step = node_check::frame::next_step(scope, depth, place.frame)?;
     match step {
         Step::Chain(link) => Some(Move::Chain(link)),
         Step::Up => Some(Move::Up),
@@ -138,7 +101,7 @@ pub fn visit(
             }
             path[depth] = byte as u8;
             let child = Child { node, byte, link };
-            visit_child(nodes, pages, sketches, map, path, scope, place, child)
+            visit_child(scope, map, path, place, child)
         }
     }
 }

@@ -2,11 +2,13 @@
 #![tactic(auto)]
 
 ghost use Rattle.std.specs.Prelude.{◌+◌, ◌*◌, ◌≤◌, length};
-ghost use Rattle.promises.specs.Tables.{tables};
-ghost use Rattle.meaning.specs.Output.{output};
+ghost use Rattle.lent.specs.Lists.{output_of};
+ghost use Rattle.journal_calls.specs.Desk.{tables_of};
 ghost use Rattle.journal_turns.specs.Runs.{Ended, Completed};
 
-use journal_turns::turn::take_turn;
+use journal_calls::desk::Desk;
+use journal_turns::turn::{Program, take_turn};
+use lent::{Index, Lists};
 use std::io::{Print, Read, Stdin, Stdout};
 
 // Two lists for all pages, and a line that has them.
@@ -30,14 +32,10 @@ fn read_full(input: &mut Stdin, bytes: &mut [u8]) -> usize
     ensures { result ≤ length bytes.new }
 {
     let mut done = 0;
-    for _ in 0..u64::MAX {
-        if done >= bytes.len() {
-            break;
-        }
+    while done < bytes.len() {
         match input.read(&mut bytes[done..]) {
-            Ok(0) => break,
+            Ok(0) | Err(_) => break,
             Ok(n) => done += n,
-            Err(_) => break,
         }
     }
     done
@@ -58,38 +56,23 @@ fn write_last(out: Stdout, count: usize)
     let _ = out.write_all(&line[..n]);
 }
 
-// All commands, as far as they go, on lent tables; the lines are made in a lent buffer. The offset reached is given.
-fn run_on(
-    out: Stdout,
-    settings: &mut [u32],
-    nodes: &mut [u32],
-    pages: &mut [u32],
-    sketches: &mut [u8],
-    working: &mut [u32],
-    found: &mut [u16],
-    distances: &mut [u16],
-    line: &mut [u8],
-    bytes: &[u8],
-) -> usize
+// All commands, as far as they go, on the program's tables; the lines are made in its buffer. The offset reached is given.
+fn run_on(out: Stdout, program: &mut Program<'_>, bytes: &[u8]) -> usize
     requires bytes_len_bound { length bytes.now ≤ 65536 }
-    requires found_len_bound { length found.old ≤ 65535 }
-    requires found_in_bounds { 24 + 22 * length found.old ≤ length line.old }
-    ensures ended { Ended bytes.now (tables settings.old nodes.old pages.old sketches.old working.old) (output found.old distances.old) (tables settings.new nodes.new pages.new sketches.new working.new) (output found.new distances.new) result }
+    ensures ended { Ended bytes.now (tables_of program.old.desk) (output_of program.old.desk.lists) (tables_of program.new.desk) (output_of program.new.desk.lists) result }
     ensures upper_bound { result ≤ 65536 }
 {
     let mut at = 0;
-    let mut m: u8 = 0;
-    let mut going = true;
-    while going {
-        let t = take_turn(
-            settings, nodes, pages, sketches, working, found, distances, bytes, at, m, line,
-        );
-        write_line(out, line, t.length);
-        at = t.at;
-        m = t.m;
-        going = t.going;
+    let mut m = 0;
+    loop {
+        let turn = take_turn(program, bytes, at, m);
+        write_line(out, program.line, turn.length);
+        at = turn.at;
+        m = turn.m;
+        if !turn.going {
+            return at;
+        }
     }
-    at
 }
 
 // The program's tables, for its capacities and any settings, and its buffer for a line.
@@ -106,18 +89,23 @@ fn run(out: Stdout, bytes: &[u8]) -> usize
     let mut found = [0u16; FOUND];
     let mut distances = [0u16; FOUND];
     let mut line = [0u8; LINE];
-    run_on(
-        out,
-        &mut settings,
-        &mut nodes,
-        &mut pages,
-        &mut sketches,
-        &mut working,
-        &mut found,
-        &mut distances,
-        &mut line,
-        bytes,
-    )
+    let mut program = Program {
+        desk: Desk {
+            index: Index {
+                settings: &mut settings,
+                nodes: &mut nodes,
+                pages: &mut pages,
+            },
+            sketches: &mut sketches,
+            working: &mut working,
+            lists: Lists {
+                pages: &mut found,
+                distances: &mut distances,
+            },
+        },
+        line: &mut line,
+    };
+    run_on(out, &mut program, bytes)
 }
 
 fn main(rt: HostRuntime) {

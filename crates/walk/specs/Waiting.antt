@@ -9,11 +9,6 @@ use Rattle.walk.specs.declared.batch.Rest.{Rest}
 use Rattle.walk.specs.declared.batch.Rest.TheVariants.{More, Done, Broken}
 use Rattle.walk.specs.declared.batch.Batch.{Batch}
 
--- the leaves of the first n descents of an array
-pub record AllLeaves (cs : List Cursor) (n : ℕ) (links : List ℕ) : Type 0 where
-  pub long : length links ≡ 16
-  pub each : (j : ℕ) → j < n → get_or links j 0 ≡ leaf_of (get_or cs j (ended 0))
-
 -- what is left of a walk by what the descents left of the nodes; it is over unless all places of the array are taken
 abbrev pub rest_of : ℕ → Place → Option ℕ → Rest
 rest_of n p (Some nodes) = cond (ltb n 16) (Done nodes) (More (with_nodes p nodes))

@@ -3,7 +3,7 @@ ghost use Rattle.std.specs.Prelude.{◌≡◌, ◌<◌, ◌≤◌};
 ghost use Rattle.descent.specs.Cursor.{AllInside};
 ghost use Rattle.walk_steps.specs.Walks.{given_of};
 ghost use Rattle.walk.specs.Walk.{walk_from};
-ghost use Rattle.walk.specs.Waiting.{AllLeaves, rest_of, Settled};
+ghost use Rattle.walk.specs.Waiting.{rest_of, Settled};
 ghost use Rattle.walk.specs.Batch.{bare, from, Standing, Gives, Begins};
 
 use descent::{Cursor, Descents};
@@ -25,24 +25,13 @@ pub enum Rest {
     Broken,
 }
 
-// The next n leaves, each by the link to its first page, and what is left of the walk.
+// The next n leaves, each by the link to its first page, and what is left of the walk. Fixed memory inside a call, since a search takes
+// no heap.
 #[derive(Clone, Copy, Debug, PartialEq, Eq)]
 pub struct Batch {
     pub links: [u32; 16],
     pub n: usize,
     pub rest: Rest,
-}
-
-// The leaves of n descents that are over.
-fn leaves_of(cursors: [Cursor; 16], n: usize) -> [u32; 16]
-    requires { n ≤ 16 }
-    ensures { AllLeaves cursors n result }
-{
-    let mut links = [0u32; 16];
-    for i in 0..n {
-        links[i] = descent::leaf_of(cursors[i]);
-    }
-    links
 }
 
 // What is left of a walk at a place, when the descents of n leaves have left so much. Fewer than 16 wait at the end of a walk alone.
@@ -75,7 +64,7 @@ fn settle(walk: &Walk<'_>, waiting: [Cursor; 16], n: usize, place: Place) -> Bat
         place.nodes,
     );
     Batch {
-        links: leaves_of(cursors, n),
+        links: descent::leaves_of(cursors, n),
         n,
         rest: rest_of(left, n, place),
     }

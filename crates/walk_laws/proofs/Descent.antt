@@ -8,8 +8,7 @@ use mathlib.Core.List.{List, [], ◌∷◌, ◌++◌}
 use lib.Dec.{eqb}
 use lib.ListN.{get_or}
 use borrow.Author.Tests.{eq-eqb, ne_eqb}
-use Rattle.children.specs.Cursors.{look_at}
-use Rattle.children.specs.declared.cursor.Seen.TheVariants.{Child}
+use Rattle.children.specs.Cursors.{seen, look_at}
 use Rattle.descent.specs.declared.Cursor.{Cursor}
 use Rattle.descent.specs.Cursor.{ended, ahead, arrive, advance, descended, drawn, leaf_of}
 use Rattle.descent.proofs.Steps.{descended-ended, drawn-ended, advance-along, advance-past, advance-down}
@@ -92,7 +91,7 @@ module _ (nodes : List ℕ) (cap : ℕ) (bytes : List ℕ) where
   }
 
   -- ---- at the child x of byte c, which is followed by the link l
-  module _ (x c l at last y : ℕ) (saw : look_at nodes cap (x + 1) ≡ Child x c l) (here : get_or bytes at 0 ≡ y) where
+  module _ (x c l at last y : ℕ) (saw : look_at nodes cap (x + 1) ≡ seen x c l) (here : get_or bytes at 0 ≡ y) where
     abbrev at-child : Cursor
     at-child = ahead (x + 1) at last
 

@@ -10,8 +10,7 @@ use Rattle.meaning.specs.Trie.{met, met_in, nodes, nodes_in}
 use Rattle.sketch_laws.proofs.ByteDistance.{byte-distance-zero}
 use Rattle.layout.proofs.States.{inner-kind}
 use Rattle.children.proofs.Leaves.{held-kind}
-use Rattle.children.specs.Cursors.{look_at, first_for}
-use Rattle.children.specs.declared.cursor.Seen.TheVariants as seen
+use Rattle.children.specs.Cursors.{seen, look_at, first_for}
 use Rattle.children.specs.Heap.{Holds}
 use Rattle.children.specs.Phys.{Phys, Kids, leaf_p, inner_p, no_kid, kid, root, first, tree, children_of, page_cells, cells, Below, Sound, SoundK}
 use Rattle.children.proofs.Ahead.{Along, along-all}
@@ -92,7 +91,7 @@ module _ (N P : List ℕ) (cap pcap base b len : ℕ) (bytes : List ℕ) (last :
   Among ks link y ys at = Leads (ahead link at last) (met_in b 0 (children_of ks) (y ∷ ys)) (near_k b 0 ks (y ∷ ys)) (steps_among ks)
 
   -- a child that the link leads to, and those after it
-  child-leads : (c : ℕ) (t : Phys) (ks : Kids) (link y : ℕ) (ys : List ℕ) (k at : ℕ) → look_at N cap (root t + 1) ≡ seen.Child (root t) c link
+  child-leads : (c : ℕ) (t : Phys) (ks : Kids) (link y : ℕ) (ys : List ℕ) (k at : ℕ) → look_at N cap (root t + 1) ≡ seen (root t) c link
       → SoundK cap pcap ks (suc c) → FitK b len (kid c t ks) k → Spelt b bytes last (y ∷ ys) at → Among ks link y ys at
       → Leads (arrive N cap bytes (root t) (at + 1) last) (met b 0 (tree t) ys) (near_below b t ys) (steps_below t) → Among (kid c t ks) (root t + 1) y ys at
   child-leads c t ks link y ys k at saw s u q along down = elim (compared c y) [

@@ -16,11 +16,11 @@ use Rattle.layout.specs.States.{kind_by, kind_of, first_of}
 use Rattle.layout.specs.declared.nodes.Kind.{Kind}
 use Rattle.layout.specs.declared.nodes.Kind.TheVariants as kind
 use Rattle.layout.proofs.States.{by-link, first-most}
-use Rattle.children.specs.Cursors.{all_of, look_at, next_by, next_of, first_for}
+use Rattle.children.specs.Cursors.{all_of, seen, look_at, next_by, next_of, first_for}
 use Rattle.children.specs.Places.{link_at}
 use Rattle.children.specs.declared.cursor.Cursor.{Cursor as Children}
-use Rattle.children.specs.declared.cursor.Seen.{Seen}
-use Rattle.children.specs.declared.cursor.Seen.TheVariants as look
+use Rattle.std.specs.Prelude.{Option, Some, None}
+use Rattle.children.specs.declared.cursor.Child.{Child}
 use Rattle.children.specs.declared.cursor.Next.{Next}
 use Rattle.children.specs.declared.cursor.Next.TheVariants as next
 use Rattle.descent.specs.declared.Cursor.{Cursor}
@@ -78,12 +78,12 @@ module _ {cap : ℕ} {N M : List ℕ} (a : Renumbered cap N M) where
   look-same link some = go (ltb cap link) refl
     where
       go : (t : Bool) → ltb cap link ≡ t
-          → cond t look.Outside (look.Child (link - 1) (byte_of (get_or M (link - 1) 0)) (link_of (get_or M (link - 1) 0)))
-          ≡ cond t look.Outside (look.Child (link - 1) (byte_of (get_or N (link - 1) 0)) (link_of (get_or N (link - 1) 0)))
+          → cond t None (seen (link - 1) (byte_of (get_or M (link - 1) 0)) (link_of (get_or M (link - 1) 0)))
+          ≡ cond t None (seen (link - 1) (byte_of (get_or N (link - 1) 0)) (link_of (get_or N (link - 1) 0)))
       go true e = refl
       go false e =
           let l : link ≤ cap = ltb-false cap link e in
-          ap (λ w. look.Child (link - 1) (byte_of w) (link_of w)) (a.chains (link - 1) (omega arith))
+          ap (λ w. seen (link - 1) (byte_of w) (link_of w)) (a.chains (link - 1) (omega arith))
 
   -- ---- descents
   module _ (bytes : List ℕ) where
@@ -96,10 +96,10 @@ module _ {cap : ℕ} {N M : List ℕ} (a : Renumbered cap N M) where
         by kind.Inner = ap (λ link. cond (ltb last at) (ended outside) (ahead link at last)) (first-same x (get_or bytes at 0))
         by (kind.Leaf first) = refl
 
-    pass_same : (at last : ℕ) (s : Seen) → pass M cap bytes at last s ≡ pass N cap bytes at last s
-    pass_same at last (look.Child x byte link) =
-        ap (λ c. cond (ltb byte (get_or bytes at 0)) (ahead link at last) (cond (ltb (get_or bytes at 0) byte) (ended 0) c)) (arrive_same x (at + 1) last)
-    pass_same at last look.Outside = refl
+    pass_same : (at last : ℕ) (s : Option Child) → pass M cap bytes at last s ≡ pass N cap bytes at last s
+    pass_same at last (Some s) =
+        ap (λ c. cond (ltb s.byte (get_or bytes at 0)) (ahead s.link at last) (cond (ltb (get_or bytes at 0) s.byte) (ended 0) c)) (arrive_same s.node (at + 1) last)
+    pass_same at last None = refl
 
     advance-same : (c : Cursor) → advance M cap bytes c ≡ advance N cap bytes c
     unfolding advance
@@ -163,11 +163,11 @@ module _ {cap : ℕ} {N M : List ℕ} (a : Renumbered cap N M) where
   unfolding next_of
   next-high c h = go (eqb c.link 0) (ltb c.at c.last) (look_at N cap c.link)
     where
-      go : (t u : Bool) (s : Seen) → HighNext (cond t (cond u (next.Chain (c.at + 1) (link_at N (c.at + 1))) next.End) (next_by s))
+      go : (t u : Bool) (s : Option Child) → HighNext (cond t (cond u (next.Chain (c.at + 1) (link_at N (c.at + 1))) next.End) (next_by s))
       go true true s = omega arith
       go true false s = tt
-      go false u (look.Child x byte link) = tt
-      go false u look.Outside = tt
+      go false u (Some s) = tt
+      go false u None = tt
 
   module _ (b : ℕ) (bytes : List ℕ) where
     abbrev w : Given

@@ -1,12 +1,11 @@
 -- The nodes that a walk goes through: those that its steps and its exact descents lead to, and the root.
-use Rattle.std.specs.Prelude.{ℕ, zero, suc, ◌-◌, cond, List, [], ◌∷◌, ◌++◌, eqb, length, get_or}
+use Rattle.std.specs.Prelude.{ℕ, zero, suc, ◌-◌, cond, List, [], ◌∷◌, ◌++◌, eqb, length, get_or, Option, Some, None}
 use Rattle.layout.specs.Nodes.{steps_for}
 use Rattle.layout.specs.States.{kind_of}
 use Rattle.layout.specs.declared.nodes.Kind.{Kind}
 use Rattle.layout.specs.declared.nodes.Kind.TheVariants as kind
 use Rattle.children.specs.Cursors.{look_at}
-use Rattle.children.specs.declared.cursor.Seen.{Seen}
-use Rattle.children.specs.declared.cursor.Seen.TheVariants as seen
+use Rattle.children.specs.declared.cursor.Child.{Child}
 use Rattle.descent.specs.declared.Cursor.{Cursor}
 use Rattle.descent.specs.Cursor.{advance}
 use Rattle.walk_steps.specs.declared.frame.Frame.{Frame}
@@ -19,9 +18,9 @@ use Rattle.walk.specs.Walk.{State, state}
 -- ---- of an exact descent
 module _ (nodes : List ℕ) (cap : ℕ) (bytes : List ℕ) where
   -- the child that a descent is ahead of, where its byte is the query's; otherwise it does not go there
-  abbrev pub reached_by : ℕ → Seen → List ℕ
-  reached_by at (seen.Child x byte link) = cond (eqb byte (get_or bytes at 0)) (x ∷ []) []
-  reached_by at seen.Outside = []
+  abbrev pub reached_by : ℕ → Option Child → List ℕ
+  reached_by at (Some c) = cond (eqb c.byte (get_or bytes at 0)) (c.node ∷ []) []
+  reached_by at None = []
 
   unfoldable pub reached : Cursor → List ℕ
   reached c = cond (eqb c.link 0) [] (reached_by c.at (look_at nodes cap c.link))

@@ -5,7 +5,7 @@
 ghost use Rattle.std.specs.Prelude.{◌≡◌, true, false, ◌≢◌, ◌+◌, ◌/◌, ◌≤◌, ◌<◌, length};
 ghost use Rattle.words.specs.Bits.{with_bit, lowest, flag, with_flag, zeroed};
 
-// Is flag n of the words from `base` on set?
+// Is flag n of the words from `base` on set? That its word is in the table is a clause: a run of flags is a part of a lent table.
 #[tactic(auto, unfolding(crate::specs::Bits::flag, crate::specs::Bits::bit))]
 pub fn has(ws: &[u32], base: usize, n: usize) -> bool
     requires { base + n / 32 < length ws.now }
@@ -40,7 +40,7 @@ pub fn zero_run(ws: &mut [u32], base: usize, n: usize)
     ws[base..base + n].fill(0);
 }
 
-// The lowest set bit of w, and 32 for 0.
+// The lowest set bit of w, and 32 for 0. No Option: every caller asks of a word that is not 0, and 32 is what the machine's count gives.
 #[tactic(auto, unfolding(crate::specs::Bits::lowest))]
 pub fn lowest_bit(w: u32) -> u32
     ensures { result ≡ lowest w }

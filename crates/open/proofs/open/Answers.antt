@@ -2,6 +2,10 @@
 use mathlib.Core.Path.{◌≡◌, sym, ap, ◌∙◌}
 use mathlib.Core.Bool.{true}
 use lib.ListN.{length}
+use Rattle.std.proofs.Common.{rules}
+use Rattle.meaning.specs.Lists.{onto}
+use Rattle.layout.specs.Header.{with_thresholds}
+use Rattle.promises.specs.Answers.{fresh_settings}
 use Rattle.layout.proofs.Limits.{limits_on, header-limits}
 use Rattle.promises.specs.Tables.{Tables, tables}
 use Rattle.open.proofs.Opens.{all_long, all-long, count-given, open-4, open-5, open_done}
@@ -39,8 +43,10 @@ returns-then-not-long_enough-clause-open_promise c =
 pub lay_out-requires-clause-header_limits : goal.lay_out-requires-clause-header_limits
 lay_out-requires-clause-header_limits c = header-limits _ _ (within (goal.at.lay_out-requires-clause-header_limits c).Else-not-limits)
 
-pub lay_out-requires-clause-thresholds_len : goal.lay_out-requires-clause-thresholds_len
-lay_out-requires-clause-thresholds_len c = count-given _ _ (within (goal.at.lay_out-requires-clause-thresholds_len c).Else-not-limits)
+pub unwrap-requires : goal.unwrap-requires
+unwrap-requires c =
+    let count = count-given _ _ (within (goal.at.unwrap-requires c).Else-not-limits) in
+    search rules
 
 pub lay_out-requires-clause-settings_length_in_bounds : goal.lay_out-requires-clause-settings_length_in_bounds
 lay_out-requires-clause-settings_length_in_bounds c = (all-long _ _ (long (goal.at.lay_out-requires-clause-settings_length_in_bounds c).Else-not-long_enough)).0
@@ -54,7 +60,8 @@ lay_out-requires-clause-h_in_bounds_2 c = (all-long _ _ (long (goal.at.lay_out-r
 pub returns-clause-open_promise : goal.returns-clause-open_promise
 returns-clause-open_promise c =
     let at = goal.at.returns-clause-open_promise c in
+    let same : c.unwrap.result.now ≡ c.args.thresholds.now = search rules in
     open_done _ _ (λ k. (c.type_inv.thresholds k).fits) _ (within at.Else-not-limits) (long at.Else-not-long_enough) _ _ _
-    c.lay_out.ensures.settings_after
+    (c.lay_out.ensures.settings_after ∙ ap (λ ts. onto (fresh_settings (with_thresholds c.args.h ts)) c.args.index.now.settings.now) same)
     c.lay_out.ensures.nodes_after
     c.lay_out.ensures.pages_after

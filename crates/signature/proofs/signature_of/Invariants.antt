@@ -2,7 +2,7 @@ use mathlib.Core.Path.{◌≡◌}
 use Prim.Native.Nat.{◌≤◌}
 use lib.ListN.{length, drop}
 use Rattle.meaning.specs.Sketch.{packed_length, pack}
-use Rattle.sketch.specs.Reduced.{reduced}
+use Rattle.blocks.specs.RowBytes.{reduced}
 use Rattle.layout.specs.Signature.{folded}
 use Rattle.signature.proofs.signature_of.Given as goal
 

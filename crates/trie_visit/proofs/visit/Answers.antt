@@ -7,7 +7,7 @@ use Rattle.node_check.proofs.Steps.{child-within}
 use Rattle.trie_visit.proofs.visit.Goals as goal
 use Rattle.trie_visit.proofs.visit.Goals.{In-Child}
 
-inside : (c : In-Child) → (c.in-Child.node < c.args.scope.block.nodes) × (c.in-Child.byte < 256)
+inside : (c : In-Child) → (c.in-Child.node < c.args.scope.now.block.nodes) × (c.in-Child.byte < 256)
 inside c = child-within _ _ _ _ _ _ c.requires.node_lt_nodes.1 _ _ _ (sym c.next_step.ensures ∙ c.in_ok-step.was ∙ ap Some c.in-Child.is)
 
 pub overflow_cast-path : goal.overflow_cast-path

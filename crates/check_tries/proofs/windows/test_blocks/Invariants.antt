@@ -7,6 +7,6 @@ use Rattle.check_tries.proofs.windows.test_blocks.Given as goal
 
 abbrev pub invariant-loop-j : goal.invariant-loop-j
 invariant-loop-j l =
-    (blocks_from (block_given (bare l.h) l.nodes l.pages l.sketches l.window) l.live (l.h.q - l.j) l.j l.map l.left
-    ≡ blocks_from (block_given (bare l.h) l.nodes l.pages l.sketches l.window) l.live l.h.q 0 l.initial.map l.budget)
+    (blocks_from (block_given (bare l.h) l.view.nodes.now l.view.pages.now l.view.sketches.now l.window) l.live (l.h.q - l.j) l.j l.map l.left
+    ≡ blocks_from (block_given (bare l.h) l.view.nodes.now l.view.pages.now l.view.sketches.now l.window) l.live l.h.q 0 l.initial.map l.budget)
     × (length l.map ≡ length l.initial.map)

@@ -7,5 +7,5 @@ use Rattle.check_tries.proofs.windows.test_windows.Given as goal
 
 abbrev pub invariant-loop-k : goal.invariant-loop-k
 invariant-loop-k l =
-    (windows_from (bare l.h) l.nodes l.pages l.sketches (length l.initial.map) l.left l.live (8 - l.k) l.k l.map ≡ test_windows (bare l.h) l.nodes l.pages l.sketches (length l.initial.map) l.left l.live l.initial.map)
+    (windows_from (bare l.h) l.view.nodes.now l.view.pages.now l.view.sketches.now (length l.initial.map) l.left l.live (8 - l.k) l.k l.map ≡ test_windows (bare l.h) l.view.nodes.now l.view.pages.now l.view.sketches.now (length l.initial.map) l.left l.live l.initial.map)
     × (length l.map ≡ length l.initial.map)

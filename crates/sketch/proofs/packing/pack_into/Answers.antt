@@ -1,5 +1,4 @@
 -- `pack_into` is `pack`: at each turn the first j bytes are written.
-use mathlib.Core.Bool.{true}
 use mathlib.Core.List.{List, map}
 use mathlib.Core.Path.{◌≡◌, refl, sym, ap, ap₂, ◌∙◌}
 use Prim.Native.Nat.{ℕ, ◌+◌, ◌-◌, ◌*◌, ◌≤◌, ◌<◌}
@@ -7,10 +6,10 @@ use native.Mathlib.Omega.{arith}
 use lib.ListN.{take, drop, set, length-set}
 use lib.Seq.{length-take-le}
 use Rattle.meaning.specs.Lists.{onto, upto}
-use Rattle.meaning.specs.Sketch.{in_range, packed_length, pack_byte}
+use Rattle.meaning.specs.Sketch.{packed_length, pack_byte}
 use Rattle.sketch.proofs.Packed.{part-ends, symbols_of, byte_of, packed, symbols-few, symbols-range, part}
 use Rattle.sketch.proofs.Runs.{fill_none, fill_more}
-use Rattle.sketch.proofs.Width.{byte-begins, bits-within}
+use Rattle.sketch.proofs.Width.{byte-begins}
 use Rattle.sketch.proofs.packing.pack_into.Goals as goal
 use Rattle.sketch.proofs.packing.pack_into.Goals.{After-symbols_at, In-loop-j}
 
@@ -38,12 +37,6 @@ passed c =
     let args = at-loop.args in
     part args.b args.n at-loop.loop-j.j _ _ c.per_byte-z.ensures c.symbols_at.ensures args.xs.now
 
--- its symbols are in range
-in_symbols : (c : After-symbols_at) →
-    let at = c.loop-j.j * c.per_byte-z.result in
-    in_range c.args.b (take (at + c.symbols_at.result - at) (drop at c.args.xs.now)) ≡ true
-in_symbols c = rw (passed c) (symbols-range c.args.b (take c.args.n c.args.xs.now) _ c.requires.xs_value)
-
 pub loop-j-init : goal.loop-j-init
 loop-j-init c = (refl, fill_none _ _)
 
@@ -62,7 +55,7 @@ loop-j-preserved c =
     let args = at-loop.args in
     let inv = at-loop.loop-j.invariant in
     let byte : c.pack_byte.result ≡ byte_of args.b (take args.n args.xs.now) at-loop.loop-j.j =
-    c.pack_byte.ensures.in_range (in_symbols (goal.at.loop-j-preserved c).After-symbols_at) ∙ ap (pack_byte args.b) (passed (goal.at.loop-j-preserved c).After-symbols_at) in (
+    c.pack_byte.ensures ∙ ap (pack_byte args.b) (passed (goal.at.loop-j-preserved c).After-symbols_at) in (
       length-set at-loop.loop-j.out at-loop.loop-j.j c.pack_byte.result ∙ inv.0,
       ap₂ (λ (l : List ℕ) (v : ℕ). set l at-loop.loop-j.j v) inv.1 byte
           ∙ fill_more (byte_of args.b (take args.n args.xs.now)) at-loop.loop-j.j args.out.now 0 (omega arith),
@@ -78,6 +71,7 @@ returns c =
     inv.1 ∙ ap (λ (l : List ℕ). onto l args.out.now) (ap (λ (k : ℕ). map (byte_of args.b symbols) (upto k)) all ∙ written)
 
 pub pack_byte-requires-clause-xs_len_bound : goal.pack_byte-requires-clause-xs_len_bound
-pack_byte-requires-clause-xs_len_bound c =
-    rw (passed (goal.at.pack_byte-requires-clause-xs_len_bound c).After-symbols_at)
-    (bits-within c.args.b _ (symbols-few c.args.b (take c.args.n c.args.xs.now) c.loop-j.j))
+pack_byte-requires-clause-xs_len_bound c = let start = c in let ys = take start.args.n start.args.xs.now in rw (passed (goal.at.pack_byte-requires-clause-xs_len_bound c).After-symbols_at) (symbols-few start.args.b ys _)
+
+pub pack_byte-requires-clause-xs_value : goal.pack_byte-requires-clause-xs_value
+pack_byte-requires-clause-xs_value c = let start = c in let ys = take start.args.n start.args.xs.now in rw (passed (goal.at.pack_byte-requires-clause-xs_value c).After-symbols_at) (symbols-range start.args.b ys _ start.requires.xs_value)

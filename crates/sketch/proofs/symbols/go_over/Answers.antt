@@ -1,42 +1,36 @@
--- `go_over` joins the bits and counts the places that differ, place by place: as many pairs are taken as there are places gone over.
-use mathlib.Core.List.{[], ◌∷◌}
-use Prim.Native.Nat.{◌+◌, ◌<◌}
+-- `go_over` joins the bits and counts the places that differ, place by place.
+use Prim.Native.Nat.{◌+◌}
 use native.Mathlib.Omega.{arith}
-use borrow.Author.Rules.{rules}
 use lib.Bits.{bit_or}
-use lib.ListN.{length, length-append, take}
-use Rattle.std.proofs.lemmas.Slice.Zip.{zip_turn, zip_end}
+use lib.ListN.{get_or, take}
 use Rattle.sketch.specs.Pass.{GoneOver}
 use Rattle.sketch.proofs.Passes.{over_none, over-more, over-most, over-all}
 use Rattle.sketch.proofs.Places.{differ}
 use Rattle.sketch.proofs.symbols.go_over.Goals as goal
-use Rattle.sketch.proofs.symbols.go_over.Goals.{In-Some}
+use Rattle.sketch.proofs.symbols.go_over.Goals.{In-loop-i}
 
 -- after the turn
-turned : (c : In-Some) →
-    let n = length c.loop-x.yielded in
-    (n < length c.args.xs.now) × GoneOver (take (n + 1) c.args.xs.now) (take (n + 1) c.args.ys.now)
-    (bit_or c.loop-x.bits (bit_or c.in-Some.x.now c.in-Some.y.now)) (c.loop-x.d + differ c.in-Some.x.now c.in-Some.y.now)
+turned : (c : In-loop-i) →
+    let args = c.args in
+    let loop = c.loop-i in
+    let x = get_or args.xs.now loop.i 0 in
+    let y = get_or args.ys.now loop.i 0 in
+    GoneOver (take (loop.i + 1) args.xs.now) (take (loop.i + 1) args.ys.now) (bit_or loop.bits (bit_or x y)) (loop.d + differ x y)
 turned c =
-    let xs = c.args.xs.now in
-    let ys = c.args.ys.now in
-    let at = zip_turn xs ys c.loop-x.yielded _ c.loop-x.x-iterator c.next.new.self _ (search rules) (search rules) c.loop-x.yielded_by _ c.in-Some.is c.next.ensures.steps in
-    (at.0, rw (at.2 0, at.3 0) (over-more xs ys _ _ _ at.0 at.1 c.loop-x.invariant.1))
+    let args = c.args in
+    over-more args.xs.now args.ys.now _ _ _ (omega arith) (omega arith) c.loop-i.invariant
 
-pub loop-x-init : goal.loop-x-init
-loop-x-init c = (search rules, over_none c.args.xs.now c.args.ys.now)
+pub loop-i-init : goal.loop-i-init
+loop-i-init c = over_none c.args.xs.now c.args.ys.now
 
 pub overflow_add-d : goal.overflow_add-d
 overflow_add-d c =
-    let t = turned (goal.at.overflow_add-d c).In-Some in
-    omega (arith, t.0, over-most c.args.xs.now c.args.ys.now (length c.loop-x.yielded + 1) _ _ t.1)
+    let at_turn = c in
+    let args = at_turn.args in
+    omega (arith, over-most args.xs.now args.ys.now (at_turn.loop-i.i + 1) _ _ (turned (goal.at.overflow_add-d at_turn).In-loop-i))
 
-pub loop-x-preserved : goal.loop-x-preserved
-loop-x-preserved c =
-    let t = turned (goal.at.loop-x-preserved c).In-Some in
-    rw (length-append c.loop-x.yielded ((c.in-Some.x, c.in-Some.y) ∷ [])) (omega (arith, t.0), t.1)
+pub loop-i-preserved : goal.loop-i-preserved
+loop-i-preserved c = turned (goal.at.loop-i-preserved c).In-loop-i
 
 pub returns : goal.returns
-returns c =
-    let all = zip_end c.args.xs.now c.args.ys.now c.loop-x.yielded _ c.loop-x.x-iterator c.next.new.self _ (search rules) (search rules) c.loop-x.yielded_by c.in-None.is c.next.ensures.steps in
-    over-all c.args.xs.now c.args.ys.now (length c.loop-x.yielded) _ _ (omega (arith, all)) (omega (arith, all)) c.loop-x.invariant.1
+returns c = over-all c.args.xs.now c.args.ys.now c.loop-i.i _ _ (omega arith) (omega arith) c.loop-i.invariant

@@ -1,7 +1,9 @@
 -- `meet_block`: the walk's leaves come in batches, and the pages of each batch are met before the walk goes on.
 use mathlib.Core.Path.{◌≡◌, refl}
+use native.Mathlib.Omega.{arith}
 use borrow.Author.Rules.{rules}
 use lib.ListN.{length}
+use Rattle.std.specs.Prelude.{Some, None}
 use Rattle.layout.specs.Pages.{next_at}
 use Rattle.meeting.specs.Chains.{base_of, Linked}
 use Rattle.meeting.proofs.Linked.{linked-from, inside-in}
@@ -14,49 +16,45 @@ begin-long : (c : After-begin-batch) → length c.begin-batch.result.links ≡ 1
 begin-long c = search rules
 
 -- the chains of a batch
-linked : (c : After-chains_of-cs) →
-    let at = c in
-    Linked (base_of (next_at at.args.scope.probe.header.pages at.args.start.block) 0) at.loop-met.batch.links at.loop-met.batch.n c.chains_of-cs.result
+linked : (c : After-chains_of-cs) → Linked (base_of (next_at c.args.trial.now.probe.header.pages c.args.start.block) 0) c.loop-tally.batch.links c.loop-tally.batch.n c.chains_of-cs.result
 linked c = linked-from _ _ _ c.next_at-base.ensures c.chains_of-cs.ensures
 
 next-long : (c : After-next-batch) → length c.next-batch.result.links ≡ 16
 next-long c = search rules
 
-pub loop-met-init : goal.loop-met-init
-loop-met-init c = walking_start _ _ _ _ _ _ _ _ _ _ (c.begin-batch.ensures _ refl) (begin-long c) c.requires.tallied
+pub invariant_of-walk : goal.invariant_of-walk
+invariant_of-walk c =
+    let trial = c.args.trial.now in
+    record { fitting = fitting trial.probe.header trial.fitting.limits _ _ trial.nodes_long trial.fitting.query _ c.requires.block_lt_q.0 _ c.pack-packed.ensures.same }
 
-pub returns-in-Broken : goal.returns-in-Broken
-returns-in-Broken c =
-    let meet = c in
-    let at = meet in
-    walked _ _ _ _ _ _ _ _ _ at.pack-packed.ensures.same (at.begin-batch.ensures _ refl)
-    (walking-unmet _ _ _ _ _ _ at.loop-met.invariant (linked (goal.at.returns-in-Broken meet).After-chains_of-cs) meet.meet.ensures c.in-Broken.is)
+pub loop-tally-init : goal.loop-tally-init
+loop-tally-init c = walking_start _ _ _ _ _ _ _ _ _ _ (c.begin-batch.ensures _ refl) (begin-long (goal.at.loop-tally-init c).After-begin-batch) c.requires.tallied
 
-pub loop-met-preserved : goal.loop-met-preserved
-loop-met-preserved c =
-    let meet = c in
-    let at = meet in
-    walking-next _ _ _ _ _ _ at.loop-met.invariant (linked (goal.at.loop-met-preserved meet).After-chains_of-cs) meet.meet.ensures _ c.in-Some.is _ c.in-More.is c.next-batch.ensures (next-long c)
+pub meet-requires-clause-inside : goal.meet-requires-clause-inside
+meet-requires-clause-inside c =
+    inside-in _ (linked (goal.at.meet-requires-clause-inside c).After-chains_of-cs) c.loop-tally.invariant.gives.few _ _
+    (links-inside c.args.trial.now.probe.header _ c.args.trial.now.fitting.pages _ c.requires.block_lt_q.0)
+
+pub returns-in_err-tally : goal.returns-in_err-tally
+returns-in_err-tally c =
+    let none : c.meet.result ≡ None = grind arith in
+    let up : c.from_residual.result ≡ None = grind arith in
+    rw up (walked _ _ _ _ _ _ _ _ _ c.pack-packed.ensures.same (c.begin-batch.ensures _ refl)
+    (walking-unmet _ _ _ _ _ _ c.loop-tally.invariant (linked (goal.at.returns-in_err-tally c).After-chains_of-cs) c.meet.ensures none))
+
+pub loop-tally-preserved : goal.loop-tally-preserved
+loop-tally-preserved c =
+    let some : c.meet.result ≡ Some c.in_ok-tally.tally = grind arith in
+    walking-next _ _ _ _ _ _ c.loop-tally.invariant (linked (goal.at.loop-tally-preserved c).After-chains_of-cs) c.meet.ensures _ some _ c.in-More.is c.next-batch.ensures (next-long (goal.at.loop-tally-preserved c).After-next-batch)
 
 pub returns-in-Done : goal.returns-in-Done
 returns-in-Done c =
-    let meet = c in
-    let at = meet in
-    walked _ _ _ _ _ _ _ _ _ at.pack-packed.ensures.same (at.begin-batch.ensures _ refl)
-    (walking-done _ _ _ _ _ _ at.loop-met.invariant (linked (goal.at.returns-in-Done meet).After-chains_of-cs) meet.meet.ensures _ c.in-Some.is _ c.in-Done.is)
+    let some : c.meet.result ≡ Some c.in_ok-tally.tally = grind arith in
+    walked _ _ _ _ _ _ _ _ _ c.pack-packed.ensures.same (c.begin-batch.ensures _ refl)
+    (walking-done _ _ _ _ _ _ c.loop-tally.invariant (linked (goal.at.returns-in-Done c).After-chains_of-cs) c.meet.ensures _ some _ c.in-Done.is)
 
-pub returns-in-Broken-rest : goal.returns-in-Broken-rest
-returns-in-Broken-rest c =
-    let meet = c in
-    let at = meet in
-    walked _ _ _ _ _ _ _ _ _ at.pack-packed.ensures.same (at.begin-batch.ensures _ refl)
-    (walking-broken _ _ _ _ _ _ at.loop-met.invariant (linked (goal.at.returns-in-Broken-rest meet).After-chains_of-cs) meet.meet.ensures _ c.in-Some.is c.in-Broken-rest.is)
-
-pub begin-batch-requires-clause-fitting : goal.begin-batch-requires-clause-fitting
-begin-batch-requires-clause-fitting c = let pre = c.requires in let inside = pre in fitting pre.prepared _ inside.block_lt_q.0 _ c.pack-packed.ensures.same
-
-pub meet-requires-clause-inside : goal.meet-requires-clause-inside
-meet-requires-clause-inside c = let at = c in let pre = at.requires in inside-in _ (linked (goal.at.meet-requires-clause-inside c).After-chains_of-cs) at.loop-met.invariant.gives.few _ _ (links-inside pre.prepared _ pre.block_lt_q.0)
-
-pub next-batch-requires-clause-fitting : goal.next-batch-requires-clause-fitting
-next-batch-requires-clause-fitting c = let at = c in let pre = at.requires in fitting pre.prepared _ pre.block_lt_q.0 _ at.pack-packed.ensures.same
+pub returns-in-Broken : goal.returns-in-Broken
+returns-in-Broken c =
+    let some : c.meet.result ≡ Some c.in_ok-tally.tally = grind arith in
+    walked _ _ _ _ _ _ _ _ _ c.pack-packed.ensures.same (c.begin-batch.ensures _ refl)
+    (walking-broken _ _ _ _ _ _ c.loop-tally.invariant (linked (goal.at.returns-in-Broken c).After-chains_of-cs) c.meet.ensures _ some c.in-Broken.is)

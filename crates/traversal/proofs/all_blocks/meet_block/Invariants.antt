@@ -1,15 +1,15 @@
-use lib.ListN.{take}
-use Rattle.hits.specs.Probes.{test_by}
-use Rattle.walk_steps.specs.Given.{within}
+use Rattle.hits.specs.Trials.{tried}
+use Rattle.walk_steps.specs.Walks.{given_of}
 use Rattle.traversal.proofs.Pages.{pages_from}
 use Rattle.traversal.proofs.Batches.{steps_of, coming_from, Walking}
 use Rattle.traversal.proofs.all_blocks.meet_block.Given as goal
 
-abbrev pub invariant-loop-met : goal.invariant-loop-met
-invariant-loop-met l =
-    let w = within l.nodes (take l.n l.bytes) l.trie in
-    Walking (test_by l.pages l.sketches l.query l.scope.probe) l.scope.words l.scope.probe.header l.pages l.j w
-    (pages_from l.scope.probe.header l.pages l.j l.initial.tally.left (coming_from w l.initial.stack l.initial.batch)) l.initial.map l.map l.counts l.stack l.tally l.batch
+abbrev pub invariant-loop-tally : goal.invariant-loop-tally
+invariant-loop-tally l =
+    let h = l.trial.probe.header in
+    let w = given_of l.walk in
+    Walking (tried l.trial) l.trial.words h l.trial.pages.now l.j w
+    (pages_from h l.trial.pages.now l.j l.initial.tally.left (coming_from w l.initial.stack l.initial.batch)) l.initial.map l.map l.counts l.stack l.tally l.batch
 
-abbrev pub decreases-loop-met : goal.decreases-loop-met
-decreases-loop-met l = steps_of l.batch.rest
+abbrev pub decreases-loop-tally : goal.decreases-loop-tally
+decreases-loop-tally l = steps_of l.batch.rest

@@ -2,25 +2,26 @@
 use native.Mathlib.Omega.{arith}
 use mathlib.Core.Path.{◌≡◌, ap, ◌∙◌}
 use lib.ListN.{take}
+use borrow.Author.Rules.{rules}
+use Rattle.meaning.specs.Forest.{block_bytes}
 use Rattle.meaning.specs.Sketch.{packed_length}
 use Rattle.block_leaves.specs.Leaves.{block_size}
 use Rattle.block_leaves.proofs.Sizes.{block-most, size-most}
-use Rattle.traversal.proofs.Tables.{bytes-first}
 use Rattle.traversal.proofs.bytes.pack.Goals as goal
+use Rattle.traversal.proofs.bytes.pack.Goals.{After-packed_length-n}
+
+count : (c : After-packed_length-n) → c.packed_length-n.result ≡ block_size c.args.h c.args.j
+count c = c.packed_length-n.ensures ∙ ap (packed_length c.args.h.b) c.block_length.ensures
 
 pub returns : goal.returns
+unfolding block_bytes
 returns c =
-    let start = c in
-    let packed = c.pack_block in
-    let count : c.packed_length-n.result ≡ block_size start.args.h start.args.j =
-    c.packed_length-n.ensures ∙ ap (packed_length start.args.h.b) c.block_length.ensures in record {
-      long = omega (arith, packed.auto);
-      few = omega (arith, count, size-most _ start.requires.header_limits _ start.requires.j_lt_q);
-      same = ap (take c.packed_length-n.result) packed.ensures ∙ bytes-first _ _ start.requires.query_len _ start.requires.j_lt_q _ _ count;
+    let n = count (goal.at.returns c).After-packed_length-n in
+    record {
+      long = search rules;
+      few = omega (arith, n, size-most _ c.requires.header_limits _ c.requires.j_lt_q);
+      same = ap (λ k. take k c.block_bytes-bytes.result) n ∙ c.block_bytes-bytes.ensures;
     }
 
-pub pack_block-requires-clause-j_in_bounds : goal.pack_block-requires-clause-j_in_bounds
-pack_block-requires-clause-j_in_bounds c = let pre = c.requires in omega (arith, size-most _ pre.header_limits _ pre.j_lt_q)
-
 pub packed_length-n-requires-clause-n_bound : goal.packed_length-n-requires-clause-n_bound
-packed_length-n-requires-clause-n_bound c = let pre = c.requires in rw c.block_length.ensures (block-most _ pre.header_limits _ pre.j_lt_q)
+packed_length-n-requires-clause-n_bound c = rw c.block_length.ensures (block-most _ c.requires.header_limits _ c.requires.j_lt_q)

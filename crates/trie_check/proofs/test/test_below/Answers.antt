@@ -14,7 +14,7 @@ pub loop-turn-init : goal.loop-turn-init
 loop-turn-init c = (
   run-start _ _ _ _ _ _ _ _ (omega arith) c.enter-frame.ensures,
   refl,
-  safe-start _ _ _ _ _ _ c.enter-frame.ensures c.requires.root_lt_nodes refl c.requires.fitting.some c.requires.fitting.rows.short,
+  safe-start _ _ _ _ _ _ c.enter-frame.ensures c.requires.root_lt_nodes refl c.args.scope.now.readable.some c.args.scope.now.readable.rows.short,
 )
 
 pub next_chain-place-requires : goal.next_chain-place-requires
@@ -32,13 +32,13 @@ past_child-requires c =
 
 pub returns-then-place-eq0 : goal.returns-then-place-eq0
 returns-then-place-eq0 c =
-    sym (run-done _ _ _ _ c.loop-turn.place _ (steps_for c.args.scope.block.nodes - (c.loop-turn._turn + 1)) (omega arith) _ _ _ c.visit.ensures _ (c.in_ok-next.was ∙ ap Some c.in-Up.is) c.if-place-eq0.true (c.then_some.ensures ∙ left-by _ _))
+    sym (run-done _ _ _ _ c.loop-turn.place _ (steps_for c.args.scope.now.block.nodes - (c.loop-turn._turn + 1)) (omega arith) _ _ _ c.visit.ensures _ (c.in_ok-next.was ∙ ap Some c.in-Up.is) c.if-place-eq0.true (c.then_some.ensures ∙ left-by _ _))
     ∙ c.loop-turn.invariant.0
 
 pub returns-in_err-next : goal.returns-in_err-next
 returns-in_err-next c =
     let up : c.from_residual.result ≡ None = grind arith in
-    rw up (sym (run-failed _ _ _ _ c.loop-turn.place _ (steps_for c.args.scope.block.nodes - (c.loop-turn._turn + 1)) (omega arith) _ _ _ c.visit.ensures c.in_err-next.was) ∙ c.loop-turn.invariant.0)
+    rw up (sym (run-failed _ _ _ _ c.loop-turn.place _ (steps_for c.args.scope.now.block.nodes - (c.loop-turn._turn + 1)) (omega arith) _ _ _ c.visit.ensures c.in_err-next.was) ∙ c.loop-turn.invariant.0)
 
 pub returns : goal.returns
 returns c = sym (run-spent _ _ _ _ c.loop-turn.place _ (omega arith)) ∙ c.loop-turn.invariant.0
@@ -60,14 +60,14 @@ loop-turn-preserved c =
           rw (w.place-is, w.stack-is) (
             sym (run-chain _ _ _ _ turn.place _ _ (omega arith) _ _ _ c.visit.ensures _ _ to w.next_chain-place.ensures) ∙ turn.invariant.0,
             long,
-            safe-chain c.args.nodes.now _ _ turn.place _ safe _ _ w.next_chain-place.ensures (chain-inside _ _ _ _ _ _ _ safe.inside.1 _ _ _ c.visit.ensures _ to),
+            safe-chain c.args.scope.now.nodes.now _ _ turn.place _ safe _ _ w.next_chain-place.ensures (chain-inside _ _ _ _ _ _ _ safe.inside.1 _ _ _ c.visit.ensures _ to),
           )
       | in-Past w ↦
           let to = c.in_ok-next.was ∙ ap Some w.in-Past.is in
           rw (w.place-is, w.stack-is) (
             sym (run_past _ _ _ _ turn.place _ _ (omega arith) _ _ _ c.visit.ensures _ _ _ _ to w.past_leaf-place.ensures) ∙ turn.invariant.0,
             long,
-            safe-past c.args.nodes.now _ _ turn.place _ safe _ _ _ _ _ w.past_leaf-place.ensures,
+            safe-past c.args.scope.now.nodes.now _ _ turn.place _ safe _ _ _ _ _ w.past_leaf-place.ensures,
           )
       | in-Down w ↦
           let to = c.in_ok-next.was ∙ ap Some w.in-Down.is in
@@ -75,12 +75,12 @@ loop-turn-preserved c =
           rw (w.place-is, w.stack-is) (
             sym (run_down _ _ _ _ turn.place _ _ (omega arith) _ _ _ c.visit.ensures _ _ _ _ _ to w.past_child.ensures w.enter_child-place.ensures (omega (arith, safe.level, safe.levels, safe.room))) ∙ turn.invariant.0,
             long,
-            safe-down c.args.nodes.now _ _ turn.place _ safe _ _ _ _ _ _ _ w.past_child.ensures w.enter_child-place.ensures inside.2 inside.3,
+            safe-down c.args.scope.now.nodes.now _ _ turn.place _ safe _ _ _ _ _ _ _ w.past_child.ensures w.enter_child-place.ensures inside.2 inside.3,
           )
       | in-Up+else-place-eq0 w ↦
           rw (w.place-is, w.stack-is) (
             sym (run_up _ _ _ _ turn.place _ _ (omega arith) _ _ _ c.visit.ensures (c.in_ok-next.was ∙ ap Some w.in-Up.is) (omega arith)) ∙ turn.invariant.0,
             long,
-            safe-up c.args.nodes.now _ _ turn.place _ safe (omega arith),
+            safe-up c.args.scope.now.nodes.now _ _ turn.place _ safe (omega arith),
           )
     ]
