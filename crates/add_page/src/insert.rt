@@ -30,6 +30,7 @@ fn insert_block(
     requires j_lt_q { j < h.q }
     ensures { after nodes.new pages.new result ≡ insert_block (with_thresholds h thresholds.now) sketches.now sketch.now p j nodes.old pages.old free }
 {
+    // An array and not a Vec, since there is no heap; what is called gets the block's part of it.
     let bytes = block_bytes(h, sketch, j);
     let block = block_of(h, j);
     let rows = rows_of(h, j);

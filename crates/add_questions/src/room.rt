@@ -26,6 +26,7 @@ fn block_needs(
     requires j_lt_q { j < h.q }
     ensures { result ≡ block_needs (with_thresholds h thresholds.now) view.entry.nodes.now view.entry.pages.now view.entry.sketches.now sketch.now j }
 {
+    // An array and not a Vec, since there is no heap; what is called gets the block's part of it.
     let bytes = block_bytes(h, sketch, j);
     let block = block_of(h, j);
     let rows = rows_of(h, j);

@@ -13,7 +13,8 @@ pub enum Place {
     Broken,
 }
 
-// A chain has at most 32 children: the budget is enough for every sound table.
+// A chain has at most 32 children: the budget is enough for every sound table. No search of the library: the children are linked
+// through the node table that C lends.
 #[tactic(auto, unfolding(crate::specs::Places::find_place))]
 pub fn find_place(nodes: &[u32], cap: usize, n: usize, byte: u32) -> Place
     requires node_table { NodeTable cap nodes.now }

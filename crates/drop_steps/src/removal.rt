@@ -26,6 +26,7 @@ fn remove_block(
     requires j_lt_q { j < h.q }
     ensures { gone nodes.new pages.new result ≡ remove_block (bare h) sketches.now p j nodes.old pages.old free }
 {
+    // An array and not a Vec, since there is no heap; what is called gets the block's part of it.
     let mut bytes = [0u8; 64];
     row_bytes(&mut bytes, h, sketches, p, j);
     let block = block_of(h, j);
@@ -49,6 +50,7 @@ pub fn remove_all(
 {
     let mut path = [Passed { node: 0, slot: 0 }; 64];
     let mut link = free;
+    // Not one function with an add's loop over its tries: the closure's contract would be longer than both loops.
     for j in 0..h.q {
         link = remove_block(nodes, pages, &mut path, sketches, h, p, j, link)?;
     }

@@ -25,6 +25,7 @@ pub fn distinct_bytes(
     requires byte_bound { byte < 256 }
     ensures { result ≡ distinct_bytes pages.now sketches.now block.pages block.base level first byte }
 {
+    // A flag for each byte: there is no heap for a set.
     let mut seen = [false; 256];
     seen[byte as usize] = true;
     let mut n: usize = 1;

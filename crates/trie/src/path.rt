@@ -31,6 +31,7 @@ fn step_to(nodes: &[u32], cap: usize, bytes: &[u8], n: usize, level: usize) -> S
     if level >= bytes.len() {
         return Step::Broken;
     }
+    // No `From`: the same three lines, for this one place.
     match find_place(nodes, cap, n, bytes[level] as u32) {
         Place::Found { slot, child } => Step::Child { slot, child },
         Place::Missing { slot } => Step::Gap { slot },
@@ -80,6 +81,7 @@ fn walk<const NOTES: bool>(
     let mut n = root;
     let mut slot = 0;
     let mut level = 0;
+    // No `for` over the bytes: a leaf may stand where they end, and the level is a part of the answer.
     loop {
         match step_to(nodes, cap, bytes, n, level) {
             Step::Child { slot: s, child } => {
