@@ -118,7 +118,7 @@ fn command_at(bytes: &[u8], at: usize, m: u8) -> Command
     }
 }
 
-// The mark of the command at an offset: the first one stands at 0.
+// The mark of the command at an offset, a byte as `form` takes it: the first one stands at 0.
 #[tactic(auto, unfolding(meaning::specs::Journal::mark_at))]
 fn mark_at(at: usize) -> u8
     ensures { result ≡ mark_at at }

@@ -89,7 +89,8 @@ pub fn search_line(reader: u32, pages: &[u16], distances: &[u16], out: &mut [u8]
     put_hits(pages, distances, out, first)
 }
 
-// `E`, the offset of the refused command and the number.
+// `E`, the offset of the refused command and the number, any one. No loop over the fields, here and in the last line: its invariant
+// would be longer than both bodies.
 #[tactic(auto, unfolding(meaning::specs::Journal::refusal_line), using(crate::proofs::Digits::two_stored, crate::proofs::Digits::fields_long, crate::proofs::Digits::end_long))]
 pub fn refusal_line(at: u32, number: u32, out: &mut [u8]) -> usize
     requires { 24 ≤ length out.old }

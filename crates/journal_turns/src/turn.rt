@@ -80,13 +80,8 @@ fn carry_out(
     }
 }
 
-// One turn. The line is put at the beginning of the buffer.
-pub fn take_turn(
-    program: &mut Program<'_>,
-    bytes: &[u8],
-    at: usize,
-    m: u8,
-) -> Turn
+// One turn. The line is put at the beginning of the buffer. Bytes, offset and m are three: a reader is the first two, and m is a turn's.
+pub fn take_turn(program: &mut Program<'_>, bytes: &[u8], at: usize, m: u8) -> Turn
     requires at_bound { at ≤ 65536 }
     ensures turned { Turned bytes.now (state (tables_of program.old.desk) (output_of program.old.desk.lists) at m) (take result.length program.new.line.now) result.going (state (tables_of program.new.desk) (output_of program.new.desk.lists) result.at result.m) }
     ensures same_desk { SameDesk program.old.desk program.new.desk }
