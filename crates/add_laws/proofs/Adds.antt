@@ -1,6 +1,6 @@
 -- `add_page` keeps the promise of an add.
 use Rattle.std.specs.Prelude.{Option, Some, None, Result, Ok, Err}
-use Rattle.layout.specs.declared.Header.{Header}
+use Rattle.layout.specs.declared.Numbers.{Numbers}
 use Prim.Native.Nat.{ℕ, ◌+◌, ◌*◌, ◌<◌}
 use native.Mathlib.Omega.{arith}
 use mathlib.Core.Path.{◌≡◌, refl, sym, ap, ◌∙◌, subst}
@@ -218,7 +218,7 @@ module _ (T : Tables) (p c : ℕ) (x : List ℕ) where
   unfolding add_page
   add-keeps = go (admission T (add p c x)) refl
     where
-      go : (o : Result Header ℕ) → admission T (add p c x) ≡ o → Keeps (on_opening T p c x o)
+      go : (o : Result Numbers ℕ) → admission T (add p c x) ≡ o → Keeps (on_opening T p c x o)
       go (Ok h) e = place-keeps (told-shown T p c x h e).0
       go (Err n) e = let r = admission-refused T (add p c x) n e in promise-early n r.0 r.1
 

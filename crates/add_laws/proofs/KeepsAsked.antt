@@ -14,7 +14,7 @@ use Rattle.meaning.specs.Trie.{Tree}
 use Rattle.meaning.specs.Ledger.{add}
 use Rattle.meaning.specs.Forest.{each_from, forest_after, total_nodes}
 use Rattle.meaning.specs.Questions.{asked}
-use Rattle.layout.specs.declared.Header.{Header}
+use Rattle.layout.specs.declared.Numbers.{Numbers}
 use Rattle.layout.specs.Header.{header_of}
 use Rattle.layout.specs.Pages.{is_live}
 use Rattle.promises.specs.Tables.{Tables, given, rows_of, by_tables}
@@ -35,11 +35,11 @@ pub record Accepted (T : Tables) (F : List Tree) (p c : ℕ) (x : List ℕ) : Ty
 
 module _ (T : Tables) (p c : ℕ) (x : List ℕ) where
   -- 10, 11 and 15 of an opening, then others
-  abbrev pub sketch_asked : Header → List Question → List Question
+  abbrev pub sketch_asked : Numbers → List Question → List Question
   sketch_asked h qs = ask 10 (eqb (length x) h.m) ∷ ask 11 (in_range h.b x) ∷ ask 15 (not (blank x)) ∷ qs
 
   -- 7 to 11, and 15
-  abbrev pub call_asked : Header → List Question → List Question
+  abbrev pub call_asked : Numbers → List Question → List Question
   call_asked h qs = ask 7 (ltb c 64) ∷ (page_asked h.pages T.pages p false ++ sketch_asked h qs)
 
   -- 12, with the tries F

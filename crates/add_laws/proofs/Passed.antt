@@ -11,7 +11,7 @@ use lib.Dec.{eqb}
 use lib.ListN.{length}
 use Rattle.meaning.specs.Trie.{Tree}
 use Rattle.meaning.specs.Ledger.{add}
-use Rattle.layout.specs.declared.Header.{Header}
+use Rattle.layout.specs.declared.Numbers.{Numbers}
 use Rattle.layout.specs.Settings.{settings_length}
 use Rattle.layout.specs.Header.{header_of, with_thresholds, bare}
 use Rattle.layout.specs.Lengths.{sketches_length}
@@ -29,7 +29,7 @@ use Rattle.layout.specs.Tables.{Lent, Fits}
 use Rattle.add_laws.proofs.KeepsAsked.{accepted, call_asked, room12, number_by, number-none}
 
 -- no question of 5 to 11 and 15 says no
-pub record Passed (T : Tables) (h : Header) (p : ℕ) (x : List ℕ) : Type 0 where
+pub record Passed (T : Tables) (h : Numbers) (p : ℕ) (x : List ℕ) : Type 0 where
   pub header : header_of (given T) ≡ h
   pub long : settings_length ≤ length T.settings
   pub lent : Lent h T.nodes T.pages T.sketches
@@ -39,7 +39,7 @@ pub record Passed (T : Tables) (h : Header) (p : ℕ) (x : List ℕ) : Type 0 wh
   pub dead : live_page T p ≡ false
 
 module _ (T : Tables) (p c : ℕ) (x : List ℕ) where
-  abbrev passes : Header → Type 0
+  abbrev passes : Numbers → Type 0
   passes h = Passed T h p x
 
   pub passed : (F : List Tree) → number T F (add p c x) ≡ 0 → passes (header_of (given T))
@@ -56,7 +56,7 @@ module _ (T : Tables) (p c : ℕ) (x : List ℕ) where
       }
 
   -- what `admit` tells
-  pub told-shown : (h : Header) → admission T (add p c x) ≡ Ok h → (number T [] (add p c x) ≡ 0) × passes h
+  pub told-shown : (h : Numbers) → admission T (add p c x) ≡ Ok h → (number T [] (add p c x) ≡ 0) × passes h
   told-shown h e = let t = admission-shown T (add p c x) h e in (t.0, rw t.1 at (passed [] t.0))
 
   -- 12 is asked last
@@ -75,15 +75,15 @@ module _ (T : Tables) (p c : ℕ) (x : List ℕ) where
     asked-ahead h = asked-last ∙ rw (ne_eqb (number T [] (add p c x)) 0 h) refl
 
 -- the settings of the opening, from its header and the thresholds
-pub same-settings : (T : Tables) (h : Header) (τ : List ℕ) → header_of (given T) ≡ h → τ ≡ (given T).thresholds → with_thresholds h τ ≡ given T
+pub same-settings : (T : Tables) (h : Numbers) (τ : List ℕ) → header_of (given T) ≡ h → τ ≡ (given T).thresholds → with_thresholds h τ ≡ given T
 same-settings T h τ e f = rw (← e, f) refl
 
 -- the tables with the page's row
-pub row_fits : (T : Tables) (h : Header) (p : ℕ) (x : List ℕ) → Passed T h p x → p * h.m + h.m ≤ length T.sketches
+pub row_fits : (T : Tables) (h : Numbers) (p : ℕ) (x : List ℕ) → Passed T h p x → p * h.m + h.m ≤ length T.sketches
 unfolding sketches_length
 row_fits T h p x ok = row_inside h.m h.pages (length T.sketches) ok.page ok.lent.sketches-long
 
-pub lent_row : (T : Tables) (h : Header) (p : ℕ) (x : List ℕ) → Passed T h p x → (S : List ℕ) → S ≡ with_row h.m T.sketches p x →
+pub lent_row : (T : Tables) (h : Numbers) (p : ℕ) (x : List ℕ) → Passed T h p x → (S : List ℕ) → S ≡ with_row h.m T.sketches p x →
     Lent h T.nodes T.pages S
 lent_row T h p x ok S e = record {
   limits = ok.lent.limits;
@@ -93,5 +93,5 @@ lent_row T h p x ok S e = record {
 }
 
 -- the words of the page lie in the page table, also after the tries have changed
-pub words-fit : (T : Tables) (h : Header) (p : ℕ) (x : List ℕ) → Passed T h p x → (P : List ℕ) → length P ≡ length T.pages → h.pages + p < length P
+pub words-fit : (T : Tables) (h : Numbers) (p : ℕ) (x : List ℕ) → Passed T h p x → (P : List ℕ) → length P ≡ length T.pages → h.pages + p < length P
 words-fit T h p x ok P e = omega (arith, signature-inside (bare h) ok.page, ok.lent.pages-long)

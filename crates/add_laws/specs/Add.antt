@@ -1,6 +1,6 @@
 -- What an add does with any tables: T are those at entry, p the page, c its class, x its sketch.
 use Rattle.std.specs.Prelude.{ℕ, List, get_or, set, Some, None, Result, Ok, Err}
-use Rattle.layout.specs.declared.Header.{Header}
+use Rattle.layout.specs.declared.Numbers.{Numbers}
 use Rattle.meaning.specs.Ledger.{add}
 use Rattle.layout.specs.Settings.{free_at}
 use Rattle.layout.specs.Pages.{with_row, with_page}
@@ -44,7 +44,7 @@ module _ (T : Tables) (p c : ℕ) (x : List ℕ) where
   place_page = on_room (room_of (given T) T.nodes T.pages T.sketches x (get_or T.settings free_at 0))
 
   -- 5 to 11 and 15
-  abbrev pub on_opening : Result Header ℕ → Outcome
+  abbrev pub on_opening : Result Numbers ℕ → Outcome
   on_opening (Ok h) = place_page
   on_opening (Err n) = outcome n T
 

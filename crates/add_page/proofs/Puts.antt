@@ -7,7 +7,7 @@ use mathlib.Core.List.{List}
 use lib.ListN.{get_or, set}
 use Rattle.meaning.specs.Sketch.{in_range}
 use Rattle.meaning.specs.Ledger.{add}
-use Rattle.layout.specs.declared.Header.{Header}
+use Rattle.layout.specs.declared.Numbers.{Numbers}
 use Rattle.layout.specs.Settings.{free_at}
 use Rattle.layout.specs.Header.{header_of, with_thresholds}
 use Rattle.layout.specs.Pages.{with_row, with_page}
@@ -24,7 +24,7 @@ use Rattle.add_laws.specs.Insert.{filled, insert_all}
 use Rattle.add_laws.specs.Add.{row_added, page_written, on_filled, put_page, on_room, place_page, on_opening, add_page}
 use Rattle.add_laws.proofs.Passed.{same-settings}
 
-module _ (T : Tables) (h : Header) (header : header_of (given T) ≡ h) (p c : ℕ) (x τ : List ℕ) (levels : τ ≡ (given T).thresholds)
+module _ (T : Tables) (h : Numbers) (header : header_of (given T) ≡ h) (p c : ℕ) (x τ : List ℕ) (levels : τ ≡ (given T).thresholds)
     (free : ℕ) (link : free ≡ get_or T.settings free_at 0) where
   -- question 12
   module _ (q : Result (Unit {0}) Stop) (e : q ≡ room_of (with_thresholds h τ) T.nodes T.pages T.sketches x free) where
@@ -45,7 +45,7 @@ module _ (T : Tables) (h : Header) (header : header_of (given T) ≡ h) (p c : �
   module _ (S : List ℕ) (row : S ≡ with_row h.m T.sketches p x) (N P : List ℕ) (i : Option ℕ)
       (e : filled N P i ≡ insert_all (with_thresholds h τ) S x p T.nodes T.pages free) where
     rowed : S ≡ row_added T p c x
-    rowed = row ∙ ap (λ (g : Header). with_row g.m T.sketches p x) (sym header)
+    rowed = row ∙ ap (λ (g : Numbers). with_row g.m T.sketches p x) (sym header)
 
     inserted : on_filled T p c x (filled N P i) ≡ put_page T p c x
     unfolding put_page
@@ -60,11 +60,11 @@ module _ (T : Tables) (h : Header) (header : header_of (given T) ≡ h) (p c : �
     put-free l m ws w range g stored P' f =
         let written : P' ≡ page_written T p c x P =
         f ∙ ap (with_page h.pages P p c) (stored ∙ signature-same h.b x range)
-        ∙ ap (λ (k : Header). with_page k.pages P p c (signature k.b x)) (sym header) in
+        ∙ ap (λ (k : Numbers). with_page k.pages P p c (signature k.b x)) (sym header) in
         rw (rowed, w, written) (rw m at inserted)
 
 -- 5 to 11 and 15
-module _ (T : Tables) (p c : ℕ) (x : List ℕ) (o : Result Header ℕ) (e : o ≡ admission T (add p c x)) where
+module _ (T : Tables) (p c : ℕ) (x : List ℕ) (o : Result Numbers ℕ) (e : o ≡ admission T (add p c x)) where
   told : on_opening T p c x o ≡ add_page T p c x
   unfolding add_page
   told = ap (on_opening T p c x) e
@@ -72,5 +72,5 @@ module _ (T : Tables) (p c : ℕ) (x : List ℕ) (o : Result Header ℕ) (e : o 
   pub add-refused : (n : ℕ) → o ≡ Err n → outcome n T ≡ add_page T p c x
   add-refused n m = rw m at told
 
-  pub add-placed : (h : Header) → o ≡ Ok h → place_page T p c x ≡ add_page T p c x
+  pub add-placed : (h : Numbers) → o ≡ Ok h → place_page T p c x ≡ add_page T p c x
   add-placed h m = rw m at told

@@ -1,4 +1,5 @@
 // Add: a page with its class and sketch. What it promises is in crates/promises/specs/Store.antt.
+ghost use Rattle.layout.specs.Headers.{numbers};
 ghost use Rattle.std.specs.Prelude.{◌≡◌, Ok};
 ghost use Rattle.meaning.specs.Ledger.{add};
 ghost use Rattle.lent.specs.Lists.{lists, SameTables};
@@ -25,7 +26,7 @@ fn put_page(
     class: u32,
     sketch: &[u8],
 ) -> Result<(), Refusal>
-    requires { admission (lists index.old sketches.old) (add p «class» sketch.now) ≡ Ok h }
+    requires { admission (lists index.old sketches.old) (add p «class» sketch.now) ≡ Ok (numbers h) }
     ensures same { SameTables index.old index.new }
     ensures model { outcome (answer_number result) (lists index.new sketches.new) ≡ put_page (lists index.old sketches.old) p «class» sketch.now }
 {
@@ -53,7 +54,7 @@ fn place_page(
     class: u32,
     sketch: &[u8],
 ) -> Result<(), Refusal>
-    requires { admission (lists index.old sketches.old) (add p «class» sketch.now) ≡ Ok h }
+    requires { admission (lists index.old sketches.old) (add p «class» sketch.now) ≡ Ok (numbers h) }
     ensures same { SameTables index.old index.new }
     ensures model { outcome (answer_number result) (lists index.new sketches.new) ≡ place_page (lists index.old sketches.old) p «class» sketch.now }
 {

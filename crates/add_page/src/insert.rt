@@ -1,5 +1,6 @@
 // The page put into the trie of each block. Its row is in the sketch table by now: a split reads the rows of all pages of the leaf.
 ghost use Rattle.std.specs.Prelude.{◌≡◌, ◌<◌, length};
+ghost use Rattle.layout.specs.Headers.{numbers};
 ghost use Rattle.layout.specs.Header.{with_thresholds};
 ghost use Rattle.layout.specs.Tables.{Lent, Fits};
 ghost use Rattle.trie_insert.specs.Pages.{after};
@@ -23,12 +24,12 @@ fn insert_block(
     j: usize,
     free: u32,
 ) -> Result<Grown, Stop>
-    requires lent { Lent h nodes.old pages.old sketches.now }
+    requires lent { Lent (numbers h) nodes.old pages.old sketches.now }
     requires thresholds_len { length thresholds.now ≡ 64 }
-    requires fits { Fits h sketch.now }
+    requires fits { Fits (numbers h) sketch.now }
     requires p_lt_pages { p < h.pages }
     requires j_lt_q { j < h.q }
-    ensures { after nodes.new pages.new result ≡ insert_block (with_thresholds h thresholds.now) sketches.now sketch.now p j nodes.old pages.old free }
+    ensures { after nodes.new pages.new result ≡ insert_block (with_thresholds (numbers h) thresholds.now) sketches.now sketch.now p j nodes.old pages.old free }
 {
     // An array and not a Vec, since there is no heap; what is called gets the block's part of it.
     let bytes = block_bytes(h, sketch, j);
@@ -60,11 +61,11 @@ pub fn insert_all(
     p: usize,
     free: u32,
 ) -> Option<u32>
-    requires lent { Lent h nodes.old pages.old sketches.now }
+    requires lent { Lent (numbers h) nodes.old pages.old sketches.now }
     requires thresholds_len { length thresholds.now ≡ 64 }
-    requires fits { Fits h sketch.now }
+    requires fits { Fits (numbers h) sketch.now }
     requires p_lt_pages { p < h.pages }
-    ensures { filled nodes.new pages.new result ≡ insert_all (with_thresholds h thresholds.now) sketches.now sketch.now p nodes.old pages.old free }
+    ensures { filled nodes.new pages.new result ≡ insert_all (with_thresholds (numbers h) thresholds.now) sketches.now sketch.now p nodes.old pages.old free }
 {
     let mut link = free;
     for j in 0..h.q {

@@ -11,7 +11,7 @@ use lib.ListN.{length}
 use Rattle.meaning.specs.Refusal.{Question, ask, first_no}
 use Rattle.meaning.specs.Sketch.{in_range, blank}
 use Rattle.meaning.specs.Ledger.{add}
-use Rattle.layout.specs.declared.Header.{Header}
+use Rattle.layout.specs.declared.Numbers.{Numbers}
 use Rattle.layout.specs.Header.{header_of}
 use Rattle.promises.specs.Tables.{Tables, tables, given}
 use Rattle.entry.specs.Entry.{store_entry, page_asked}
@@ -25,18 +25,18 @@ module _ (ws nodes pages sketches : List ℕ) (p c : ℕ) (x : List ℕ) where
   T = tables ws nodes pages sketches []
 
   -- behind 6, and behind 9
-  abbrev past6 : Header → List Question
+  abbrev past6 : Numbers → List Question
   past6 h = call_asked T p c x h (ask 12 true ∷ [])
 
-  abbrev past9 : Header → List Question
+  abbrev past9 : Numbers → List Question
   past9 h = sketch_asked T p c x h (ask 12 true ∷ [])
 
   pub admit-refused : (n : ℕ) → store_entry T ≡ Err n → Err n ≡ admission T (add p c x)
   admit-refused n e = first-refused T (add p c x) (past6 (header_of (given T))) (number-none T p c x) n e
 
-  module _ (h : Header) (e : store_entry T ≡ Ok h) where
+  module _ (h : Numbers) (e : store_entry T ≡ Ok h) where
     by-header : first_no (past6 (header_of (given T))) ≡ first_no (past6 h)
-    by-header = ap (λ (g : Header). first_no (past6 g)) (same-header T h e)
+    by-header = ap (λ (g : Numbers). first_no (past6 g)) (same-header T h e)
 
     refused-by : (n : ℕ) → first_no (past6 h) ≡ n → n ≢ 0 → Err n ≡ admission T (add p c x)
     refused-by n f d = then-refused T (add p c x) (past6 (header_of (given T))) (number-none T p c x) h e n (by-header ∙ f) d

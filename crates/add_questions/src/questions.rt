@@ -1,4 +1,5 @@
 // Questions 5 to 11 of an add, and 15.
+ghost use Rattle.layout.specs.Headers.{numbers_in};
 ghost use Rattle.std.specs.Prelude.{◌≡◌};
 ghost use Rattle.meaning.specs.Ledger.{add};
 ghost use Rattle.lent.specs.Lists.{held};
@@ -13,7 +14,7 @@ use refusals::Refusal;
 // The opening where none of them says no, else the first that does.
 #[tactic(auto, unfolding(entry::specs::Admission::admission))]
 pub fn admit(view: View<'_>, page: u32, class: u32, sketch: &[u8]) -> Result<Header, Refusal>
-    ensures { numbered result ≡ admission (held view.entry) (add page «class» sketch.now) }
+    ensures { numbers_in (numbered result) ≡ admission (held view.entry) (add page «class» sketch.now) }
 {
     let h = entry::admit(view)?;
     if CLASSES <= class {

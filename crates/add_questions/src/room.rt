@@ -1,5 +1,6 @@
 // Question 12, before anything is written: are the nodes that the add needs free?
 ghost use Rattle.std.specs.Prelude.{◌≡◌, ◌<◌, length};
+ghost use Rattle.layout.specs.Headers.{numbers};
 ghost use Rattle.layout.specs.Header.{with_thresholds};
 ghost use Rattle.layout.specs.Tables.{Lent, Fits};
 ghost use Rattle.add_laws.specs.Room.{block_needs, all_needed, room_of};
@@ -20,11 +21,11 @@ fn block_needs(
     sketch: &[u8],
     j: usize,
 ) -> Option<usize>
-    requires lent { Lent h view.nodes.now view.pages.now view.sketches.now }
+    requires lent { Lent (numbers h) view.nodes.now view.pages.now view.sketches.now }
     requires thresholds_len { length thresholds.now ≡ 64 }
-    requires fits { Fits h sketch.now }
+    requires fits { Fits (numbers h) sketch.now }
     requires j_lt_q { j < h.q }
-    ensures { result ≡ block_needs (with_thresholds h thresholds.now) view.entry.nodes.now view.entry.pages.now view.entry.sketches.now sketch.now j }
+    ensures { result ≡ block_needs (with_thresholds (numbers h) thresholds.now) view.entry.nodes.now view.entry.pages.now view.entry.sketches.now sketch.now j }
 {
     // An array and not a Vec, since there is no heap; what is called gets the block's part of it.
     let bytes = block_bytes(h, sketch, j);
@@ -45,10 +46,10 @@ fn block_needs(
 
 // The tries of all blocks together.
 fn all_needed(view: View<'_>, thresholds: &[u32], h: Header, sketch: &[u8]) -> Option<usize>
-    requires lent { Lent h view.nodes.now view.pages.now view.sketches.now }
+    requires lent { Lent (numbers h) view.nodes.now view.pages.now view.sketches.now }
     requires thresholds_len { length thresholds.now ≡ 64 }
-    requires fits { Fits h sketch.now }
-    ensures { result ≡ all_needed (with_thresholds h thresholds.now) view.entry.nodes.now view.entry.pages.now view.entry.sketches.now sketch.now }
+    requires fits { Fits (numbers h) sketch.now }
+    ensures { result ≡ all_needed (with_thresholds (numbers h) thresholds.now) view.entry.nodes.now view.entry.pages.now view.entry.sketches.now sketch.now }
 {
     let mut sum: usize = 0;
     for j in 0..h.q {
@@ -67,10 +68,10 @@ pub fn room(
     sketch: &[u8],
     free: u32,
 ) -> Result<(), Stop>
-    requires lent { Lent h view.nodes.now view.pages.now view.sketches.now }
+    requires lent { Lent (numbers h) view.nodes.now view.pages.now view.sketches.now }
     requires thresholds_len { length thresholds.now ≡ 64 }
-    requires fits { Fits h sketch.now }
-    ensures { result ≡ room_of (with_thresholds h thresholds.now) view.entry.nodes.now view.entry.pages.now view.entry.sketches.now sketch.now free }
+    requires fits { Fits (numbers h) sketch.now }
+    ensures { result ≡ room_of (with_thresholds (numbers h) thresholds.now) view.entry.nodes.now view.entry.pages.now view.entry.sketches.now sketch.now free }
 {
     let needed = all_needed(view, thresholds, h, sketch).ok_or(Stop::Broken)?;
     enough_free(view.nodes, h.nodes, free, needed)

@@ -10,7 +10,7 @@ use lib.Seq.{length-take-le, get_or-take, get_or-append-add, take_all, drop-cons
 use Rattle.meaning.specs.Lists.{onto}
 use Rattle.meaning.specs.Sketch.{pack, block}
 use Rattle.meaning.specs.Forest.{bytes_of_sketch}
-use Rattle.layout.specs.declared.Header.{Header}
+use Rattle.layout.specs.declared.Numbers.{Numbers}
 use Rattle.layout.specs.Header.{bare}
 use Rattle.layout.specs.Limits.{HeaderLimits}
 use Rattle.descent.specs.declared.Cursor.{Cursor}
@@ -22,7 +22,7 @@ use Rattle.block_leaves.specs.Leaves.{block_size, Packed, Started, leaf_in, draw
 use Rattle.block_leaves.proofs.Sizes.{bytes-length, size-most, size-some}
 use Rattle.block_leaves.proofs.Shift.{Alike, alike-arrive, alike-descended, alike-leaf, alike-drawn}
 
-module _ (h : Header) (x : List ℕ) where
+module _ (h : Numbers) (x : List ℕ) where
   abbrev bytes_of : ℕ → List ℕ
   bytes_of j = bytes_of_sketch (bare h) j x
 
@@ -112,7 +112,7 @@ module _ (h : Header) (x : List ℕ) where
                 ∙ p.each i k (omega arith) m
 
 -- ---- started
-module _ (h : Header) (N bytes : List ℕ) where
+module _ (h : Numbers) (N bytes : List ℕ) where
   abbrev start_of : ℕ → Cursor
   start_of j = arrive N h.nodes bytes j (64 * j) (64 * j + (block_size h j - 1))
 
@@ -145,7 +145,7 @@ module _ (h : Header) (N bytes : List ℕ) where
   }
 
 -- ---- led to their leaves
-module _ (h : Header) (N x bytes : List ℕ) (limits : HeaderLimits h) (count : length x ≡ h.m) (p : Packed h x bytes)
+module _ (h : Numbers) (N x bytes : List ℕ) (limits : HeaderLimits h) (count : length x ≡ h.m) (p : Packed h x bytes)
     (cs : List Cursor) (s : Started h N bytes cs) where
   module _ (j : ℕ) (l : j < h.q) where
     abbrev ys : List ℕ

@@ -6,18 +6,18 @@ use mathlib.Core.List.{List}
 use lib.ListN.{length}
 use Rattle.meaning.specs.Sketch.{block_length}
 use Rattle.meaning.specs.Forest.{bytes_of_sketch}
-use Rattle.layout.specs.declared.Header.{Header}
+use Rattle.layout.specs.declared.Numbers.{Numbers}
 use Rattle.layout.specs.Header.{bare}
 use Rattle.layout.specs.Limits.{HeaderLimits}
 use Rattle.sketch_laws.proofs.Packing.{per-byte-pos, byte-there, packed-most}
 use Rattle.sketch_laws.proofs.Blocks.{block-end, block-pos, block-packed}
 use Rattle.block_leaves.specs.Leaves.{block_size}
 
-pub bytes-length : (h : Header) (x : List ℕ) → length x ≡ h.m → (j : ℕ) → j < h.q → length (bytes_of_sketch (bare h) j x) ≡ block_size h j
+pub bytes-length : (h : Numbers) (x : List ℕ) → length x ≡ h.m → (j : ℕ) → j < h.q → length (bytes_of_sketch (bare h) j x) ≡ block_size h j
 unfolding bytes_of_sketch
 bytes-length h x e j l = block-packed h.m h.q h.b j x l e
 
-module _ (h : Header) (limits : HeaderLimits h) (j : ℕ) (l : j < h.q) where
+module _ (h : Numbers) (limits : HeaderLimits h) (j : ℕ) (l : j < h.q) where
   pub block-most : block_length h.m h.q j ≤ 64
   block-most = omega (arith, block-end h.m h.q j l, limits)
 

@@ -3,8 +3,8 @@
 
 ghost use Rattle.std.specs.Prelude.{◌≡◌, true, ◌*◌, ◌<◌, ◌≤◌, length};
 ghost use Rattle.meaning.specs.Sketch.{in_range};
+ghost use Rattle.layout.specs.Headers.{numbers};
 ghost use Rattle.layout.specs.Nodes.{node_words};
-ghost use Rattle.layout.specs.Limits.{HeaderLimits};
 ghost use Rattle.block_leaves.specs.Leaves.{Packed, Started, Leaves};
 
 use descent::Cursor;
@@ -20,11 +20,10 @@ pub struct Ends {
 
 // Packs each block of a sketch, block j from byte 64 × j on.
 fn pack_blocks(h: Header, sketch: &[u8], out: &mut [u8])
-    requires header_limits { HeaderLimits h }
     requires sketch_len { length sketch.now ≡ h.m }
     requires sketch_value { in_range h.b sketch.now ≡ true }
     requires out_len { length out.old ≡ 512 }
-    ensures { Packed h sketch.now out.new }
+    ensures { Packed (numbers h) sketch.now out.new }
 {
     let b = h.b as u32;
     for j in 0..h.q {
@@ -35,10 +34,9 @@ fn pack_blocks(h: Header, sketch: &[u8], out: &mut [u8])
 
 // The descent of each block, at its root: node j for block j.
 fn start_all(nodes: &[u32], h: Header, bytes: &[u8]) -> [Cursor; 16]
-    requires header_limits { HeaderLimits h }
     requires nodes_in_bounds { node_words h.nodes ≤ length nodes.now }
     requires bytes_len { length bytes.now ≡ 512 }
-    ensures { Started h nodes.now bytes.now result }
+    ensures { Started (numbers h) nodes.now bytes.now result }
 {
     let b = h.b as u32;
     let mut cursors = [descent::ended(0); 16];
@@ -53,12 +51,11 @@ fn start_all(nodes: &[u32], h: Header, bytes: &[u8]) -> [Cursor; 16]
 
 // The leaves by their first pages: 0 where there is none, and a link past every page where one is not in order.
 pub fn leaves(nodes: &[u32], h: Header, sketch: &[u8], budget: u32) -> Ends
-    requires header_limits { HeaderLimits h }
     requires nodes_in_bounds { node_words h.nodes ≤ length nodes.now }
     requires sketch_len { length sketch.now ≡ h.m }
     requires sketch_value { in_range h.b sketch.now ≡ true }
     requires budget_lt_nodes { budget < h.nodes }
-    ensures { Leaves h nodes.now sketch.now budget result }
+    ensures { Leaves (numbers h) nodes.now sketch.now budget result }
 {
     let mut bytes = [0u8; 512];
     pack_blocks(h, sketch, &mut bytes);

@@ -5,7 +5,7 @@ use mathlib.Core.Path.{◌≡◌}
 use mathlib.Core.List.{List}
 use lib.ListN.{length}
 use Rattle.meaning.specs.Ledger.{Settings}
-use Rattle.layout.specs.declared.Header.{Header}
+use Rattle.layout.specs.declared.Numbers.{Numbers}
 use Rattle.layout.specs.declared.Block.{Block}
 use Rattle.layout.specs.Header.{header_of, bare}
 use Rattle.layout.specs.Limits.{HeaderLimits}
@@ -24,7 +24,7 @@ unfolding pages_length
 links-high s j l = let behind : 2 + j < 2 + s.blocks = omega arith in rows_apart s.pages behind
 
 -- the rows
-pub rows_in : (h : Header) → HeaderLimits h → (S : List ℕ) → sketches_length (bare h) ≤ length S → (j : ℕ) → j < h.q → (r : Rows) → r ≡ rows_of (bare h) j →
+pub rows_in : (h : Numbers) → HeaderLimits h → (S : List ℕ) → sketches_length (bare h) ≤ length S → (j : ℕ) → j < h.q → (r : Rows) → r ≡ rows_of (bare h) j →
     RowTable h.pages r S
 unfolding sketches_length
 rows_in h limits S long j l r e = rw e (rows-table (bare h) j l h.pages S (omega (arith, limits)) limits.symbols-most long)
@@ -38,7 +38,7 @@ roomy s N P S lent = record {
 }
 
 -- block j
-module _ (h : Header) (N P S : List ℕ) (lent : Lent h N P S) (j : ℕ) (l : j < h.q) where
+module _ (h : Numbers) (N P S : List ℕ) (lent : Lent h N P S) (j : ℕ) (l : j < h.q) where
   pub in_tables : (b : Block) → b ≡ block_of (bare h) j → (r : Rows) → r ≡ rows_of (bare h) j → InTables N P S j b r
   in_tables b e r f =
       let room : Roomy (bare h) N P = roomy (bare h) N P S lent in
@@ -50,7 +50,7 @@ module _ (h : Header) (N P S : List ℕ) (lent : Lent h N P S) (j : ℕ) (l : j 
       })
 
 -- other tables of the same lengths
-pub lent-kept : (h : Header) (N P S N' P' : List ℕ) → Lent h N P S → length N' ≡ length N → length P' ≡ length P → Lent h N' P' S
+pub lent-kept : (h : Numbers) (N P S N' P' : List ℕ) → Lent h N P S → length N' ≡ length N → length P' ≡ length P → Lent h N' P' S
 lent-kept h N P S N' P' lent e f = record {
   limits = lent.limits;
   nodes-long = omega (arith, lent.nodes-long);

@@ -9,7 +9,7 @@ use lib.ListN.{length, get_or, set, take}
 use lib.Seq.{get_or-set_same, get_or-set_other, get_or-take, length-take-le, ext_get_or}
 use Rattle.meaning.specs.Trie.{byte_at}
 use Rattle.meaning.specs.Forest.{block_bytes}
-use Rattle.layout.specs.declared.Header.{Header}
+use Rattle.layout.specs.declared.Numbers.{Numbers}
 use Rattle.layout.specs.Header.{bare}
 use Rattle.layout.specs.Limits.{HeaderLimits}
 use Rattle.layout.specs.Lengths.{sketches_length}
@@ -35,7 +35,7 @@ written_all Y bs n e l h =
     get_or-take n bs i 0 j ∙ h i j)
 
 -- the bytes of a page's row, a level at a time
-pub row_written : (h : Header) → HeaderLimits h → (S : List ℕ) → sketches_length (bare h) ≤ length S → (j : ℕ) → j < h.q → (r : Rows) → r ≡ rows_of (bare h) j →
+pub row_written : (h : Numbers) → HeaderLimits h → (S : List ℕ) → sketches_length (bare h) ≤ length S → (j : ℕ) → j < h.q → (r : Rows) → r ≡ rows_of (bare h) j →
     (p : ℕ) → p < h.pages → (bs : List ℕ) → length bs ≡ 64 → (k : ℕ) → r.bytes ≤ k → ((i : ℕ) → i < k → get_or bs i 0 ≡ page_byte S (level_at r i) p) →
     take (block_bytes (bare h) j) bs ≡ row_bytes (bare h) j S p
 unfolding rows_of sketches_length byte_at

@@ -2,8 +2,7 @@
 #![tactic(auto)]
 
 ghost use Rattle.std.specs.Prelude.{◌≡◌, ◌<◌};
-ghost use Rattle.layout.specs.Header.{bare};
-ghost use Rattle.layout.specs.Limits.{HeaderLimits};
+ghost use Rattle.layout.specs.Headers.{given_by};
 ghost use Rattle.blocks.specs.RowBytes.{rows_of, block_of};
 
 pub mod packed;
@@ -38,9 +37,8 @@ pub struct Level {
 // Where the symbols of block j stand in the rows of the sketch table.
 #[tactic(auto, unfolding(crate::specs::RowBytes::rows_of, meaning::specs::Forest::block_bytes))]
 pub fn rows_of(h: Header, j: usize) -> Rows
-    requires header_limits { HeaderLimits h }
     requires j_lt_q { j < h.q }
-    ensures { result ≡ rows_of (bare h) j }
+    ensures { result ≡ rows_of (given_by h) j }
 {
     let bits = h.b as u32;
     let length = block_length(h.m, h.q, j);
@@ -56,9 +54,8 @@ pub fn rows_of(h: Header, j: usize) -> Rows
 
 // The trie of block j.
 pub fn block_of(h: Header, j: usize) -> Block
-    requires header_limits { HeaderLimits h }
     requires j_lt_q { j < h.q }
-    ensures { result ≡ block_of (bare h) j }
+    ensures { result ≡ block_of (given_by h) j }
 {
     Block {
         nodes: h.nodes,

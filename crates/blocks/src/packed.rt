@@ -1,8 +1,7 @@
 // The packed bytes of a page.
 ghost use Rattle.std.specs.Prelude.{◌≡◌, ◌+◌, ◌*◌, ◌<◌, ◌≤◌, length, take};
 ghost use Rattle.meaning.specs.Forest.{block_bytes, bytes_of_sketch};
-ghost use Rattle.layout.specs.Header.{bare};
-ghost use Rattle.layout.specs.Limits.{HeaderLimits};
+ghost use Rattle.layout.specs.Headers.{given_by, numbers};
 ghost use Rattle.layout.specs.Lengths.{sketches_length};
 ghost use Rattle.layout.specs.Tables.{Fits};
 ghost use Rattle.blocks.specs.Tables.{SketchTable};
@@ -67,12 +66,11 @@ impl Rows {
 // Symbols are taken modulo 2^b, so that every table has such bytes.
 #[tactic(auto, unfolding(meaning::specs::Forest::block_bytes, crate::specs::RowBytes::row_bytes))]
 pub fn row_bytes(bytes: &mut [u8; 64], h: Header, sketches: &[u8], p: usize, j: usize)
-    requires header_limits { HeaderLimits h }
-    requires h_in_bounds { sketches_length (bare h) ≤ length sketches.now }
+    requires h_in_bounds { sketches_length (given_by h) ≤ length sketches.now }
     requires p_lt_pages { p < h.pages }
     requires j_lt_q { j < h.q }
     requires bytes_len { length bytes.old ≡ 64 }
-    ensures bytes_after { take (block_bytes (bare h) j) bytes.new ≡ row_bytes (bare h) j sketches.now p }
+    ensures bytes_after { take (block_bytes (given_by h) j) bytes.new ≡ row_bytes (given_by h) j sketches.now p }
     ensures long { length bytes.new ≡ 64 }
 {
     let block = block_of(h, j);
@@ -85,10 +83,9 @@ pub fn row_bytes(bytes: &mut [u8; 64], h: Header, sketches: &[u8], p: usize, j: 
 // The packed bytes of block j of a sketch, at the beginning of an array of fixed length; how many, `Rows` says.
 #[tactic(auto, unfolding(meaning::specs::Forest::block_bytes, meaning::specs::Forest::bytes_of_sketch))]
 pub fn block_bytes(h: Header, sketch: &[u8], j: usize) -> [u8; 64]
-    requires header_limits { HeaderLimits h }
-    requires fits { Fits h sketch.now }
+    requires fits { Fits (numbers h) sketch.now }
     requires j_lt_q { j < h.q }
-    ensures { take (block_bytes (bare h) j) result ≡ bytes_of_sketch (bare h) j sketch.now }
+    ensures { take (block_bytes (given_by h) j) result ≡ bytes_of_sketch (given_by h) j sketch.now }
 {
     let mut bytes = [0u8; 64];
     sketch::blocks::pack_block(h.b as u32, h.m, h.q, j, sketch, &mut bytes);

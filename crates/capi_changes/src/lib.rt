@@ -11,7 +11,7 @@ ghost use Rattle.promises.specs.Relation.{number_alone, Promised, OnSettings, On
 ghost use Rattle.add_laws.specs.Add.{add_page};
 ghost use Rattle.drop_laws.specs.After.{drop_page};
 
-use layout::Header;
+use layout::Numbers;
 use lent::Index;
 use refusals::answer_number;
 use rights::Change;
@@ -37,7 +37,7 @@ pub extern "C" fn vetch_open(
         nodes,
         pages,
     };
-    let h = Header::new(b, m, q, page_capacity, node_capacity);
+    let h = Numbers::new(b, m, q, page_capacity, node_capacity);
     answer_number(open::open(&mut index, sketches, working, h, thresholds))
 }
 

@@ -11,7 +11,7 @@ ghost use Rattle.promises.specs.Relation.{with_lists, with_verdict, Promised, On
 ghost use Rattle.search_laws.specs.Answer.{AnsweredBy};
 ghost use Rattle.fresh_tables.specs.Lengths.{lengths_of};
 
-use layout::Header;
+use layout::Numbers;
 use lent::{Lists, View};
 use refusals::number_and_value;
 
@@ -35,7 +35,7 @@ pub extern "C" fn vetch_lengths(
     ensures sketches_after { sketches.new ≡ (lengths_of (settings_given b m q page_capacity node_capacity [])).sketches }
     ensures working_after { working.new ≡ (lengths_of (settings_given b m q page_capacity node_capacity [])).working }
 {
-    let h = Header::new(b, m, q, page_capacity, node_capacity);
+    let h = Numbers::new(b, m, q, page_capacity, node_capacity);
     match fresh_tables::lengths::needed(h) {
         Ok(needed) => {
             *settings = needed.settings;

@@ -9,7 +9,7 @@ use lib.ListN.{length}
 use Rattle.meaning.specs.Refusal.{first_no}
 use Rattle.meaning.specs.Ledger.{check, reading}
 use Rattle.meaning.specs.Questions.{asked}
-use Rattle.layout.specs.declared.Header.{Header}
+use Rattle.layout.specs.declared.Numbers.{Numbers}
 use Rattle.layout.specs.Header.{header_of, bare}
 use Rattle.layout.specs.Limits.{HeaderLimits}
 use Rattle.layout.specs.Lengths.{working_length}
@@ -22,7 +22,7 @@ use Rattle.promises.specs.Answers.{number, entered, shown56, long_settings, long
 use Rattle.entry.specs.Entry.{tables_asked, entry}
 use Rattle.entry.proofs.Enters.{Entered, entry-refused, entry-shown}
 
-pub record Admitted (T : Tables) (h : Header) : Type 0 where
+pub record Admitted (T : Tables) (h : Numbers) : Type 0 where
   pub answers : number T [] (reading check) ≡ 0
   pub header : header_of (given T) ≡ h
   pub settings : settings_length ≤ length T.settings
@@ -39,7 +39,7 @@ module _ (T : Tables) where
   unfolding number entered shown56 long_settings long_for asked tables_asked
   asked-first = refl
 
-  pub admitted : (h : Header) → entry T ≡ Ok h → Admitted T h
+  pub admitted : (h : Numbers) → entry T ≡ Ok h → Admitted T h
   admitted h e =
       let o : Entered T h = entry-shown T h e in
       let same : SameLengths (given T) h = same-lengths (given T) h o.header in
@@ -64,7 +64,7 @@ module _ (T : Tables) where
       record { answers = sym same; some = λ z. r.1 (sym same ∙ z) }
 
 -- as the code has the header
-module _ (T : Tables) (h : Header) (a : Admitted T h) where
+module _ (T : Tables) (h : Numbers) (a : Admitted T h) where
   abbrev same : SameLengths (given T) h
   same = same-lengths (given T) h a.header
 

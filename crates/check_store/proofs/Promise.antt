@@ -15,7 +15,7 @@ use Rattle.meaning.specs.Trie.{Tree}
 use Rattle.meaning.specs.Ledger.{Settings}
 use Rattle.meaning.specs.Forest.{block_bytes}
 use Rattle.words.specs.Bits.{zeroed}
-use Rattle.layout.specs.declared.Header.{Header}
+use Rattle.layout.specs.declared.Numbers.{Numbers}
 use Rattle.layout.specs.Header.{header_of, bare}
 use Rattle.layout.specs.Lengths.{working_length}
 use Rattle.layout.specs.Settings.{free_at}
@@ -74,7 +74,7 @@ module _ (T : Tables) where
       }
 
   -- ---- carried out
-  module _ (h : Header) (e : entry T ≡ Ok h) (words : ℕ) (w : words ≡ map_words (bare h)) where
+  module _ (h : Numbers) (e : entry T ≡ Ok h) (words : ℕ) (w : words ≡ map_words (bare h)) where
     abbrev a : Admitted T h
     a = admitted T h e
 

@@ -3,7 +3,7 @@
 
 ghost use Rattle.std.specs.Prelude.{◌≡◌, ◌≤◌, length};
 ghost use Rattle.meaning.specs.Ledger.{check, reading};
-ghost use Rattle.layout.specs.Header.{bare};
+ghost use Rattle.layout.specs.Headers.{given_by, numbers};
 ghost use Rattle.layout.specs.Tables.{Lent};
 ghost use Rattle.lent.specs.Lists.{held_with};
 ghost use Rattle.refusals.specs.Refusals.{answer_number, says_yes};
@@ -20,9 +20,9 @@ use refusals::Refusal;
 // The pages, the free chain and the tries, with the first free link. The map is for marks.
 #[tactic(auto, unfolding(layout::specs::Lengths::nodes_length, crate::specs::Store::test_store))]
 fn test_store(view: View<'_>, map: &mut [u32], h: Header, free: u32) -> bool
-    requires lent { Lent h view.nodes.now view.pages.now view.sketches.now }
+    requires lent { Lent (numbers h) view.nodes.now view.pages.now view.sketches.now }
     requires map_len_bound { length map.old ≤ 2048 }
-    ensures { passed map.new result ≡ test_store (bare h) view.entry.nodes.now view.entry.pages.now view.entry.sketches.now free (length map.old) map.old }
+    ensures { passed map.new result ≡ test_store (given_by h) view.entry.nodes.now view.entry.pages.now view.entry.sketches.now free (length map.old) map.old }
 {
     let Some(live) = pages::test_pages(view.pages, view.sketches, h) else {
         return false;

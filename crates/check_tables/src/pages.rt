@@ -1,7 +1,6 @@
 // The live pages, apart from the tries: each has a class below 64, symbols below 2^b and the signature of its row.
 ghost use Rattle.std.specs.Prelude.{◌≡◌, ◌≤◌, ◌<◌, length};
-ghost use Rattle.layout.specs.Header.{bare};
-ghost use Rattle.layout.specs.Limits.{HeaderLimits};
+ghost use Rattle.layout.specs.Headers.{given_by};
 ghost use Rattle.layout.specs.Lengths.{pages_length, sketches_length};
 ghost use Rattle.check_tables.specs.Pages.{page_fits, test_pages};
 
@@ -12,11 +11,10 @@ use sketch::symbols::in_range;
 
 #[tactic(auto, unfolding(layout::specs::Lengths::sketches_length, crate::specs::Pages::page_fits))]
 fn page_fits(pages: &[u32], sketches: &[u8], h: Header, p: usize) -> bool
-    requires header_limits { HeaderLimits h }
-    requires h_in_bounds { pages_length (bare h) ≤ length pages.now }
-    requires h_in_bounds_2 { sketches_length (bare h) ≤ length sketches.now }
+    requires h_in_bounds { pages_length (given_by h) ≤ length pages.now }
+    requires h_in_bounds_2 { sketches_length (given_by h) ≤ length sketches.now }
     requires p_lt_pages { p < h.pages }
-    ensures { result ≡ page_fits (bare h) pages.now sketches.now p }
+    ensures { result ≡ page_fits (given_by h) pages.now sketches.now p }
 {
     if !layout::pages::is_live(pages, p) {
         return true;
@@ -35,10 +33,9 @@ fn page_fits(pages: &[u32], sketches: &[u8], h: Header, p: usize) -> bool
 // How many pages are live, where all pass; none where one does not.
 #[tactic(auto, unfolding(crate::specs::Pages::test_pages))]
 pub fn test_pages(pages: &[u32], sketches: &[u8], h: Header) -> Option<u32>
-    requires header_limits { HeaderLimits h }
-    requires h_in_bounds { pages_length (bare h) ≤ length pages.now }
-    requires h_in_bounds_2 { sketches_length (bare h) ≤ length sketches.now }
-    ensures { result ≡ test_pages (bare h) pages.now sketches.now }
+    requires h_in_bounds { pages_length (given_by h) ≤ length pages.now }
+    requires h_in_bounds_2 { sketches_length (given_by h) ≤ length sketches.now }
+    ensures { result ≡ test_pages (given_by h) pages.now sketches.now }
 {
     let mut live: u32 = 0;
     for p in 0..h.pages {

@@ -1,7 +1,7 @@
 // The tries of all blocks. A pass over them marks the nodes of one window in the map; passes over all windows see that no node stands
 // in two places.
 ghost use Rattle.std.specs.Prelude.{◌≡◌, ◌*◌, ◌≤◌, ◌<◌, length};
-ghost use Rattle.layout.specs.Header.{bare};
+ghost use Rattle.layout.specs.Headers.{given_by, numbers};
 ghost use Rattle.layout.specs.Tables.{Lent};
 ghost use Rattle.trie_check.specs.Trie.{tested, test_trie};
 ghost use Rattle.check_tries.specs.Windows.{passed, blocks_from, block_given, test_window, test_windows};
@@ -26,10 +26,10 @@ fn test_block(
     left: u32,
     live: u32,
 ) -> Option<u32>
-    requires lent { Lent h view.nodes.now view.pages.now view.sketches.now }
+    requires lent { Lent (numbers h) view.nodes.now view.pages.now view.sketches.now }
     requires size_bound { window.size ≤ 32 * length map.old }
     requires j_lt_q { j < h.q }
-    ensures { tested map.new result ≡ test_trie (block_given (bare h) view.entry.nodes.now view.entry.pages.now view.entry.sketches.now window j) j map.old left live }
+    ensures { tested map.new result ≡ test_trie (block_given (given_by h) view.entry.nodes.now view.entry.pages.now view.entry.sketches.now window j) j map.old left live }
 {
     let scope = Scope {
         nodes: view.nodes,
@@ -52,9 +52,9 @@ fn test_blocks(
     budget: u32,
     live: u32,
 ) -> bool
-    requires lent { Lent h view.nodes.now view.pages.now view.sketches.now }
+    requires lent { Lent (numbers h) view.nodes.now view.pages.now view.sketches.now }
     requires size_bound { window.size ≤ 32 * length map.old }
-    ensures { passed map.new result ≡ blocks_from (block_given (bare h) view.entry.nodes.now view.entry.pages.now view.entry.sketches.now window) live h.q 0 map.old budget }
+    ensures { passed map.new result ≡ blocks_from (block_given (given_by h) view.entry.nodes.now view.entry.pages.now view.entry.sketches.now window) live h.q 0 map.old budget }
 {
     let mut left = budget;
     for j in 0..h.q {
@@ -75,9 +75,9 @@ fn test_window(
     left: u32,
     live: u32,
 ) -> bool
-    requires lent { Lent h view.nodes.now view.pages.now view.sketches.now }
+    requires lent { Lent (numbers h) view.nodes.now view.pages.now view.sketches.now }
     requires map_len_bound { length map.old ≤ 2048 }
-    ensures { passed map.new result ≡ test_window (bare h) view.entry.nodes.now view.entry.pages.now view.entry.sketches.now (length map.old) left live from map.old }
+    ensures { passed map.new result ≡ test_window (given_by h) view.entry.nodes.now view.entry.pages.now view.entry.sketches.now (length map.old) left live from map.old }
 {
     let words = map.len();
     words::zero_run(map, 0, words);
@@ -90,9 +90,9 @@ fn test_window(
 
 // All passes.
 pub fn test_windows(view: View<'_>, map: &mut [u32], h: Header, left: u32, live: u32) -> bool
-    requires lent { Lent h view.nodes.now view.pages.now view.sketches.now }
+    requires lent { Lent (numbers h) view.nodes.now view.pages.now view.sketches.now }
     requires map_len_bound { length map.old ≤ 2048 }
-    ensures { passed map.new result ≡ test_windows (bare h) view.entry.nodes.now view.entry.pages.now view.entry.sketches.now (length map.old) left live map.old }
+    ensures { passed map.new result ≡ test_windows (given_by h) view.entry.nodes.now view.entry.pages.now view.entry.sketches.now (length map.old) left live map.old }
 {
     let size = 32 * map.len();
     for k in 0..WINDOWS {

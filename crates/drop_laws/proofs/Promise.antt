@@ -1,6 +1,6 @@
 -- `drop_page` keeps the promise of a drop.
 use Rattle.std.specs.Prelude.{Option, Some, None, Result, Ok, Err}
-use Rattle.layout.specs.declared.Header.{Header}
+use Rattle.layout.specs.declared.Numbers.{Numbers}
 use Prim.Native.Nat.{ℕ}
 use native.Mathlib.Omega.{arith}
 use mathlib.Core.Path.{◌≡◌, refl, sym, ap, ◌∙◌, subst}
@@ -118,7 +118,7 @@ module _ (T : Tables) (p : ℕ) where
       taken z (gone N P (Some free)) e = drop-done T p z N P (Some free) e free refl
       taken z (gone N P None) e = drop-broken T p z N P None e refl
 
-      go : (o : Result Header ℕ) → admission T (drop p) ≡ o → Keeps (on_opening T p o)
+      go : (o : Result Numbers ℕ) → admission T (drop p) ≡ o → Keeps (on_opening T p o)
       go (Ok h) e = taken (admission-shown T (drop p) h e).0 (remove_all (given T) T.sketches p T.nodes T.pages (get_or T.settings free_at 0)) refl
       go (Err n) e = let t = admission-refused T (drop p) n e in drop-refused T p n t.0 t.1
 

@@ -1,6 +1,6 @@
 -- What a drop does with any tables: T are those at entry, p the page.
 use Rattle.std.specs.Prelude.{ℕ, List, get_or, set, Some, None, Result, Ok, Err}
-use Rattle.layout.specs.declared.Header.{Header}
+use Rattle.layout.specs.declared.Numbers.{Numbers}
 use Rattle.meaning.specs.Ledger.{drop}
 use Rattle.layout.specs.Settings.{free_at}
 use Rattle.layout.specs.Pages.{without_page}
@@ -31,7 +31,7 @@ module _ (T : Tables) (p : ℕ) where
   on_gone (gone N P None) = outcome 14 (with_tries T N P)
 
   -- 5, 6, 8 and 9
-  abbrev pub on_opening : Result Header ℕ → Outcome
+  abbrev pub on_opening : Result Numbers ℕ → Outcome
   on_opening (Ok h) = on_gone (remove_all (given T) T.sketches p T.nodes T.pages (get_or T.settings free_at 0))
   on_opening (Err n) = outcome n T
 

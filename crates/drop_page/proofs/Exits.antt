@@ -6,7 +6,7 @@ use mathlib.Core.Path.{◌≡◌, sym, ap, ◌∙◌}
 use mathlib.Core.List.{List, []}
 use lib.ListN.{length, get_or, set}
 use Rattle.meaning.specs.Ledger.{drop}
-use Rattle.layout.specs.declared.Header.{Header}
+use Rattle.layout.specs.declared.Numbers.{Numbers}
 use Rattle.layout.specs.Header.{bare}
 use Rattle.layout.specs.Lengths.{pages_length}
 use Rattle.layout.specs.Tables.{Lent}
@@ -37,7 +37,7 @@ module _ (ws N P S : List ℕ) (p : ℕ) where
   unfolding drop_page
   refuses n e = drop-promise T p n T (ap (on_opening T p) e)
 
-  module _ (h : Header) (e : Ok h ≡ admission T (drop p)) where
+  module _ (h : Numbers) (e : Ok h ≡ admission T (drop p)) where
     passed : number T [] (drop p) ≡ 0
     passed = (admission-shown T (drop p) h (sym e)).0
 

@@ -7,7 +7,7 @@ use mathlib.Core.Logic.{◌≢◌}
 use mathlib.Core.List.{List, []}
 use Rattle.meaning.specs.Refusal.{Question, first_no}
 use Rattle.meaning.specs.Ledger.{drop}
-use Rattle.layout.specs.declared.Header.{Header}
+use Rattle.layout.specs.declared.Numbers.{Numbers}
 use Rattle.promises.specs.Tables.{Tables, tables, given}
 use Rattle.entry.specs.Entry.{store_entry, page_asked}
 use Rattle.entry.specs.Admission.{admission}
@@ -24,10 +24,10 @@ module _ (ws nodes pages sketches : List ℕ) (p : ℕ) where
   pub admit-refused : (n : ℕ) → store_entry T ≡ Err n → Err n ≡ admission T (drop p)
   admit-refused n e = first-refused T (drop p) (page89 (given T).pages) (drop-asked T p) n e
 
-  module _ (h : Header) (e : store_entry T ≡ Ok h) (n : ℕ) (asked : n ≡ first_no (page89 h.pages)) where
+  module _ (h : Numbers) (e : store_entry T ≡ Ok h) (n : ℕ) (asked : n ≡ first_no (page89 h.pages)) where
     by-header : first_no (page89 (given T).pages) ≡ n
     by-header =
-        ap (λ (g : Header). first_no (page89 g.pages)) (same-header T h e) ∙ sym asked
+        ap (λ (g : Numbers). first_no (page89 g.pages)) (same-header T h e) ∙ sym asked
 
     pub admit-page : n ≢ 0 → Err n ≡ admission T (drop p)
     admit-page d = then-refused T (drop p) (page89 (given T).pages) (drop-asked T p) h e n by-header d

@@ -1,6 +1,6 @@
 // The page taken out of the trie of each block.
 ghost use Rattle.std.specs.Prelude.{◌≡◌, ◌<◌};
-ghost use Rattle.layout.specs.Header.{bare};
+ghost use Rattle.layout.specs.Headers.{given_by, numbers};
 ghost use Rattle.layout.specs.Tables.{Lent};
 ghost use Rattle.trie_remove.specs.Remove.{gone};
 ghost use Rattle.drop_laws.specs.Removal.{remove_block, remove_all};
@@ -21,10 +21,10 @@ fn remove_block(
     j: usize,
     free: u32,
 ) -> Option<u32>
-    requires lent { Lent h nodes.old pages.old sketches.now }
+    requires lent { Lent (numbers h) nodes.old pages.old sketches.now }
     requires p_lt_pages { p < h.pages }
     requires j_lt_q { j < h.q }
-    ensures { gone nodes.new pages.new result ≡ remove_block (bare h) sketches.now p j nodes.old pages.old free }
+    ensures { gone nodes.new pages.new result ≡ remove_block (given_by h) sketches.now p j nodes.old pages.old free }
 {
     // An array and not a Vec, since there is no heap; what is called gets the block's part of it.
     let mut bytes = [0u8; 64];
@@ -44,9 +44,9 @@ pub fn remove_all(
     p: usize,
     free: u32,
 ) -> Option<u32>
-    requires lent { Lent h nodes.old pages.old sketches.now }
+    requires lent { Lent (numbers h) nodes.old pages.old sketches.now }
     requires p_lt_pages { p < h.pages }
-    ensures { gone nodes.new pages.new result ≡ remove_all (bare h) sketches.now p nodes.old pages.old free }
+    ensures { gone nodes.new pages.new result ≡ remove_all (given_by h) sketches.now p nodes.old pages.old free }
 {
     let mut path = [Passed { node: 0, slot: 0 }; 64];
     let mut link = free;

@@ -12,7 +12,7 @@ use lib.Dec.{leb}
 use lib.ListN.{length}
 use Rattle.meaning.specs.Refusal.{Question, first_no}
 use Rattle.meaning.specs.Ledger.{Call}
-use Rattle.layout.specs.declared.Header.{Header}
+use Rattle.layout.specs.declared.Numbers.{Numbers}
 use Rattle.layout.specs.Header.{opening_of, header_of, bare}
 use Rattle.layout.specs.Settings.{settings_length}
 use Rattle.layout.specs.Limits.{HeaderLimits}
@@ -32,7 +32,7 @@ module _ (ws nodes pages sketches : List ℕ) where
   abbrev T : Tables
   T = tables ws nodes pages sketches []
 
-  abbrev is_long : Header → Bool
+  abbrev is_long : Numbers → Bool
   is_long g =
       leb (nodes_length (bare g)) (length nodes)
       && (leb (pages_length (bare g)) (length pages) && leb (sketches_length (bare g)) (length sketches))
@@ -41,7 +41,7 @@ module _ (ws nodes pages sketches : List ℕ) where
   unfolding store_entry store_asked
   store-refused n e = tell-refused T (first_no (store_asked T)) n (refused-number ws _ _ n e) (λ z. omega (arith, refused-range ws n e))
 
-  module _ (h : Header) (e : opening_of ws ≡ Ok h) where
+  module _ (h : Numbers) (e : opening_of ws ≡ Ok h) where
     by-header : first_no (store_asked T) ≡ cond (is_long h) 0 6
     unfolding store_asked long_nodes long_pages nodes_length pages_length sketches_length first_no
     by-header =
@@ -80,7 +80,7 @@ opened T z =
     }
 
 -- ---- an opening that they show
-module _ (T : Tables) (h : Header) (e : store_entry T ≡ Ok h) where
+module _ (T : Tables) (h : Numbers) (e : store_entry T ≡ Ok h) where
   pub shown-none : first_no (store_asked T) ≡ 0
   unfolding store_entry
   shown-none = (told-shown T (first_no (store_asked T)) h e).0
@@ -105,7 +105,7 @@ module _ (T : Tables) (c : Call) where
   unfolding admission
   admission-refused n e = told-refused T (number T [] c) n e
 
-  pub admission-shown : (h : Header) → admission T c ≡ Ok h → (number T [] c ≡ 0) × (header_of (given T) ≡ h)
+  pub admission-shown : (h : Numbers) → admission T c ≡ Ok h → (number T [] c ≡ 0) × (header_of (given T) ≡ h)
   unfolding admission
   admission-shown h e = told-shown T (number T [] c) h e
 
@@ -117,7 +117,7 @@ module _ (T : Tables) (c : Call) (qs : List Question) (asks : number T [] c ≡ 
       let r = told-refused T (first_no (store_asked T)) n e in
       tell-refused T (number T [] c) n (asks ∙ stop-first (store_asked T) qs (λ z. r.1 (sym r.0 ∙ z)) ∙ r.0) r.1
 
-  module _ (h : Header) (e : store_entry T ≡ Ok h) where
+  module _ (h : Numbers) (e : store_entry T ≡ Ok h) where
     asked-then : number T [] c ≡ first_no qs
     unfolding store_asked
     asked-then = asks ∙ pass-first (store_asked T) qs (omega arith) (shown-none T h e)

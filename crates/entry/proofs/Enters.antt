@@ -12,7 +12,7 @@ use lib.ListN.{length}
 use Rattle.meaning.specs.Refusal.{ask, first_no}
 use Rattle.meaning.specs.Ledger.{Settings}
 use Rattle.meaning.proofs.Lists.{and_first, and_second}
-use Rattle.layout.specs.declared.Header.{Header}
+use Rattle.layout.specs.declared.Numbers.{Numbers}
 use Rattle.layout.specs.Header.{header_of, bare}
 use Rattle.layout.specs.Limits.{HeaderLimits}
 use Rattle.layout.specs.Settings.{settings_length, shows_opening}
@@ -53,7 +53,7 @@ module _ (ws nodes pages sketches working : List ℕ) where
       let r = told-refused store (first_no (store_asked store)) n e in
       tell-refused T (first_no (tables_asked T)) n (asked-last ∙ rw (ne_eqb (first_no (store_asked store)) 0 (λ z. r.1 (sym r.0 ∙ z))) r.0) r.1
 
-  module _ (h : Header) (e : store_entry store ≡ Ok h) where
+  module _ (h : Numbers) (e : store_entry store ≡ Ok h) where
     abbrev working_is_long : Bool
     working_is_long = leb (working_length (bare h)) (length working)
 
@@ -61,7 +61,7 @@ module _ (ws nodes pages sketches working : List ℕ) where
     unfolding long_working working_length map_words summary_words
     by-header =
         asked-last
-        ∙ rw (shown-none store h e) (ap (λ (g : Header). cond (leb (working_length (bare g)) (length working)) 0 6) (same-header store h e))
+        ∙ rw (shown-none store h e) (ap (λ (g : Numbers). cond (leb (working_length (bare g)) (length working)) 0 6) (same-header store h e))
 
     pub enter-short : working_is_long ≡ false → Err 6 ≡ entry T
     unfolding entry
@@ -77,7 +77,7 @@ unfolding entry
 entry-refused T n e = told-refused T (first_no (tables_asked T)) n e
 
 -- the opening and the tables that pass
-pub record Entered (T : Tables) (h : Header) : Type 0 where
+pub record Entered (T : Tables) (h : Numbers) : Type 0 where
   pub none : first_no (tables_asked T) ≡ 0
   pub header : header_of (given T) ≡ h
   pub limits : HeaderLimits h
@@ -106,7 +106,7 @@ module _ (T : Tables) where
         working-long = leb-true (working_length s) (length T.working) (search (and_first, and_second));
       }
 
-  pub entry-shown : (h : Header) → entry T ≡ Ok h → Entered T h
+  pub entry-shown : (h : Numbers) → entry T ≡ Ok h → Entered T h
   unfolding entry
   entry-shown h e =
       let t = told-shown T (first_no (tables_asked T)) h e in

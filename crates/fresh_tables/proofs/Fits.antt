@@ -3,13 +3,13 @@ use Prim.Native.Nat.{◌+◌, ◌^◌, ◌≤◌, ◌<◌}
 use native.Mathlib.Omega.{arith}
 use native.Mathlib.Nat.{mul-le-mul, lt_of_le_of_lt}
 use lib.Dec.{lit<}
-use Rattle.layout.specs.declared.Header.{Header}
+use Rattle.layout.specs.declared.Numbers.{Numbers}
 use Rattle.layout.specs.Header.{bare}
 use Rattle.layout.specs.Limits.{HeaderLimits}
 use Rattle.layout.specs.Lengths.{nodes_length, pages_length, sketches_length, working_length}
 use Rattle.layout.proofs.Sizes.{map-most, summary-most}
 
-module _ (h : Header) (l : HeaderLimits h) where
+module _ (h : Numbers) (l : HeaderLimits h) where
   pub nodes-fit : nodes_length (bare h) < 2 ^ 32
   unfolding nodes_length
   nodes-fit = omega arith

@@ -7,7 +7,7 @@ use lib.ListN.{length, replicate, length-replicate, length-append}
 use lib.Seq.{sets, length-sets}
 use Rattle.meaning.specs.Lists.{onto, upto}
 use Rattle.meaning.proofs.Lists.{length-map-upto}
-use Rattle.layout.specs.declared.Header.{Header}
+use Rattle.layout.specs.declared.Numbers.{Numbers}
 use Rattle.layout.specs.Nodes.{heads_at}
 use Rattle.layout.specs.Header.{bare}
 use Rattle.layout.specs.Lengths.{nodes_length}
@@ -15,7 +15,7 @@ use Rattle.words.specs.Bits.{zeroed}
 use Rattle.promises.specs.Answers.{fresh_chain, fresh_state, fresh_nodes}
 use Rattle.fresh_tables.proofs.Runs.{sets-append, onto-sets, onto-append, zeroed-sets}
 
-pub nodes-written : (h : Header) (ns : List ℕ) → nodes_length (bare h) ≤ length ns
+pub nodes-written : (h : Numbers) (ns : List ℕ) → nodes_length (bare h) ≤ length ns
     → zeroed
     (sets (sets ns 0 (map (fresh_chain (bare h)) (upto h.nodes))) h.nodes (map (fresh_state (bare h)) (upto h.nodes)))
     (heads_at h.nodes)

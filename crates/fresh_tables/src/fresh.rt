@@ -2,9 +2,8 @@
 ghost use Rattle.std.specs.Prelude.{◌≡◌, map, ◌+◌, ◌*◌, ◌≤◌, ◌<◌, length};
 ghost use Rattle.std.proofs.lemmas.List.Edits.{sets};
 ghost use Rattle.meaning.specs.Lists.{onto, upto};
+ghost use Rattle.layout.specs.Headers.{given_by};
 ghost use Rattle.layout.specs.Nodes.{most_nodes};
-ghost use Rattle.layout.specs.Header.{bare};
-ghost use Rattle.layout.specs.Limits.{HeaderLimits};
 ghost use Rattle.layout.specs.Lengths.{nodes_length};
 ghost use Rattle.promises.specs.Answers.{free_link, fresh_chain, fresh_state, fresh_nodes};
 
@@ -23,7 +22,7 @@ pub fn free_link(cap: usize, x: usize) -> u32
 #[tactic(auto, unfolding(promises::specs::Answers::fresh_chain))]
 fn chain_word(h: Header, x: usize) -> u32
     requires { (h.nodes ≤ most_nodes) × (x < h.nodes) }
-    ensures { result ≡ fresh_chain (bare h) x }
+    ensures { result ≡ fresh_chain (given_by h) x }
 {
     if x < h.q {
         0
@@ -35,7 +34,7 @@ fn chain_word(h: Header, x: usize) -> u32
 #[tactic(auto, unfolding(promises::specs::Answers::fresh_chain, meaning::specs::Lists::upto))]
 fn write_chain(nodes: &mut [u32], h: Header)
     requires { (h.nodes ≤ most_nodes) × (h.nodes ≤ length nodes.old) }
-    ensures { nodes.new ≡ sets nodes.old 0 (map (fresh_chain (bare h)) (upto h.nodes)) }
+    ensures { nodes.new ≡ sets nodes.old 0 (map (fresh_chain (given_by h)) (upto h.nodes)) }
 {
     for x in 0..h.nodes {
         nodes[x] = chain_word(h, x);
@@ -44,7 +43,7 @@ fn write_chain(nodes: &mut [u32], h: Header)
 
 #[tactic(auto, unfolding(promises::specs::Answers::fresh_state))]
 fn state_word(h: Header, x: usize) -> u32
-    ensures { result ≡ fresh_state (bare h) x }
+    ensures { result ≡ fresh_state (given_by h) x }
 {
     let state = if x < h.q { State::Empty } else { State::Free };
     state.word()
@@ -54,7 +53,7 @@ fn state_word(h: Header, x: usize) -> u32
 #[tactic(auto, unfolding(promises::specs::Answers::fresh_state, meaning::specs::Lists::upto))]
 fn write_states(nodes: &mut [u32], h: Header)
     requires { (h.nodes ≤ most_nodes) × (h.nodes + h.nodes ≤ length nodes.old) }
-    ensures { nodes.new ≡ sets nodes.old h.nodes (map (fresh_state (bare h)) (upto h.nodes)) }
+    ensures { nodes.new ≡ sets nodes.old h.nodes (map (fresh_state (given_by h)) (upto h.nodes)) }
 {
     for x in 0..h.nodes {
         nodes[h.nodes + x] = state_word(h, x);
@@ -63,9 +62,8 @@ fn write_states(nodes: &mut [u32], h: Header)
 
 #[tactic(auto, unfolding(layout::specs::Lengths::nodes_length, promises::specs::Answers::fresh_nodes))]
 pub fn write_nodes(nodes: &mut [u32], h: Header)
-    requires header_limits { HeaderLimits h }
-    requires h_in_bounds { nodes_length (bare h) ≤ length nodes.old }
-    ensures { nodes.new ≡ onto (fresh_nodes (bare h)) nodes.old }
+    requires h_in_bounds { nodes_length (given_by h) ≤ length nodes.old }
+    ensures { nodes.new ≡ onto (fresh_nodes (given_by h)) nodes.old }
 {
     write_chain(nodes, h);
     write_states(nodes, h);

@@ -3,7 +3,7 @@ ghost use Rattle.std.specs.Prelude.{◌≡◌, []};
 ghost use Rattle.layout.specs.Header.{bare};
 ghost use Rattle.fresh_tables.specs.Lengths.{told, lengths_of};
 
-use layout::{Header, lengths};
+use layout::{Header, Numbers, lengths};
 use refusals::Refusal;
 
 // The lengths in words, of the sketch table in bytes.
@@ -18,12 +18,13 @@ pub struct Lengths {
 
 // The lengths; or 4.
 #[tactic(auto, unfolding(crate::specs::Lengths::lengths_of))]
-pub fn needed(h: Header) -> Result<Lengths, Refusal>
-    ensures { told result ≡ lengths_of (bare h) }
+pub fn needed(given: Numbers) -> Result<Lengths, Refusal>
+    ensures { told result ≡ lengths_of (bare given) }
 {
-    if !settings::limits(h, layout::settings::LEVELS) {
+    if !settings::limits(given, layout::settings::LEVELS) {
         return Err(Refusal::BadSettings);
     }
+    let h = Header::new(given);
     Ok(Lengths {
         settings: layout::settings::LENGTH as u32,
         nodes: lengths::nodes_length(h) as u32,

@@ -21,22 +21,7 @@ use Rattle.hits.specs.Probes.{probe_of, Prepared, test_by}
 abbrev pub query : List ℕ
 query = 1 ∷ 2 ∷ []
 
-abbrev pub probe : Probe
-probe = probe_of (record { b = 2; m = 2; q = 1; pages = 5; nodes = 1 }) (record { low = 32; high = 0 }) query 1
-
-prepared : Prepared query probe
-prepared = refl
-
--- page words, signatures, links
-abbrev asked : Test
-asked =
-    test_by
-    (0 ∷ 6 ∷ 6 ∷ 7 ∷ 6 ∷ 9 ∷ 13 ∷ 0 ∷ 9 ∷ 6 ∷ 0 ∷ 0 ∷ 0 ∷ 0 ∷ 0 ∷ [])
-    (1 ∷ 2 ∷ 1 ∷ 3 ∷ 0 ∷ 0 ∷ 1 ∷ 2 ∷ 1 ∷ 2 ∷ [])
-    query
-    probe
-
-pub in-limits : HeaderLimits probe.header
+pub in-limits : HeaderLimits (record { b = 2; m = 2; q = 1; pages = 5; nodes = 1 })
 in-limits = record {
   bits-least = omega arith;
   bits_most = omega arith;
@@ -50,6 +35,21 @@ in-limits = record {
   nodes-least = omega arith;
   nodes-most = omega arith;
 }
+
+abbrev pub probe : Probe
+probe = probe_of (record { b = 2; m = 2; q = 1; pages = 5; nodes = 1; limits = in-limits }) (record { low = 32; high = 0 }) query 1
+
+prepared : Prepared query probe
+prepared = refl
+
+-- page words, signatures, links
+abbrev asked : Test
+asked =
+    test_by
+    (0 ∷ 6 ∷ 6 ∷ 7 ∷ 6 ∷ 9 ∷ 13 ∷ 0 ∷ 9 ∷ 6 ∷ 0 ∷ 0 ∷ 0 ∷ 0 ∷ 0 ∷ [])
+    (1 ∷ 2 ∷ 1 ∷ 3 ∷ 0 ∷ 0 ∷ 1 ∷ 2 ∷ 1 ∷ 2 ∷ [])
+    query
+    probe
 
 fitting : Fitting asked
 unfolding pages_length sketches_length

@@ -13,7 +13,7 @@ use borrow.Author.Tests.{ltb-true, leb-true, lt-ltb, ltb-false, le-leb}
 use Rattle.meaning.specs.Sketch.{distance}
 use Rattle.meaning.proofs.Lists.{and_first, and_second}
 use Rattle.meaning.proofs.Sums.{distance-le}
-use Rattle.layout.specs.declared.Header.{Header}
+use Rattle.layout.specs.declared.Numbers.{Numbers}
 use Rattle.layout.specs.Lengths.{pages_length, sketches_length}
 use Rattle.layout.specs.Pages.{is_live, class_of, signature_at, row_of}
 use Rattle.layout.proofs.Rows.{row_inside, length-row}
@@ -25,7 +25,7 @@ use Rattle.layout.specs.Signature.{signature}
 use Rattle.hits.specs.Probes.{filters_of, signature_for}
 
 -- where signatures cannot tell pages apart
-pub near-all : (h : Header) (pages : List ℕ) (s radius p : ℕ) → filters_of h radius ≡ false → true ≡ is_near h pages s radius p
+pub near-all : (h : Numbers) (pages : List ℕ) (s radius p : ℕ) → filters_of h radius ≡ false → true ≡ is_near h pages s radius p
 unfolding is_near
 near-all h pages s radius p e =
     sym (le-leb _ radius (omega (arith, ltb-false radius _ e, signature-most h.b (signature_at pages h.pages p) s)))
@@ -101,7 +101,7 @@ verdict-beyond t p = go (passes t p)
     go false e = refl
 
 -- ---- the query's signature, where signatures tell pages apart
-module _ (h : Header) (query : List ℕ) (radius : ℕ) (s : Option ℕ) (e : s ≡ signature_for h query radius) where
+module _ (h : Numbers) (query : List ℕ) (radius : ℕ) (s : Option ℕ) (e : s ≡ signature_for h query radius) where
   pub telling-none : s ≡ None → filters_of h radius ≡ false
   telling-none q = go (filters_of h radius) (sym e ∙ q)
     where

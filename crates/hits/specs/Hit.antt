@@ -1,7 +1,7 @@
 -- The test that a page must pass to be listed: live, of an open class, and within the radius of the query.
 use Rattle.std.specs.Prelude.{ℕ, ◌≤◌, ◌≡◌, Bool, cond, ◌&&◌, List, ltb, leb, length, Option, Some, None}
 use Rattle.meaning.specs.Sketch.{distance}
-use Rattle.layout.specs.declared.Header.{Header}
+use Rattle.layout.specs.declared.Numbers.{Numbers}
 use Rattle.layout.specs.Header.{header_of, bare}
 use Rattle.layout.specs.Limits.{HeaderLimits}
 use Rattle.layout.specs.Lengths.{pages_length, sketches_length}
@@ -16,12 +16,12 @@ use Rattle.signature.specs.Distance.{signature_distance}
 pub record Test : Type 0 where
   pub pages : List ℕ
   pub sketches : List ℕ
-  pub header : Header
+  pub header : Numbers
   pub classes : Classes
   pub query : List ℕ
   pub radius : ℕ
 
-abbrev pub test : List ℕ → List ℕ → Header → Classes → List ℕ → ℕ → Test
+abbrev pub test : List ℕ → List ℕ → Numbers → Classes → List ℕ → ℕ → Test
 test pages sketches header classes query radius =
     record { pages = pages; sketches = sketches; header = header; classes = classes; query = query; radius = radius }
 
@@ -52,7 +52,7 @@ is_hit t p =
     && leb (far t p) t.radius
 
 -- the signature stored for page p is within the radius of a signature s
-unfoldable pub is_near : Header → List ℕ → ℕ → ℕ → ℕ → Bool
+unfoldable pub is_near : Numbers → List ℕ → ℕ → ℕ → ℕ → Bool
 is_near h pages s radius p = leb (signature_distance h.b (signature_at pages h.pages p) s) radius
 
 -- by the query's signature

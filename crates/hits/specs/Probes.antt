@@ -2,6 +2,8 @@
 use Rattle.std.specs.Prelude.{ℕ, ◌*◌, ◌≡◌, Bool, cond, List, ltb, Option, Some, None}
 use Rattle.meaning.specs.Sketch.{per_byte}
 use Rattle.layout.specs.declared.Header.{Header}
+use Rattle.layout.specs.declared.Numbers.{Numbers}
+use Rattle.layout.specs.Headers.{numbers}
 use Rattle.layout.specs.Signature.{signature}
 use Rattle.rights.specs.declared.Classes.{Classes}
 use Rattle.comparison.specs.Shapes.{shape_of}
@@ -9,11 +11,11 @@ use Rattle.hits.specs.declared.Probe.{Probe}
 use Rattle.hits.specs.Hit.{Test, test}
 
 -- signatures differ in 4 × z groups at most: they tell pages apart within a smaller radius alone
-abbrev pub filters_of : Header → ℕ → Bool
+abbrev pub filters_of : Numbers → ℕ → Bool
 filters_of h radius = ltb radius (4 * per_byte h.b)
 
 -- the query's signature, where they do
-abbrev pub signature_for : Header → List ℕ → ℕ → Option ℕ
+abbrev pub signature_for : Numbers → List ℕ → ℕ → Option ℕ
 signature_for h query radius = cond (filters_of h radius) (Some (signature h.b query)) None
 
 abbrev pub probe_of : Header → Classes → List ℕ → ℕ → Probe
@@ -22,7 +24,7 @@ probe_of h classes query radius = record {
   classes = classes;
   radius = radius;
   shape = shape_of h.b h.m;
-  signature = signature_for h query radius;
+  signature = signature_for (numbers h) query radius;
 }
 
 -- a probe that was made for the query
@@ -31,4 +33,4 @@ Prepared query p = p ≡ probe_of p.header p.classes query p.radius
 
 -- the test by a probe
 abbrev pub test_by : List ℕ → List ℕ → List ℕ → Probe → Test
-test_by pages sketches query p = test pages sketches p.header p.classes query p.radius
+test_by pages sketches query p = test pages sketches (numbers p.header) p.classes query p.radius

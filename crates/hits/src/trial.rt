@@ -1,7 +1,7 @@
 // What a search goes by.
 ghost use Rattle.std.specs.Prelude.{◌≡◌, ◌*◌, ◌≤◌, true, length};
 ghost use Rattle.meaning.specs.Sketch.{in_range};
-ghost use Rattle.layout.specs.Header.{bare};
+ghost use Rattle.layout.specs.Headers.{given_by};
 ghost use Rattle.layout.specs.Lengths.{nodes_length};
 ghost use Rattle.hits.specs.Hit.{Fitting};
 ghost use Rattle.hits.specs.Probes.{Prepared, test_by};
@@ -21,7 +21,7 @@ pub struct Trial<'a> {
     pub words: usize,
     pub ghost fitting: { Fitting (test_by pages.now sketches.now query.now probe) },
     pub ghost prepared: { Prepared query.now probe },
-    pub ghost nodes_long: { nodes_length (bare probe.header) ≤ length nodes.now },
+    pub ghost nodes_long: { nodes_length (given_by probe.header) ≤ length nodes.now },
     pub ghost range: { in_range probe.header.b query.now ≡ true },
     pub ghost bits: { probe.header.pages ≤ words * 32 },
 }

@@ -15,7 +15,7 @@ use crate::desk::Desk;
 use add_page::add::add;
 use drop_page::drop::drop_page;
 use journal::commands::{Command, symbols_at};
-use layout::Header;
+use layout::Numbers;
 use lent::{Index, Lists};
 use refusals::Refusal;
 use search::search::search;
@@ -47,7 +47,7 @@ fn open_levels(
     ensures open_promise { OpenPromise (settings_given b m q page_capacity node_capacity (replicate 64 threshold)) (tables index.old.settings.now index.old.nodes.now index.old.pages.now sketches.now working.now) (answer_number result) index.new.settings.now index.new.nodes.now index.new.pages.now }
 {
     let thresholds = [threshold; 64];
-    let header = Header::new(b, u32::from(m), q, PAGES, NODES);
+    let header = Numbers::new(b, u32::from(m), q, PAGES, NODES);
     open::open(index, sketches, working, header, &thresholds)
 }
 

@@ -11,7 +11,7 @@ use Rattle.meaning.specs.Ledger.{Settings}
 use Rattle.meaning.specs.SketchCalls.{sketch_limits}
 use Rattle.meaning.specs.Questions.{in_limits}
 use Rattle.meaning.proofs.Lists.{and_first, and_second}
-use Rattle.layout.specs.declared.Header.{Header}
+use Rattle.layout.specs.declared.Numbers.{Numbers}
 use Rattle.layout.specs.Header.{header_of}
 use Rattle.layout.specs.Limits.{limits_of, HeaderLimits, Bounds}
 use Rattle.layout.proofs.Tests.{all-at, at_all}
@@ -20,14 +20,14 @@ use Rattle.layout.proofs.Tests.{all-at, at_all}
 abbrev pub short : ℕ → Bool
 short t = ltb t 65536
 
-abbrev pub limits_on : Header → ℕ → Bool
+abbrev pub limits_on : Numbers → ℕ → Bool
 limits_on h count = limits_of h.b h.m h.q h.pages h.nodes count
 
 pub in-limits : (s : Settings) → in_limits s ≡ limits_on (header_of s) (length s.thresholds) && all short s.thresholds
 unfolding in_limits limits_of
 in-limits s = refl
 
-module _ (h : Header) where
+module _ (h : Numbers) where
   pub header-limits : (count : ℕ) → limits_on h count ≡ true → HeaderLimits h
   unfolding limits_of sketch_limits
   header-limits count e = record {

@@ -11,28 +11,28 @@ use lib.ListN.{length, get_or}
 use Rattle.meaning.specs.Refusal.{Question, ask, first_no}
 use Rattle.meaning.specs.Questions.{in_limits}
 use Rattle.meaning.proofs.Lists.{and_second}
-use Rattle.layout.specs.declared.Header.{Header}
+use Rattle.layout.specs.declared.Numbers.{Numbers}
 use Rattle.layout.specs.Settings.{mark, settings_length, settings_of, shows_opening}
 use Rattle.layout.specs.Header.{header_of, opening_of, pick, tables_first}
 use Rattle.layout.specs.Limits.{HeaderLimits, Bounds}
 use Rattle.layout.proofs.Limits.{bounds}
 
-pub record Shows (ws : List ℕ) (h : Header) : Type 0 where
+pub record Shows (ws : List ℕ) (h : Numbers) : Type 0 where
   pub long : settings_length ≤ length ws
   pub shows : shows_opening ws ≡ true
   pub header : header_of (settings_of ws) ≡ h
   pub limits : HeaderLimits h
   pub bounds : Bounds (settings_of ws)
 
-pub apart : (h : Header) (n : ℕ) → Err n ≡ Ok h → ⊥
+pub apart : (h : Numbers) (n : ℕ) → Err n ≡ Ok h → ⊥
 apart h n e = let z : ◌≡◌ {A = ℕ} 0 1 = cc in omega arith
 
 -- the answer by its two tests
-answer : List ℕ → Bool → Bool → Result Header ℕ
+answer : List ℕ → Bool → Bool → Result Numbers ℕ
 answer ws long shows = pick long (pick shows (Ok (header_of (settings_of ws))) (Err 6)) (Err 5)
 
 module _ (ws : List ℕ) where
-  pub shown : (h : Header) → opening_of ws ≡ Ok h → Shows ws h
+  pub shown : (h : Numbers) → opening_of ws ≡ Ok h → Shows ws h
   unfolding opening_of answer
   shown h e = go (leb settings_length (length ws)) refl (shows_opening ws) refl e
     where
@@ -50,7 +50,7 @@ module _ (ws : List ℕ) where
 
   -- 5 and 6 of a call, by the answer
   module _ (fit : Bool) (qs : List Question) where
-    pub shown-number : (h : Header) → opening_of ws ≡ Ok h → first_no (tables_first ws fit qs) ≡ cond fit (first_no qs) 6
+    pub shown-number : (h : Numbers) → opening_of ws ≡ Ok h → first_no (tables_first ws fit qs) ≡ cond fit (first_no qs) 6
     unfolding first_no
     shown-number h e =
         let s = shown h e in

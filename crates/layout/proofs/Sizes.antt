@@ -5,7 +5,7 @@ use native.Mathlib.Nat.{mul-le-mul, mul-le-mul_right, lt_of_le_of_lt, mul_comm}
 use mathlib.Core.Path.{◌≡◌, sym, ap}
 use lib.Dec.{lit<}
 use Rattle.meaning.specs.Ledger.{Settings}
-use Rattle.layout.specs.declared.Header.{Header}
+use Rattle.layout.specs.declared.Numbers.{Numbers}
 use Rattle.layout.specs.Settings.{settings_length}
 use Rattle.layout.specs.Header.{header_of, bare}
 use Rattle.layout.specs.Limits.{HeaderLimits}
@@ -17,7 +17,7 @@ pub product-fits : {a b : ℕ} → a ≤ 65536 → b ≤ 65536 → a * b < 2 ^ 6
 product-fits ha hb = lt_of_le_of_lt (mul-le-mul ha hb) (lit< tt)
 
 -- no length hangs on the thresholds
-pub record SameLengths (s : Settings) (h : Header) : Type 0 where
+pub record SameLengths (s : Settings) (h : Numbers) : Type 0 where
   pub nodes : nodes_length (bare h) ≡ nodes_length s
   pub pages : pages_length (bare h) ≡ pages_length s
   pub sketches : sketches_length (bare h) ≡ sketches_length s
@@ -25,7 +25,7 @@ pub record SameLengths (s : Settings) (h : Header) : Type 0 where
   pub summary : summary_words (bare h) ≡ summary_words s
   pub working : working_length (bare h) ≡ working_length s
 
-pub same-lengths : (s : Settings) (h : Header) → header_of s ≡ h → SameLengths s h
+pub same-lengths : (s : Settings) (h : Numbers) → header_of s ≡ h → SameLengths s h
 unfolding nodes_length pages_length sketches_length working_length map_words summary_words
 same-lengths s h e = record {
   nodes = ap (λ g. nodes_length (bare g)) (sym e);

@@ -3,27 +3,27 @@ use Rattle.std.specs.Prelude.{ℕ, Bool, true, false, ◌&&◌, List, [], ◌∷
 use Rattle.meaning.specs.Refusal.{Question, ask}
 use Rattle.meaning.specs.Ledger.{Settings, settings_given}
 use Rattle.layout.specs.Settings.{settings_length, settings_of, shows_opening}
-use Rattle.layout.specs.declared.Header.{Header}
+use Rattle.layout.specs.declared.Numbers.{Numbers}
 
 -- b, m, q and the capacities
-abbrev pub header_of : Settings → Header
+abbrev pub header_of : Settings → Numbers
 header_of s = record { b = s.bits; m = s.symbols; q = s.blocks; pages = s.pages; nodes = s.nodes }
 
 -- the settings of a header with thresholds
-abbrev pub with_thresholds : Header → List ℕ → Settings
+abbrev pub with_thresholds : Numbers → List ℕ → Settings
 with_thresholds h ts = settings_given h.b h.m h.q h.pages h.nodes ts
 
 -- the settings of a header without: no length hangs on the thresholds
-abbrev pub bare : Header → Settings
+abbrev pub bare : Numbers → Settings
 bare h = with_thresholds h []
 
 -- one of two answers, by a test
-abbrev pub pick : Bool → Result Header ℕ → Result Header ℕ → Result Header ℕ
+abbrev pub pick : Bool → Result Numbers ℕ → Result Numbers ℕ → Result Numbers ℕ
 pick true a b = a
 pick false a b = b
 
 -- 5 and 6, as far as the settings table goes
-unfoldable pub opening_of : List ℕ → Result Header ℕ
+unfoldable pub opening_of : List ℕ → Result Numbers ℕ
 opening_of ws =
     pick (leb settings_length (length ws))
     (pick (shows_opening ws) (Ok (header_of (settings_of ws))) (Err 6))

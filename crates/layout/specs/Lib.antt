@@ -1,3 +1,4 @@
+pub mod Headers
 pub mod Settings
 pub mod Entries
 pub mod Limits

@@ -2,7 +2,7 @@
 use Rattle.std.specs.Prelude.{ℕ, ◌≤◌, ◌<◌, ◌≡◌, Bool, ◌&&◌, ltb, leb, eqb, length, get_or}
 use Rattle.meaning.specs.Ledger.{Settings}
 use Rattle.meaning.specs.SketchCalls.{sketch_limits}
-use Rattle.layout.specs.declared.Header.{Header}
+use Rattle.layout.specs.declared.Numbers.{Numbers}
 use Rattle.layout.specs.Header.{header_of}
 use Rattle.layout.specs.Nodes.{most_nodes}
 use Rattle.layout.specs.Pages.{most_pages}
@@ -17,7 +17,7 @@ limits_of b m q P N count =
     && eqb count 64
 
 -- a header that passes 4
-pub record HeaderLimits (h : Header) : Type 0 where
+pub record HeaderLimits (h : Numbers) : Type 0 where
   pub bits-least : 1 ≤ h.b
   pub bits_most : h.b ≤ 8
   pub symbols-least : 1 ≤ h.m

@@ -7,13 +7,11 @@ pub mod nodes;
 pub mod pages;
 pub mod settings;
 
-ghost use Rattle.std.specs.Prelude.{◌≡◌, []};
-ghost use Rattle.meaning.specs.Ledger.{settings_given};
-ghost use Rattle.layout.specs.Header.{header_of};
+ghost use Rattle.layout.specs.Limits.{HeaderLimits};
 
-// What a call goes by: b, m, q and the capacities. It may hold any numbers, since question 4 is asked of it; that it passed is a clause.
+// The numbers of an opening as they are given, or as they stand in the settings table: b, m, q and the capacities.
 #[derive(Clone, Copy)]
-pub struct Header {
+pub struct Numbers {
     pub b: usize,
     pub m: usize,
     pub q: usize,
@@ -21,17 +19,50 @@ pub struct Header {
     pub nodes: usize,
 }
 
-impl Header {
-    // By the numbers of an opening as they are given, or as they stand in the settings table.
-    pub fn new(b: u32, m: u32, q: u32, page_capacity: u32, node_capacity: u32) -> Header
+impl Numbers {
+    ghost use Rattle.std.specs.Prelude.{◌≡◌, []};
+    ghost use Rattle.meaning.specs.Ledger.{settings_given};
+    ghost use Rattle.layout.specs.Header.{header_of};
+
+    pub fn new(b: u32, m: u32, q: u32, page_capacity: u32, node_capacity: u32) -> Numbers
         ensures { result ≡ header_of (settings_given b m q page_capacity node_capacity []) }
     {
-        Header {
+        Numbers {
             b: b as usize,
             m: m as usize,
             q: q as usize,
             pages: page_capacity as usize,
             nodes: node_capacity as usize,
+        }
+    }
+}
+
+// What a call goes by: numbers that pass question 4.
+#[derive(Clone, Copy)]
+pub struct Header {
+    pub b: usize,
+    pub m: usize,
+    pub q: usize,
+    pub pages: usize,
+    pub nodes: usize,
+    pub ghost limits: { HeaderLimits (record { b = b; m = m; q = q; pages = pages; nodes = nodes }) },
+}
+
+impl Header {
+    ghost use Rattle.std.specs.Prelude.{◌≡◌};
+    ghost use Rattle.layout.specs.Limits.{HeaderLimits};
+    ghost use Rattle.layout.specs.Headers.{numbers};
+
+    pub fn new(given: Numbers) -> Header
+        requires { HeaderLimits given }
+        ensures { numbers result ≡ given }
+    {
+        Header {
+            b: given.b,
+            m: given.m,
+            q: given.q,
+            pages: given.pages,
+            nodes: given.nodes,
         }
     }
 }

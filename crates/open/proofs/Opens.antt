@@ -11,7 +11,7 @@ use Rattle.meaning.specs.Refusal.{first_no}
 use Rattle.meaning.specs.Ledger.{Settings, opening}
 use Rattle.meaning.specs.Questions.{asked}
 use Rattle.meaning.proofs.Lists.{and_first, and_second}
-use Rattle.layout.specs.declared.Header.{Header}
+use Rattle.layout.specs.declared.Numbers.{Numbers}
 use Rattle.layout.specs.Settings.{settings_length, header, with_header, members_at, register_length, free_at}
 use Rattle.layout.specs.Header.{bare, with_thresholds}
 use Rattle.layout.specs.Limits.{limits_of}
@@ -59,11 +59,11 @@ pages-written s ps long =
     zeroed-sets ps 0 (pages_length s) (omega arith) ∙ sym (onto-sets zs ps (omega arith))
 
 -- ---- 5, by the header
-abbrev pub all_long : Header → Tables → Bool
+abbrev pub all_long : Numbers → Tables → Bool
 all_long h T = long_settings T && long_for (bare h) T (opening (bare h))
 
 -- each table that is written is long enough
-pub all-long : (h : Header) (T : Tables) → all_long h T ≡ true
+pub all-long : (h : Numbers) (T : Tables) → all_long h T ≡ true
     → (settings_length ≤ length T.settings) × (nodes_length (bare h) ≤ length T.nodes) × (pages_length (bare h) ≤ length T.pages)
 unfolding long_settings long_for long_nodes long_pages
 all-long h T long = (
@@ -72,7 +72,7 @@ all-long h T long = (
   leb-true (pages_length (bare h)) (length T.pages) (search (and_first, and_second)),
 )
 
-pub count-given : (h : Header) (count : ℕ) → limits_on h count ≡ true → count ≡ 64
+pub count-given : (h : Numbers) (count : ℕ) → limits_on h count ≡ true → count ≡ 64
 unfolding limits_of
 count-given h count e = eqb-true count 64 (search and_second)
 
@@ -86,7 +86,7 @@ refused s T n e h = record {
 }
 
 -- of an opening with these arguments, each threshold of 16 bits
-module _ (h : Header) (ts : List ℕ) (short : (k : ℕ) → get_or ts k 0 < 65536) (T : Tables) where
+module _ (h : Numbers) (ts : List ℕ) (short : (k : ℕ) → get_or ts k 0 < 65536) (T : Tables) where
   abbrev s : Settings
   s = with_thresholds h ts
 

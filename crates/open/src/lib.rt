@@ -4,9 +4,9 @@
 ghost use Rattle.std.specs.Prelude.{◌≡◌, ◌&&◌, ◌≤◌, length};
 ghost use Rattle.meaning.specs.Lists.{onto};
 ghost use Rattle.meaning.specs.Ledger.{opening};
+ghost use Rattle.layout.specs.Headers.{given_by, numbers};
 ghost use Rattle.layout.specs.Settings.{settings_length};
-ghost use Rattle.layout.specs.Header.{bare, with_thresholds};
-ghost use Rattle.layout.specs.Limits.{HeaderLimits};
+ghost use Rattle.layout.specs.Header.{with_thresholds};
 ghost use Rattle.layout.specs.Lengths.{nodes_length, pages_length};
 ghost use Rattle.promises.specs.Tables.{tables};
 ghost use Rattle.lent.specs.Lists.{held_with, SameTables};
@@ -15,16 +15,15 @@ ghost use Rattle.promises.specs.Answers.{long_settings, long_for, fresh_settings
 ghost use Rattle.promises.specs.Calls.{OpenPromise};
 
 use fresh_tables::fresh;
-use layout::Header;
 use layout::settings::{LENGTH, LEVELS, MEMBERS, REGISTER};
+use layout::{Header, Numbers};
 use lent::{Index, View};
 use refusals::Refusal;
 
 // 5: is every table long enough?
 #[tactic(auto, unfolding(promises::specs::Answers::long_settings, promises::specs::Answers::long_for, promises::specs::Answers::long_nodes, promises::specs::Answers::long_pages, promises::specs::Answers::long_working))]
 fn long_enough(h: Header, view: View<'_>, working: &[u32]) -> bool
-    requires { HeaderLimits h }
-    ensures { result ≡ long_settings (held_with view.entry working.now) && long_for (bare h) (held_with view.entry working.now) (opening (bare h)) }
+    ensures { result ≡ long_settings (held_with view.entry working.now) && long_for (given_by h) (held_with view.entry working.now) (opening (given_by h)) }
 {
     (LENGTH <= view.settings.len()) & (entry::long_store(h, view) & entry::long_working(h, working))
 }
@@ -33,8 +32,7 @@ fn long_enough(h: Header, view: View<'_>, working: &[u32]) -> bool
 #[tactic(auto, unfolding(promises::specs::Answers::fresh_settings))]
 fn write_settings(settings: &mut [u32], h: Header, thresholds: &[u16; LEVELS])
     requires settings_length_in_bounds { settings_length ≤ length settings.old }
-    requires header_limits { HeaderLimits h }
-    ensures { settings.new ≡ onto (fresh_settings (with_thresholds h thresholds.now)) settings.old }
+    ensures { settings.new ≡ onto (fresh_settings (with_thresholds (numbers h) thresholds.now)) settings.old }
 {
     settings::write_header(settings, h, thresholds);
     words::zero_run(settings, MEMBERS, REGISTER);
@@ -44,14 +42,13 @@ fn write_settings(settings: &mut [u32], h: Header, thresholds: &[u16; LEVELS])
 // Every table that an opening writes, over its beginning.
 #[tactic(auto, unfolding(promises::specs::Answers::fresh_settings, promises::specs::Answers::fresh_nodes, promises::specs::Answers::fresh_pages))]
 fn lay_out(index: &mut Index<'_>, h: Header, thresholds: &[u16; LEVELS])
-    requires header_limits { HeaderLimits h }
     requires settings_length_in_bounds { settings_length ≤ length index.old.settings.now }
-    requires h_in_bounds { nodes_length (bare h) ≤ length index.old.nodes.now }
-    requires h_in_bounds_2 { pages_length (bare h) ≤ length index.old.pages.now }
+    requires h_in_bounds { nodes_length (given_by h) ≤ length index.old.nodes.now }
+    requires h_in_bounds_2 { pages_length (given_by h) ≤ length index.old.pages.now }
     ensures same { SameTables index.old index.new }
-    ensures settings_after { index.new.settings.now ≡ onto (fresh_settings (with_thresholds h thresholds.now)) index.old.settings.now }
-    ensures nodes_after { index.new.nodes.now ≡ onto (fresh_nodes (bare h)) index.old.nodes.now }
-    ensures pages_after { index.new.pages.now ≡ onto (fresh_pages (bare h)) index.old.pages.now }
+    ensures settings_after { index.new.settings.now ≡ onto (fresh_settings (with_thresholds (numbers h) thresholds.now)) index.old.settings.now }
+    ensures nodes_after { index.new.nodes.now ≡ onto (fresh_nodes (given_by h)) index.old.nodes.now }
+    ensures pages_after { index.new.pages.now ≡ onto (fresh_pages (given_by h)) index.old.pages.now }
 {
     let settings = &mut *index.settings;
     let nodes = &mut *index.nodes;
@@ -61,20 +58,21 @@ fn lay_out(index: &mut Index<'_>, h: Header, thresholds: &[u16; LEVELS])
     words::zero_run(pages, 0, layout::lengths::pages_length(h));
 }
 
-// Sets up an index with the numbers of the header and these thresholds.
+// Sets up an index with the numbers given and these thresholds.
 pub fn open(
     index: &mut Index<'_>,
     sketches: &[u8],
     working: &[u32],
-    h: Header,
+    given: Numbers,
     thresholds: &[u16],
 ) -> Result<(), Refusal>
     ensures same { SameTables index.old index.new }
-    ensures open_promise { OpenPromise (with_thresholds h thresholds.now) (tables index.old.settings.now index.old.nodes.now index.old.pages.now sketches.now working.now) (answer_number result) index.new.settings.now index.new.nodes.now index.new.pages.now }
+    ensures open_promise { OpenPromise (with_thresholds given thresholds.now) (tables index.old.settings.now index.old.nodes.now index.old.pages.now sketches.now working.now) (answer_number result) index.new.settings.now index.new.nodes.now index.new.pages.now }
 {
-    if !settings::limits(h, thresholds.len()) {
+    if !settings::limits(given, thresholds.len()) {
         return Err(Refusal::BadSettings);
     }
+    let h = Header::new(given);
     if !long_enough(h, index.view(sketches), working) {
         return Err(Refusal::ShortTable);
     }

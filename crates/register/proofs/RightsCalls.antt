@@ -12,7 +12,7 @@ use Rattle.meaning.specs.Refusal.{ask, first_no}
 use Rattle.meaning.specs.Rights.{Change, join, leave, grant, revoke, change_in_range}
 use Rattle.meaning.specs.Ledger.{change}
 use Rattle.meaning.specs.Questions.{asked}
-use Rattle.layout.specs.declared.Header.{Header}
+use Rattle.layout.specs.declared.Numbers.{Numbers}
 use Rattle.layout.specs.Settings.{settings_length}
 use Rattle.layout.specs.Header.{opening_of, tables_first}
 use Rattle.layout.proofs.Openings.{shown-number, refused-number}
@@ -26,7 +26,7 @@ use Rattle.entry.proofs.Questions.{all_yes}
 
 -- ---- 5 and 6, by the answer of `opening`
 module _ (ws : List ℕ) (t : Bool) where
-  pub register-shown : (h : Header) → opening_of ws ≡ Ok h → register_number ws t ≡ cond t 0 7
+  pub register-shown : (h : Numbers) → opening_of ws ≡ Ok h → register_number ws t ≡ cond t 0 7
   unfolding register_number first_no
   register-shown h e = shown-number ws true (ask 7 t ∷ []) h e
 

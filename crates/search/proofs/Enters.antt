@@ -4,7 +4,7 @@ use native.Mathlib.Omega.{arith}
 use mathlib.Core.Path.{◌≡◌}
 use mathlib.Core.List.{List, []}
 use Rattle.words.specs.Bits.{zeroed}
-use Rattle.layout.specs.declared.Header.{Header}
+use Rattle.layout.specs.declared.Numbers.{Numbers}
 use Rattle.layout.specs.Header.{bare}
 use Rattle.layout.specs.Lengths.{working_length}
 use Rattle.layout.specs.Working.{map_words, summary_words}
@@ -14,7 +14,7 @@ use Rattle.entry.proofs.Enters.{Entered}
 use Rattle.marks.specs.Marks.{summary_of, Room, Summarised, list_of}
 use Rattle.marks.proofs.Marked.{cleared-room, cleared-summarised, cleared-list}
 
-module _ (T : Tables) (h : Header) (o : Entered T h) (words : ℕ) (f : words ≡ map_words (bare h)) where
+module _ (T : Tables) (h : Numbers) (o : Entered T h) (words : ℕ) (f : words ≡ map_words (bare h)) where
   pub entered-room : Room T.working words
   unfolding working_length summary_words
   entered-room = rw f (record { most = map-most (bare h) o.limits; long = o.working-long })

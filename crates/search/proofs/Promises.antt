@@ -22,7 +22,7 @@ use Rattle.words.specs.Bits.{zeroed}
 use Rattle.refusals.specs.declared.Refusal.{Refusal}
 use Rattle.refusals.specs.declared.Refusal.TheVariants.{UnknownCommand, MisplacedCommand, MissingOperands, BadSettings, ShortTable, NoOpening, OutOfRange, NoSuchPage, PageState, BadLength, BadSymbol, NoRoom, ShortOutput, Unsound, Blank}
 use Rattle.refusals.specs.Refusals.{number_of, needed_of}
-use Rattle.layout.specs.declared.Header.{Header}
+use Rattle.layout.specs.declared.Numbers.{Numbers}
 use Rattle.layout.specs.Settings.{settings_length, shows_opening}
 use Rattle.layout.specs.Header.{header_of, bare}
 use Rattle.layout.specs.Lengths.{working_length}
@@ -85,11 +85,11 @@ tables-short T = two-short _ _
 pub tables-needed : (T : Tables) (r : Refusal) → entry T ≡ Err (number_of r) → needed_of r ≡ 0
 tables-needed T r e = needed-none r (λ z. omega (arith, (entry-refused T (number_of r) e).0, tables-short T))
 
-query-short : (h : Header) (reader radius : ℕ) (x : List ℕ) → first_no (query_asked h reader radius x) < 13
+query-short : (h : Numbers) (reader radius : ℕ) (x : List ℕ) → first_no (query_asked h reader radius x) < 13
 unfolding query_asked
 query-short h reader radius x = three-short _ _ _
 
-pub query-needed : (h : Header) (reader radius : ℕ) (x : List ℕ) (r : Refusal) → number_of r ≡ first_no (query_asked h reader radius x) → needed_of r ≡ 0
+pub query-needed : (h : Numbers) (reader radius : ℕ) (x : List ℕ) (r : Refusal) → number_of r ≡ first_no (query_asked h reader radius x) → needed_of r ≡ 0
 query-needed h reader radius x r e = needed-none r (λ z. omega (arith, e, query-short h reader radius x))
 
 -- ---- past 11, by the pages met
@@ -177,7 +177,7 @@ module _ (T : Tables) (reader radius : ℕ) (x : List ℕ) (before : Output) whe
       )
 
   -- past 5 and 6 the needed part of the working table is cleared
-  module _ (h : Header) (e : entry T ≡ Ok h) where
+  module _ (h : Numbers) (e : entry T ≡ Ok h) where
     abbrev in_order : Entered T h
     in_order = entry-shown T h e
 

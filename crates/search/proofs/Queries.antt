@@ -11,12 +11,12 @@ use lib.ListN.{length}
 use Rattle.meaning.specs.Refusal.{first_no}
 use Rattle.meaning.specs.Sketch.{in_range}
 use Rattle.meaning.proofs.Lists.{and_first}
-use Rattle.layout.specs.declared.Header.{Header}
+use Rattle.layout.specs.declared.Numbers.{Numbers}
 use Rattle.entry.proofs.Questions.{all_yes}
 use Rattle.layout.specs.Tables.{Fits}
 use Rattle.search.specs.Questions.{query_asked}
 
-module _ (h : Header) (reader radius : ℕ) (x : List ℕ) where
+module _ (h : Numbers) (reader radius : ℕ) (x : List ℕ) where
   pub query-reader : 256 ≤ reader → 7 ≡ first_no (query_asked h reader radius x)
   unfolding query_asked first_no
   query-reader a = rw (le-ltb reader 256 a)

@@ -2,9 +2,9 @@
 use Rattle.std.specs.Prelude.{ℕ, ◌&&◌, List, [], ◌∷◌, ltb, leb, eqb, length}
 use Rattle.meaning.specs.Refusal.{Question, ask}
 use Rattle.meaning.specs.Sketch.{in_range}
-use Rattle.layout.specs.declared.Header.{Header}
+use Rattle.layout.specs.declared.Numbers.{Numbers}
 
-unfoldable pub query_asked : Header → ℕ → ℕ → List ℕ → List Question
+unfoldable pub query_asked : Numbers → ℕ → ℕ → List ℕ → List Question
 query_asked h reader radius x =
     ask 7 (ltb reader 256 && leb radius 64)
     ∷ ask 10 (eqb (length x) h.m)

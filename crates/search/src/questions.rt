@@ -1,8 +1,8 @@
 // The questions of a search behind 5 and 6.
+ghost use Rattle.layout.specs.Headers.{numbers};
 ghost use Rattle.std.specs.Prelude.{◌≡◌};
 ghost use Rattle.meaning.specs.Refusal.{first_no};
 ghost use Rattle.refusals.specs.Refusals.{answer_number};
-ghost use Rattle.layout.specs.Limits.{HeaderLimits};
 ghost use Rattle.search.specs.Questions.{query_asked};
 
 use layout::Header;
@@ -15,8 +15,7 @@ const RADIUS: u32 = 64;
 // 7, 10 and 11: the first that says no.
 #[tactic(auto, unfolding(meaning::specs::Refusal::first_no, crate::specs::Questions::query_asked))]
 pub fn ask_query(h: Header, reader: u32, radius: u32, sketch: &[u8]) -> Result<(), Refusal>
-    requires { HeaderLimits h }
-    ensures { answer_number result ≡ first_no (query_asked h reader radius sketch.now) }
+    ensures { answer_number result ≡ first_no (query_asked (numbers h) reader radius sketch.now) }
 {
     if READERS <= reader {
         return Err(Refusal::OutOfRange);

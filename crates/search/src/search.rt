@@ -1,5 +1,6 @@
 // Search for a reader: the numbers of the pages open to him whose sketches are within a radius of a query, the nearest on top, and
 // their distances.
+ghost use Rattle.layout.specs.Headers.{numbers};
 ghost use Rattle.std.specs.Prelude.{◌≡◌, [], ◌+◌};
 ghost use Rattle.refusals.specs.Refusals.{answer_number, answer_value};
 ghost use Rattle.lent.specs.Lists.{held_with, output_of, SameLists};
@@ -24,7 +25,7 @@ fn find(trial: &Trial<'_>, map: &mut [u32], lists: &mut Lists<'_>) -> Result<u32
     requires words_value { list_of map.old trial.now.words ≡ [] }
     requires summarised { Summarised map.old trial.now.words }
     ensures same { SameLists lists.old lists.new }
-    ensures answered { Answered (meet_blocks trial.now.probe.header trial.now.nodes.now trial.now.pages.now trial.now.query.now trial.now.probe.radius) (tried trial.now) (output_of lists.old) (answer_number result) (answer_value result) (output_of lists.new) }
+    ensures answered { Answered (meet_blocks (numbers trial.now.probe.header) trial.now.nodes.now trial.now.pages.now trial.now.query.now trial.now.probe.radius) (tried trial.now) (output_of lists.old) (answer_number result) (answer_value result) (output_of lists.new) }
     ensures map_after { map.new ≡ zeroed map.old 0 (trial.now.words + summary_of trial.now.words) }
 {
     let mut counts = [0u32; 65];

@@ -16,7 +16,7 @@ use Rattle.meaning.specs.Refusal.{ask, first_no}
 use Rattle.meaning.specs.Ledger.{search, reading}
 use Rattle.meaning.specs.Questions.{asked}
 use Rattle.meaning.specs.Forest.{bytes_of_sketch}
-use Rattle.layout.specs.declared.Header.{Header}
+use Rattle.layout.specs.declared.Numbers.{Numbers}
 use Rattle.layout.specs.declared.nodes.Kind.TheVariants.{Leaf}
 use Rattle.layout.specs.Header.{header_of, bare}
 use Rattle.layout.specs.Lengths.{nodes_length, working_length}
@@ -35,7 +35,7 @@ use Rattle.search_laws.specs.Answer.{passing, Answered, meets}
 use Rattle.search_laws.specs.Numbers.{with_nodes, SearchLeft, Searched}
 
 -- ---- the pages met
-module _ (h : Header) (P x : List ℕ) {N M : List ℕ} (a : Renumbered h.nodes N M) where
+module _ (h : Numbers) (P x : List ℕ) {N M : List ℕ} (a : Renumbered h.nodes N M) where
   module _ (block_radius : ℕ) where
     block_same : (j nodes : ℕ) → meet_block h M P x block_radius j nodes ≡ meet_block h N P x block_radius j nodes
     unfolding meet_block

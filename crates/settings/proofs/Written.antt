@@ -5,11 +5,11 @@ use mathlib.Core.Path.{◌≡◌, ap, ◌∙◌}
 use mathlib.Core.List.{List, [], ◌∷◌}
 use lib.ListN.{length}
 use lib.Seq.{take_all, drop-drop, sets, sets-eq, paste}
-use Rattle.layout.specs.declared.Header.{Header}
+use Rattle.layout.specs.declared.Numbers.{Numbers}
 use Rattle.layout.specs.Settings.{mark, header, with_header}
 use Rattle.layout.specs.Header.{with_thresholds}
 
-module _ (ws : List ℕ) (h : Header) (ts : List ℕ) (long : 70 ≤ length ws) (count : length ts ≡ 64) where
+module _ (ws : List ℕ) (h : Numbers) (ts : List ℕ) (long : 70 ≤ length ws) (count : length ts ≡ 64) where
   abbrev six : List ℕ
   six = mark ∷ h.b ∷ h.m ∷ h.q ∷ h.pages ∷ h.nodes ∷ []
 

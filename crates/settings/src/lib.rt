@@ -5,26 +5,27 @@
 ghost use Rattle.std.specs.Prelude.{◌≡◌, ◌≤◌, ltb, length, get_or, set};
 ghost use Rattle.std.proofs.Math.Seq.{paste};
 ghost use Rattle.meaning.specs.Lists.{all};
+ghost use Rattle.layout.specs.Headers.{numbers, numbers_in};
 ghost use Rattle.layout.specs.Settings.{settings_length, settings_of, shows_opening, with_header, free_at};
-ghost use Rattle.layout.specs.Limits.{limits_of, HeaderLimits};
+ghost use Rattle.layout.specs.Limits.{limits_of};
 ghost use Rattle.layout.specs.Header.{header_of, with_thresholds, opening_of};
 ghost use Rattle.refusals.specs.Refusals.{numbered};
 
-use layout::Header;
 use layout::settings::{FREE, LENGTH, LEVELS, MEMBERS, THRESHOLDS};
+use layout::{Header, Numbers};
 use refusals::Refusal;
 
 const MARK: u32 = 0x56440004;
 
 // Question 4 of an opening that is lent so many thresholds, each of 16 bits.
 #[tactic(auto, unfolding(layout::specs::Limits::limits_of, meaning::specs::SketchCalls::sketch_limits))]
-pub fn limits(h: Header, thresholds: usize) -> bool
-    ensures { result ≡ limits_of h.b h.m h.q h.pages h.nodes thresholds }
+pub fn limits(given: Numbers, thresholds: usize) -> bool
+    ensures { result ≡ limits_of given.b given.m given.q given.pages given.nodes thresholds }
 {
-    ((0 < h.b) & (h.b <= 8) & ((0 < h.m) & (h.m <= 64)))
-        & ((0 < h.q) & (h.q <= 8) & (h.q <= h.m))
-        & ((0 < h.pages) & (h.pages < 65536))
-        & ((h.q <= h.nodes) & (h.nodes <= 262144))
+    ((0 < given.b) & (given.b <= 8) & ((0 < given.m) & (given.m <= 64)))
+        & ((0 < given.q) & (given.q <= 8) & (given.q <= given.m))
+        & ((0 < given.pages) & (given.pages < 65536))
+        & ((given.q <= given.nodes) & (given.nodes <= 262144))
         & (thresholds == LEVELS)
 }
 
@@ -48,16 +49,16 @@ fn shows_opening(settings: &[u32]) -> bool
     requires { settings_length ≤ length settings.now }
     ensures { result ≡ shows_opening settings.now }
 {
-    (settings[0] == MARK) & limits(header(settings), LEVELS) & thresholds_fit(settings)
+    (settings[0] == MARK) & limits(numbers(settings), LEVELS) & thresholds_fit(settings)
 }
 
-// The header of an opening: words 1 to 5.
+// The numbers of an opening: words 1 to 5.
 #[tactic(auto, unfolding(layout::specs::Settings::settings_of))]
-fn header(settings: &[u32]) -> Header
+fn numbers(settings: &[u32]) -> Numbers
     requires { settings_length ≤ length settings.now }
     ensures { result ≡ header_of (settings_of settings.now) }
 {
-    Header::new(
+    Numbers::new(
         settings[1],
         settings[2],
         settings[3],
@@ -69,7 +70,7 @@ fn header(settings: &[u32]) -> Header
 // The opening that the table shows; else 5 where it is too short, and 6 where it shows none.
 #[tactic(auto, unfolding(layout::specs::Header::opening_of))]
 pub fn opening(settings: &[u32]) -> Result<Header, Refusal>
-    ensures { numbered result ≡ opening_of settings.now }
+    ensures { numbers_in (numbered result) ≡ opening_of settings.now }
 {
     if settings.len() < LENGTH {
         return Err(Refusal::ShortTable);
@@ -77,7 +78,7 @@ pub fn opening(settings: &[u32]) -> Result<Header, Refusal>
     if !shows_opening(settings) {
         return Err(Refusal::NoOpening);
     }
-    Ok(header(settings))
+    Ok(Header::new(numbers(settings)))
 }
 
 // The thresholds of all levels: a part of the table itself.
@@ -119,8 +120,7 @@ fn write_thresholds(settings: &mut [u32], thresholds: &[u16; LEVELS])
 #[tactic(auto, unfolding(layout::specs::Settings::with_header))]
 pub fn write_header(settings: &mut [u32], h: Header, thresholds: &[u16; LEVELS])
     requires settings_length_in_bounds { settings_length ≤ length settings.old }
-    requires header_limits { HeaderLimits h }
-    ensures { settings.new ≡ with_header settings.old (with_thresholds h thresholds.now) }
+    ensures { settings.new ≡ with_header settings.old (with_thresholds (numbers h) thresholds.now) }
 {
     settings[0] = MARK;
     settings[1] = h.b as u32;

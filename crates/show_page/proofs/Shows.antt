@@ -13,7 +13,7 @@ use Rattle.meaning.specs.Refusal.{first_no}
 use Rattle.meaning.specs.Ledger.{show, reading}
 use Rattle.meaning.specs.Questions.{asked}
 use Rattle.meaning.proofs.Lists.{and_first, and_second}
-use Rattle.layout.specs.declared.Header.{Header}
+use Rattle.layout.specs.declared.Numbers.{Numbers}
 use Rattle.layout.specs.Settings.{settings_of, shows_opening}
 use Rattle.layout.specs.Header.{opening_of, tables_first, bare}
 use Rattle.layout.specs.Limits.{HeaderLimits}
@@ -30,10 +30,10 @@ use Rattle.show_page.specs.Show.{Place, no_row, place_of}
 use Rattle.entry.proofs.Questions.{all_yes}
 
 -- 6, of the page table and the sketch table
-abbrev pub long_for6 : Header → List ℕ → List ℕ → Bool
+abbrev pub long_for6 : Numbers → List ℕ → List ℕ → Bool
 long_for6 h pages sketches = leb (pages_length (bare h)) (length pages) && leb (sketches_length (bare h)) (length sketches)
 
-module _ (h : Header) (p : ℕ) (page : p < h.pages) where
+module _ (h : Numbers) (p : ℕ) (page : p < h.pages) where
   pub word-inside : (pages sketches : List ℕ) → long_for6 h pages sketches ≡ true → p < length pages
   word-inside pages sketches long =
       let pages-long = leb-true (pages_length (bare h)) (length pages) (and_first _ (leb (sketches_length (bare h)) (length sketches)) long) in
@@ -70,9 +70,9 @@ module _ (ws pages sketches : List ℕ) (r p : ℕ) where
   row-refused n e =
       refused-place T r p n (asked-first ∙ refused-number ws _ _ n e) (λ z. omega (arith, refused-range ws n e))
 
-  module _ (h : Header) (e : opening_of ws ≡ Ok h) where
+  module _ (h : Numbers) (e : opening_of ws ≡ Ok h) where
     -- the number from 6 on
-    from6 : Header → ℕ
+    from6 : Numbers → ℕ
     from6 g =
         cond (long_for6 g pages sketches)
         (cond (ltb r 256)

@@ -5,7 +5,7 @@ use native.Mathlib.Omega.{arith}
 use native.Mathlib.Numerals.{add-one}
 use mathlib.Core.Path.{◌≡◌, refl, sym, ap, ◌∙◌}
 use mathlib.Core.List.{List, map}
-use Rattle.layout.specs.declared.Header.{Header}
+use Rattle.layout.specs.declared.Numbers.{Numbers}
 use Rattle.layout.specs.Pages.{next_at}
 use Rattle.walk.specs.Leaves.{Leaves, leaves, broken}
 use Rattle.walk.specs.Walk.{walk_from}
@@ -21,7 +21,7 @@ left-same : (m : Meets) (n : ℕ) (ps : List ℕ) (k : ℕ) → with_left n m �
 left-same (met qs i) n ps k e = cc
 left-same unmet n ps k e = let z : ◌≡◌ {A = ℕ} 0 1 = cc in absurd (omega arith)
 
-module _ (h : Header) (N P x : List ℕ) (r : ℕ) where
+module _ (h : Numbers) (N P x : List ℕ) (r : ℕ) where
   pub blocks-all : (radius nodes : ℕ) → r ≡ radius / h.q → nodes ≡ h.nodes - h.q → meet_from h N P x r h.q 0 nodes ≡ meet_blocks h N P x radius
   unfolding meet_blocks
   blocks-all radius nodes e n = rw (e, n)

@@ -6,7 +6,7 @@ use mathlib.Core.Path.{◌≡◌, refl, sym, ap, ◌∙◌}
 use mathlib.Core.List.{List, [], append-nil}
 use lib.ListN.{length, take}
 use Rattle.meaning.specs.Forest.{bytes_of_sketch}
-use Rattle.layout.specs.declared.Header.{Header}
+use Rattle.layout.specs.declared.Numbers.{Numbers}
 use Rattle.layout.specs.Header.{bare}
 use Rattle.layout.specs.Pages.{next_at}
 use Rattle.hits.specs.Hit.{Test}
@@ -50,7 +50,7 @@ pub next-less : {w : Given} {stack : List Frame} {all : Leaves} (old : Rest) (p 
     → steps_of new.rest < steps_of old
 next-less {w} {stack} old p {new} e g = rw e (steps-less w stack p.steps new.rest g.ready)
 
-module _ (asked : Test) (words : ℕ) (h : Header) (P : List ℕ) (j : ℕ) (w : Given) where
+module _ (asked : Test) (words : ℕ) (h : Numbers) (P : List ℕ) (j : ℕ) (w : Given) where
   -- of the pages m some are met; a batch of leaves is given, and so many pages may be met in all that come
   pub record Walking (m : Meets) (map₀ map counts : List ℕ) (stack : List Frame) (tally : Tally) (batch : Batch) : Type 0 where
     pub coming : Leaves
@@ -107,7 +107,7 @@ module _ (asked : Test) (words : ℕ) (h : Header) (P : List ℕ) (j : ℕ) (w :
           (going-met asked words at.going call t e unmet (λ ps q. ap (pages_from h P j tally.left) (gives-broken at.gives f))) refl
 
 -- the walk of block j with its bytes, from its first batch on
-pub walked : (asked : Test) (words : ℕ) (h : Header) (N P x : List ℕ) (r j nodes : ℕ) {bytes : List ℕ} → bytes ≡ bytes_of_sketch (bare h) j x
+pub walked : (asked : Test) (words : ℕ) (h : Numbers) (N P x : List ℕ) (r j nodes : ℕ) {bytes : List ℕ} → bytes ≡ bytes_of_sketch (bare h) j x
     → {stack : List Frame} {steps : ℕ} {batch : Batch} → Gives (given N h.nodes h.b bytes) stack (walk_from (given N h.nodes h.b bytes) j r nodes) steps batch
     → {map₀ map counts : List ℕ} {a : Option Tally}
     → Meeting asked words (pages_from h P j h.pages (coming_from (given N h.nodes h.b bytes) stack batch)) map₀ map counts a

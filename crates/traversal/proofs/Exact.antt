@@ -10,7 +10,7 @@ use lib.ListN.{length, take, length-map}
 use borrow.Author.Tests.{ltb-true, ltb-false}
 use Rattle.meaning.specs.Lists.{from}
 use Rattle.meaning.proofs.Lists.{length_from}
-use Rattle.layout.specs.declared.Header.{Header}
+use Rattle.layout.specs.declared.Numbers.{Numbers}
 use Rattle.layout.specs.Pages.{next_at}
 use Rattle.hits.specs.Hit.{Test}
 use Rattle.descent.specs.Cursor.{left_of}
@@ -57,7 +57,7 @@ left-then : (n : ℕ) (m e : Meets) → and_then m (λ k. with_left n e) ≡ wit
 left-then n (met ps k) e = sym (left_after n ps e)
 left-then n broken e = refl
 
-module _ (h : Header) (N P x : List ℕ) where
+module _ (h : Numbers) (N P x : List ℕ) where
   -- the chain of the leaf of block j
   abbrev leaf_chain : ℕ → Chain
   leaf_chain j = chain (next_at h.pages j) (leaf_in h N x j)

@@ -2,7 +2,7 @@
 use Prim.Native.Nat.{ℕ}
 use mathlib.Core.Path.{◌≡◌, refl, ap, ◌∙◌}
 use mathlib.Core.List.{List, ◌++◌, map, map-append}
-use Rattle.layout.specs.declared.Header.{Header}
+use Rattle.layout.specs.declared.Numbers.{Numbers}
 use Rattle.layout.specs.Pages.{next_at}
 use Rattle.walk.specs.Leaves.{Leaves, leaves, broken, before}
 use Rattle.meeting.specs.declared.Chain.{Chain}
@@ -11,7 +11,7 @@ use Rattle.meeting.proofs.Links.{chains-append}
 use Rattle.meeting.proofs.Bounded.{left_after}
 use Rattle.traversal.specs.Meets.{pages_of}
 
-module _ (h : Header) (P : List ℕ) (j : ℕ) where
+module _ (h : Numbers) (P : List ℕ) (j : ℕ) where
   -- the chains of leaves of block j
   abbrev pub chains_in : List ℕ → List Chain
   chains_in links = map (chain (next_at h.pages j)) links

@@ -2,7 +2,7 @@
 -- table, P the page table, x the query.
 use Rattle.std.specs.Prelude.{ℕ, zero, suc, ◌-◌, ◌/◌, List, [], map}
 use Rattle.meaning.specs.Forest.{bytes_of_sketch}
-use Rattle.layout.specs.declared.Header.{Header}
+use Rattle.layout.specs.declared.Numbers.{Numbers}
 use Rattle.layout.specs.Header.{bare}
 use Rattle.layout.specs.Pages.{next_at}
 use Rattle.walk_steps.specs.Given.{Given, given}
@@ -10,7 +10,7 @@ use Rattle.walk.specs.Leaves.{Leaves, leaves, broken}
 use Rattle.walk.specs.Walk.{walk_from}
 use Rattle.meeting.specs.Meets.{Meets, met, broken as unmet, and_then, with_left, chains_of, chain}
 
-module _ (h : Header) (N P x : List ℕ) where
+module _ (h : Numbers) (N P x : List ℕ) where
   -- what the walk of block j goes by
   abbrev pub walk_of : ℕ → Given
   walk_of j = given N h.nodes h.b (bytes_of_sketch (bare h) j x)

@@ -1,4 +1,5 @@
 // All walks of a search draw on one budget of nodes; each block may meet as many pages as the capacity.
+ghost use Rattle.layout.specs.Headers.{numbers};
 ghost use Rattle.std.specs.Prelude.{◌<◌};
 ghost use Rattle.marks.specs.Marks.{Room};
 ghost use Rattle.hits.specs.Trials.{tried};
@@ -30,7 +31,7 @@ fn meet_block(
     requires room { Room map.old trial.now.words }
     requires block_lt_q { (start.block < trial.now.probe.header.q) × (0 < start.radius) × (start.tally.left < trial.now.probe.header.nodes) }
     requires tallied { Tallied (tried trial.now) trial.now.words map.old counts.old start.tally.count }
-    ensures { Meeting (tried trial.now) trial.now.words (meet_block trial.now.probe.header trial.now.nodes.now trial.now.pages.now trial.now.query.now start.radius start.block start.tally.left) map.old map.new counts.new result }
+    ensures { Meeting (tried trial.now) trial.now.words (meet_block (numbers trial.now.probe.header) trial.now.nodes.now trial.now.pages.now trial.now.query.now start.radius start.block start.tally.left) map.old map.new counts.new result }
 {
     let h = trial.probe.header;
     let j = start.block;
@@ -80,7 +81,7 @@ fn meet_exact(
     requires room { Room map.old trial.now.words }
     requires left_lt_nodes { start.left < trial.now.probe.header.nodes }
     requires tallied { Tallied (tried trial.now) trial.now.words map.old counts.old start.count }
-    ensures { Meeting (tried trial.now) trial.now.words (meet_from trial.now.probe.header trial.now.nodes.now trial.now.pages.now trial.now.query.now 0 trial.now.probe.header.q 0 start.left) map.old map.new counts.new result }
+    ensures { Meeting (tried trial.now) trial.now.words (meet_from (numbers trial.now.probe.header) trial.now.nodes.now trial.now.pages.now trial.now.query.now 0 trial.now.probe.header.q 0 start.left) map.old map.new counts.new result }
 {
     let h = trial.probe.header;
     let ends = block_leaves::leaves(trial.nodes, h, trial.query, start.left);
@@ -109,7 +110,7 @@ fn meet_each(
     requires room { Room map.old trial.now.words }
     requires radius_nonzero { (0 < radius) × (first.left < trial.now.probe.header.nodes) }
     requires tallied { Tallied (tried trial.now) trial.now.words map.old counts.old first.count }
-    ensures { Meeting (tried trial.now) trial.now.words (meet_from trial.now.probe.header trial.now.nodes.now trial.now.pages.now trial.now.query.now radius trial.now.probe.header.q 0 first.left) map.old map.new counts.new result }
+    ensures { Meeting (tried trial.now) trial.now.words (meet_from (numbers trial.now.probe.header) trial.now.nodes.now trial.now.pages.now trial.now.query.now radius trial.now.probe.header.q 0 first.left) map.old map.new counts.new result }
 {
     let mut tally = first;
     for j in 0..trial.probe.header.q {
@@ -128,7 +129,7 @@ fn meet_each(
 pub fn meet_blocks(trial: &Trial<'_>, map: &mut [u32], counts: &mut [u32; 65]) -> Option<Tally>
     requires room { Room map.old trial.now.words }
     requires tallied { Tallied (tried trial.now) trial.now.words map.old counts.old 0 }
-    ensures { Meeting (tried trial.now) trial.now.words (meet_blocks trial.now.probe.header trial.now.nodes.now trial.now.pages.now trial.now.query.now trial.now.probe.radius) map.old map.new counts.new result }
+    ensures { Meeting (tried trial.now) trial.now.words (meet_blocks (numbers trial.now.probe.header) trial.now.nodes.now trial.now.pages.now trial.now.query.now trial.now.probe.radius) map.old map.new counts.new result }
 {
     let h = trial.probe.header;
     let q = h.q;

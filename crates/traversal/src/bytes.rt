@@ -1,6 +1,6 @@
 // The packed bytes of one block of the query.
 ghost use Rattle.std.specs.Prelude.{◌<◌};
-ghost use Rattle.layout.specs.Limits.{HeaderLimits};
+ghost use Rattle.layout.specs.Headers.{numbers};
 ghost use Rattle.layout.specs.Tables.{Fits};
 ghost use Rattle.traversal.specs.Bytes.{BlockBytes};
 
@@ -15,10 +15,9 @@ pub struct Packed {
 
 // Packs block j of the query.
 pub fn pack(h: Header, query: &[u8], j: usize) -> Packed
-    requires header_limits { HeaderLimits h }
-    requires fits { Fits h query.now }
+    requires fits { Fits (numbers h) query.now }
     requires j_lt_q { j < h.q }
-    ensures { BlockBytes h query.now j result }
+    ensures { BlockBytes (numbers h) query.now j result }
 {
     let bytes = blocks::packed::block_bytes(h, query, j);
     let n = sketch::limits::packed_length(h.b as u32, sketch::blocks::block_length(h.m, h.q, j));

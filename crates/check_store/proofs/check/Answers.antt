@@ -1,11 +1,12 @@
 -- `check` keeps its promise.
+use Rattle.layout.specs.Headers.{numbers}
 use Rattle.std.specs.Prelude.{Ok, Err}
 use Prim.Native.Nat.{ℕ, ◌≤◌}
 use native.Mathlib.Omega.{arith}
 use mathlib.Core.Path.{◌≡◌, refl, sym, ◌∙◌}
 use lib.ListN.{length, take, drop, length-append, length-drop}
 use lib.Seq.{length-take-le}
-use Rattle.layout.specs.declared.Header.{Header}
+use Rattle.layout.specs.declared.Numbers.{Numbers}
 use Rattle.layout.specs.Header.{bare}
 use Rattle.layout.specs.Working.{map_words}
 use Rattle.promises.specs.Tables.{Tables}
@@ -19,8 +20,8 @@ use Rattle.check_store.proofs.check.Goals.{After-map_words-words, After-test_sto
 abbrev lent : In_ok-h → Tables
 lent k = held_with k.args.view k.args.working.now
 
-abbrev header : In_ok-h → Header
-header k = k.in_ok-h.h
+abbrev header : In_ok-h → Numbers
+header k = (numbers k.in_ok-h.h)
 
 shows : (k : In_ok-h) → entry (lent k) ≡ Ok (header k)
 shows k = sym k.in_ok-h.ensures
@@ -29,18 +30,18 @@ known : (k : In_ok-h) → Admitted (lent k) (header k)
 known k = admitted (lent k) (header k) (shows k)
 
 -- the map lies in the working table
-fits : (T : Tables) (h : Header) → entry T ≡ Ok h → (words : ℕ) → words ≡ map_words (bare h) → words ≤ length T.working
+fits : (T : Tables) (h : Numbers) → entry T ≡ Ok h → (words : ℕ) → words ≡ map_words (bare h) → words ≤ length T.working
 fits T h e words w = let k = admitted T h e in omega (arith, w, words-fit T h k, working-long T h k)
 
 inside : (c : After-map_words-words) → c.map_words-words.result ≤ length c.args.working.now
-inside c = fits (held_with c.args.view c.args.working.now) c.in_ok-h.h (sym c.in_ok-h.ensures) _ c.map_words-words.ensures
+inside c = fits (held_with c.args.view c.args.working.now) (numbers c.in_ok-h.h) (sym c.in_ok-h.ensures) _ c.map_words-words.ensures
 
 map-long : (c : After-map_words-words) → length (take c.map_words-words.result c.args.working.now) ≡ c.map_words-words.result
 map-long c = length-take-le _ _ (inside c)
 
 map-kept : (c : After-test_store-sound) → length c.test_store-sound.new.map ≡ c.map_words-words.result
 map-kept c =
-    let in-working = fits (held_with c.args.view c.args.working.now) c.in_ok-h.h (sym c.in_ok-h.ensures) _ c.map_words-words.ensures in
+    let in-working = fits (held_with c.args.view c.args.working.now) (numbers c.in_ok-h.h) (sym c.in_ok-h.ensures) _ c.map_words-words.ensures in
     c.test_store-sound.auto.map ∙ length-take-le _ _ in-working
 
 pub returns-in_err-h : goal.returns-in_err-h
@@ -51,9 +52,6 @@ returns-in_err-h c =
 pub free_link-free-requires : goal.free_link-free-requires
 free_link-free-requires c = (known (goal.at.free_link-free-requires c).In_ok-h).settings
 
-pub map_words-words-requires : goal.map_words-words-requires
-map_words-words-requires c = header-limits _ _ (known (goal.at.map_words-words-requires c).In_ok-h)
-
 pub slice_bounds-test_store-end : goal.slice_bounds-test_store-end
 slice_bounds-test_store-end c = inside c
 
@@ -62,9 +60,6 @@ slice_bounds-test_store-end-2 c = sym (map-long (goal.at.slice_bounds-test_store
 
 pub all_current-current-requires : goal.all_current-current-requires
 all_current-current-requires c = (known (goal.at.all_current-current-requires c).In_ok-h).settings
-
-pub working_length-needed-requires : goal.working_length-needed-requires
-working_length-needed-requires c = header-limits _ _ (known (goal.at.working_length-needed-requires c).In_ok-h)
 
 pub zero_run-requires : goal.zero_run-requires
 zero_run-requires c =

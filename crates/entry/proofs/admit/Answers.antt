@@ -13,9 +13,6 @@ returns-in_err-h c =
     let up : c.from_residual.result ≡ Err c.in_err-h.field-0.0 = grind arith in
     rw up (store-refused _ _ _ _ _ (sym c.in_err-h.ensures))
 
-pub long_store-requires : goal.long_store-requires
-long_store-requires c = (shown _ _ (sym c.in_ok-h.ensures)).limits
-
 pub returns-then-not-long_store : goal.returns-then-not-long_store
 returns-then-not-long_store c =
     store-short _ _ _ _ _ (sym c.in_ok-h.ensures) (fails c.long_store.ensures (ap not c.if-not-long_store.true))

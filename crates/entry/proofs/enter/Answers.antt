@@ -13,9 +13,6 @@ returns-in_err-h c =
     let up : c.from_residual.result ≡ Err c.in_err-h.field-0.0 = grind arith in
     rw up (enter-refused _ _ _ _ _ _ (sym c.in_err-h.ensures))
 
-pub long_working-requires : goal.long_working-requires
-long_working-requires c = shown-limits _ _ (sym c.in_ok-h.ensures)
-
 pub returns-then-not-long_working : goal.returns-then-not-long_working
 returns-then-not-long_working c =
     enter-short _ _ _ _ _ _ (sym c.in_ok-h.ensures) (fails c.long_working.ensures (ap not c.if-not-long_working.true))

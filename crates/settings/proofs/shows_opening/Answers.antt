@@ -5,5 +5,5 @@ use Rattle.settings.proofs.shows_opening.Goals as goal
 
 pub returns : goal.returns
 returns c =
-    rw (c.limits.ensures, c.thresholds_fit.ensures, c.header.ensures)
+    rw (c.limits.ensures, c.thresholds_fit.ensures, c.numbers.ensures)
     (shows-tests c.args.settings.now (omega arith))

@@ -1,4 +1,5 @@
 -- `add` keeps its promise.
+use Rattle.layout.specs.Headers.{numbers}
 use Rattle.std.specs.Prelude.{Ok, Err}
 use native.Mathlib.Omega.{arith}
 use mathlib.Core.Path.{◌≡◌, refl, sym, ap, ◌∙◌}
@@ -11,7 +12,7 @@ use Rattle.add_laws.proofs.Adds.{add-promise}
 use Rattle.add_page.proofs.add.add.Goals as goal
 use Rattle.add_page.proofs.add.add.Goals.{In_ok-h, In_err-h}
 
-shows : (k : In_ok-h) → let a = k.args in Ok k.in_ok-h.h ≡ admission (lists a.index.now a.sketches.now) (add a.page a.class a.sketch.now)
+shows : (k : In_ok-h) → let a = k.args in Ok (numbers k.in_ok-h.h) ≡ admission (lists a.index.now a.sketches.now) (add a.page a.class a.sketch.now)
 shows k = let a = k.args in k.in_ok-h.ensures ∙ ap (λ T. admission T (add a.page a.class a.sketch.now)) k.view.ensures
 
 refused : (k : In_err-h) → let a = k.args in Err (number_of k.in_err-h.field-0.0) ≡ admission (lists a.index.now a.sketches.now) (add a.page a.class a.sketch.now)

@@ -1,6 +1,7 @@
 -- The function `place_page` is the definition `place_page`.
 use native.Mathlib.Omega.{arith}
 use mathlib.Core.Path.{◌≡◌, ap, ◌∙◌, subst}
+use Rattle.layout.specs.Headers.{numbers}
 use Rattle.std.specs.Prelude.{Err}
 use Rattle.trie.specs.declared.Stop.TheVariants.{Full, Broken}
 use Rattle.meaning.specs.Ledger.{add}
@@ -18,10 +19,10 @@ use Rattle.add_page.proofs.add.place_page.Goals.{After-view-view}
 abbrev seen : After-view-view → Tables
 seen s = held s.view-view.result
 
-passed : (s : After-view-view) → Passed (seen s) s.args.h s.args.p s.args.sketch.now
+passed : (s : After-view-view) → Passed (seen s) (numbers s.args.h) s.args.p s.args.sketch.now
 passed s =
     let call = add s.args.p s.args.class s.args.sketch.now in
-    (told-shown (seen s) s.args.p s.args.class s.args.sketch.now s.args.h (ap (λ T. admission T call) s.view-view.ensures ∙ s.requires)).1
+    (told-shown (seen s) s.args.p s.args.class s.args.sketch.now (numbers s.args.h) (ap (λ T. admission T call) s.view-view.ensures ∙ s.requires)).1
 
 pub free_link-free-requires : goal.free_link-free-requires
 free_link-free-requires c = (passed (goal.at.free_link-free-requires c).After-view-view).long

@@ -2,6 +2,7 @@
 use native.Mathlib.Omega.{arith}
 use mathlib.Core.List.{[]}
 use mathlib.Core.Path.{◌≡◌}
+use Rattle.layout.specs.Headers.{numbers}
 use Rattle.std.specs.Prelude.{Err, Some, None}
 use Rattle.refusals.specs.declared.Refusal.TheVariants.{Unsound}
 use Rattle.lent.specs.Lists.{lists}
@@ -16,11 +17,11 @@ use Rattle.add_page.proofs.add.put_page.Goals.{Start}
 abbrev lent : Start → Tables
 lent s = lists s.args.index.now s.args.sketches.now
 
-passed : (s : Start) → Passed (lent s) s.args.h s.args.p s.args.sketch.now
-passed s = (told-shown (lent s) s.args.p s.args.class s.args.sketch.now s.args.h s.requires).1
+passed : (s : Start) → Passed (lent s) (numbers s.args.h) s.args.p s.args.sketch.now
+passed s = (told-shown (lent s) s.args.p s.args.class s.args.sketch.now (numbers s.args.h) s.requires).1
 
 asked : (s : Start) → Accepted (lent s) [] s.args.p s.args.class s.args.sketch.now
-asked s = accepted (lent s) _ _ _ [] (told-shown (lent s) s.args.p s.args.class s.args.sketch.now s.args.h s.requires).0
+asked s = accepted (lent s) _ _ _ [] (told-shown (lent s) s.args.p s.args.class s.args.sketch.now (numbers s.args.h) s.requires).0
 
 pub free_link-free-requires : goal.free_link-free-requires
 free_link-free-requires c = (passed (goal.at.free_link-free-requires c).Start).long

@@ -2,6 +2,7 @@
 use native.Mathlib.Omega.{arith}
 use mathlib.Core.Path.{ap, ◌∙◌}
 use lib.ListN.{length-set}
+use Rattle.layout.specs.Headers.{numbers}
 use Rattle.blocks.specs.Tables.{RowTable}
 use Rattle.blocks.specs.Packed.{page_byte, level_at}
 use Rattle.blocks.proofs.Bytes.{level-path}
@@ -12,7 +13,7 @@ use Rattle.blocks.proofs.packed.row_bytes.Goals.{After-rows_of-rows}
 
 rows : (c : After-rows_of-rows) → RowTable c.args.h.pages c.rows_of-rows.result c.args.sketches.now
 rows c =
-    rows_in c.args.h c.requires.header_limits c.args.sketches.now c.requires.h_in_bounds c.args.j c.requires.j_lt_q c.rows_of-rows.result
+    rows_in (numbers c.args.h) c.args.h.limits c.args.sketches.now c.requires.h_in_bounds c.args.j c.requires.j_lt_q c.rows_of-rows.result
     c.rows_of-rows.ensures
 
 pub bounds-bytes-k : goal.bounds-bytes-k
@@ -40,5 +41,5 @@ pub page_byte-requires-clause-sketch_table : goal.page_byte-requires-clause-sket
 page_byte-requires-clause-sketch_table c = let t = c in rw t.block_of-block.ensures (level-path _ _ _ _ _ c.level_at.ensures (rows (goal.at.page_byte-requires-clause-sketch_table t).After-rows_of-rows))
 
 pub returns-clause-bytes_after : goal.returns-clause-bytes_after
-returns-clause-bytes_after c = let t = c in let e = t in row_written e.args.h e.requires.header_limits e.args.sketches.now e.requires.h_in_bounds e.args.j e.requires.j_lt_q t.rows_of-rows.result t.rows_of-rows.ensures
+returns-clause-bytes_after c = let t = c in let e = t in row_written (numbers e.args.h) e.args.h.limits e.args.sketches.now e.requires.h_in_bounds e.args.j e.requires.j_lt_q t.rows_of-rows.result t.rows_of-rows.ensures
     e.args.p e.requires.p_lt_pages c.loop-k.bytes c.loop-k.invariant.0 c.loop-k.k c.loop-k-test.false c.loop-k.invariant.1

@@ -1,5 +1,6 @@
 -- The function `test_pages` is the definition `test_pages`.
 use native.Mathlib.Omega.{arith}
+use Rattle.layout.specs.Headers.{given_by}
 use Rattle.layout.specs.Header.{bare}
 use Rattle.layout.proofs.Words.{page-inside}
 use Rattle.leaf_bytes.proofs.Count.{flag-most}
@@ -12,7 +13,7 @@ returns-then-not-page_fits c = search count-fails
 pub is_live-requires : goal.is_live-requires
 is_live-requires c =
     let entry = c in
-    omega (arith, page-inside (bare entry.args.h) c.loop-p-test.true)
+    omega (arith, page-inside (given_by entry.args.h) c.loop-p-test.true)
 
 pub loop-p-preserved : goal.loop-p-preserved
 loop-p-preserved c = (search count-more, omega (arith, flag-most c.is_live.result))

@@ -1,4 +1,5 @@
 -- `drop_page` keeps its promise, on each way out.
+use Rattle.layout.specs.Headers.{numbers}
 use Rattle.std.specs.Prelude.{Ok, Err, Some, None}
 use native.Mathlib.Omega.{arith}
 use mathlib.Core.Path.{◌≡◌, ap, ◌∙◌}
@@ -11,7 +12,7 @@ use Rattle.drop_page.proofs.Exits.{refuses, settings-long, lent, page-in, word_i
 use Rattle.drop_page.proofs.drop.drop_page.Goals as goal
 use Rattle.drop_page.proofs.drop.drop_page.Goals.{In_ok-h, In_err-h}
 
-shows : (k : In_ok-h) → Ok k.in_ok-h.h ≡ admission (lists k.args.index.now k.args.sketches.now) (drop k.args.page)
+shows : (k : In_ok-h) → Ok (numbers k.in_ok-h.h) ≡ admission (lists k.args.index.now k.args.sketches.now) (drop k.args.page)
 shows k = k.in_ok-h.ensures ∙ ap (λ T. admission T (drop k.args.page)) k.view.ensures
 
 refused : (k : In_err-h) → Err (number_of k.in_err-h.field-0.0) ≡ admission (lists k.args.index.now k.args.sketches.now) (drop k.args.page)

@@ -1,6 +1,7 @@
 use mathlib.Core.Path.{◌≡◌}
 use mathlib.Core.List.{map}
 use lib.Seq.{sets}
+use Rattle.layout.specs.Headers.{given_by}
 use Rattle.meaning.specs.Lists.{upto}
 use Rattle.layout.specs.Header.{bare}
 use Rattle.promises.specs.Answers.{fresh_state}
@@ -8,4 +9,4 @@ use Rattle.fresh_tables.proofs.Runs.{rest}
 use Rattle.fresh_tables.proofs.fresh.write_states.Given as goal
 
 abbrev pub invariant-loop-x : goal.invariant-loop-x
-invariant-loop-x l = rest (fresh_state (bare l.h)) l.h.nodes l.h.nodes l.nodes l.x ≡ sets l.initial.nodes l.h.nodes (map (fresh_state (bare l.h)) (upto l.h.nodes))
+invariant-loop-x l = rest (fresh_state (given_by l.h)) l.h.nodes l.h.nodes l.nodes l.x ≡ sets l.initial.nodes l.h.nodes (map (fresh_state (given_by l.h)) (upto l.h.nodes))

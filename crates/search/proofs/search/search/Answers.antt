@@ -1,4 +1,5 @@
 -- `search` keeps its promise.
+use Rattle.layout.specs.Headers.{numbers}
 use Rattle.std.specs.Prelude.{Err}
 use Prim.Native.Nat.{◌<◌}
 use mathlib.Core.Path.{◌≡◌, refl, sym}
@@ -17,20 +18,14 @@ use Rattle.search.proofs.search.search.Goals.{In_ok-h, In_ok-ask_query}
 abbrev lent : In_ok-h → Tables
 lent k = held_with k.args.view k.args.working.now
 
-opened : (k : In_ok-h) → Entered (lent k) k.in_ok-h.h
-opened k = entry-shown (lent k) k.in_ok-h.h (sym k.in_ok-h.ensures)
+opened : (k : In_ok-h) → Entered (lent k) (numbers k.in_ok-h.h)
+opened k = entry-shown (lent k) (numbers k.in_ok-h.h) (sym k.in_ok-h.ensures)
 
-passed : (e : In_ok-ask_query) → (e.args.reader < 256) × Fits e.in_ok-h.h e.args.sketch.now
+passed : (e : In_ok-ask_query) → (e.args.reader < 256) × Fits (numbers e.in_ok-h.h) e.args.sketch.now
 passed e = query-passed _ _ _ _ (sym e.in_ok-ask_query.ensures)
-
-pub map_words-words-requires : goal.map_words-words-requires
-map_words-words-requires c = (opened c).limits
 
 pub clear_marks-requires : goal.clear_marks-requires
 clear_marks-requires c = entered-room _ _ (opened (goal.at.clear_marks-requires c).In_ok-h) _ c.map_words-words.ensures
-
-pub ask_query-requires : goal.ask_query-requires
-ask_query-requires c = (opened (goal.at.ask_query-requires c).In_ok-h).limits
 
 pub entry-classes-requires : goal.entry-classes-requires
 entry-classes-requires c = ((opened (goal.at.entry-classes-requires c).In_ok-h).settings-long, omega (arith, (passed (goal.at.entry-classes-requires c).In_ok-ask_query).0))
@@ -56,9 +51,6 @@ returns-in_err-ask_query-clause-model c =
     let up : c.from_residual-in_err-ask_query.result ≡ Err c.in_err-ask_query.field-0.0 = grind arith in
     rw (up, query-needed _ _ _ _ _ c.in_err-ask_query.ensures)
     (promise-query _ _ _ _ _ _ (sym c.in_ok-h.ensures) _ c.map_words-words.ensures _ c.clear_marks.ensures _ c.in_err-ask_query.ensures (not_zero _)).1
-
-pub probe_of-probe-requires-clause-header_limits : goal.probe_of-probe-requires-clause-header_limits
-probe_of-probe-requires-clause-header_limits c = (opened (goal.at.probe_of-probe-requires-clause-header_limits c).In_ok-h).limits
 
 pub probe_of-probe-requires-clause-fits : goal.probe_of-probe-requires-clause-fits
 probe_of-probe-requires-clause-fits c = (passed (goal.at.probe_of-probe-requires-clause-fits c).In_ok-ask_query).1

@@ -4,6 +4,7 @@ use native.Mathlib.Omega.{arith}
 use mathlib.Core.Path.{◌≡◌, sym, ◌∙◌}
 use mathlib.Core.Bool.{true}
 use lib.ListN.{length}
+use Rattle.layout.specs.Headers.{numbers}
 use Rattle.std.specs.Prelude.{Err}
 use Rattle.layout.proofs.Openings.{shown}
 use Rattle.show_page.proofs.Shows.{long_for6, row-refused, row-6, row-7, row-8, word-inside, start_fits, row-missing, row-closed, row-shown}
@@ -11,7 +12,7 @@ use Rattle.show_page.proofs.show.find_row.Goals as goal
 use Rattle.show_page.proofs.show.find_row.Goals.{Else-cap-p, Else-not-long_pages}
 
 -- 6 of the other two
-long : (c : Else-not-long_pages) → long_for6 c.in_ok-h.h c.args.pages.now c.args.sketches.now ≡ true
+long : (c : Else-not-long_pages) → long_for6 (numbers c.in_ok-h.h) c.args.pages.now c.args.sketches.now ≡ true
 long c = sym c.long_pages.ensures ∙ c.if-not-long_pages.false
 
 -- the page word stands in the table
@@ -22,9 +23,6 @@ pub returns-in_err-h : goal.returns-in_err-h
 returns-in_err-h c =
     let up : c.from_residual.result ≡ Err c.in_err-h.field-0.0 = grind arith in
     rw up (row-refused _ _ _ _ _ _ (sym c.in_err-h.ensures))
-
-pub long_pages-requires : goal.long_pages-requires
-long_pages-requires c = (shown _ _ (sym c.in_ok-h.ensures)).limits
 
 pub returns-then-not-long_pages : goal.returns-then-not-long_pages
 returns-then-not-long_pages c = row-6 _ _ _ _ _ _ (sym c.in_ok-h.ensures) (sym c.long_pages.ensures ∙ c.if-not-long_pages.true)

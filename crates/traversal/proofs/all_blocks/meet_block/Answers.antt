@@ -3,6 +3,7 @@ use mathlib.Core.Path.{◌≡◌, refl}
 use native.Mathlib.Omega.{arith}
 use borrow.Author.Rules.{rules}
 use lib.ListN.{length}
+use Rattle.layout.specs.Headers.{numbers}
 use Rattle.std.specs.Prelude.{Some, None}
 use Rattle.layout.specs.Pages.{next_at}
 use Rattle.meeting.specs.Chains.{base_of, Linked}
@@ -25,7 +26,7 @@ next-long c = search rules
 pub invariant_of-walk : goal.invariant_of-walk
 invariant_of-walk c =
     let trial = c.args.trial.now in
-    record { fitting = fitting trial.probe.header trial.fitting.limits _ _ trial.nodes_long trial.fitting.query _ c.requires.block_lt_q.0 _ c.pack-packed.ensures.same }
+    record { fitting = fitting (numbers trial.probe.header) trial.fitting.limits _ _ trial.nodes_long trial.fitting.query _ c.requires.block_lt_q.0 _ c.pack-packed.ensures.same }
 
 pub loop-tally-init : goal.loop-tally-init
 loop-tally-init c = walking_start _ _ _ _ _ _ _ _ _ _ (c.begin-batch.ensures _ refl) (begin-long (goal.at.loop-tally-init c).After-begin-batch) c.requires.tallied
@@ -33,7 +34,7 @@ loop-tally-init c = walking_start _ _ _ _ _ _ _ _ _ _ (c.begin-batch.ensures _ r
 pub meet-requires-clause-inside : goal.meet-requires-clause-inside
 meet-requires-clause-inside c =
     inside-in _ (linked (goal.at.meet-requires-clause-inside c).After-chains_of-cs) c.loop-tally.invariant.gives.few _ _
-    (links-inside c.args.trial.now.probe.header _ c.args.trial.now.fitting.pages _ c.requires.block_lt_q.0)
+    (links-inside (numbers c.args.trial.now.probe.header) _ c.args.trial.now.fitting.pages _ c.requires.block_lt_q.0)
 
 pub returns-in_err-tally : goal.returns-in_err-tally
 returns-in_err-tally c =

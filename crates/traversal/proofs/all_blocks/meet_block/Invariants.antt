@@ -1,3 +1,4 @@
+use Rattle.layout.specs.Headers.{numbers}
 use Rattle.hits.specs.Trials.{tried}
 use Rattle.walk_steps.specs.Walks.{given_of}
 use Rattle.traversal.proofs.Pages.{pages_from}
@@ -6,7 +7,7 @@ use Rattle.traversal.proofs.all_blocks.meet_block.Given as goal
 
 abbrev pub invariant-loop-tally : goal.invariant-loop-tally
 invariant-loop-tally l =
-    let h = l.trial.probe.header in
+    let h = (numbers l.trial.probe.header) in
     let w = given_of l.walk in
     Walking (tried l.trial) l.trial.words h l.trial.pages.now l.j w
     (pages_from h l.trial.pages.now l.j l.initial.tally.left (coming_from w l.initial.stack l.initial.batch)) l.initial.map l.map l.counts l.stack l.tally l.batch
