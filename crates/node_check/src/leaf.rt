@@ -42,7 +42,7 @@ fn is_on_path(scope: &Scope<'_>, path: &[u8; 64], depth: usize, p: usize) -> boo
 {
     for k in 0..depth {
         let level = scope.rows.level_at(k);
-        if level.page_byte(scope.sketches, scope.block, p) as u8 != path[k] {
+        if level.page_byte(scope.sketches, scope.block, p) != path[k] {
             return false;
         }
     }

@@ -22,7 +22,7 @@ pub struct Place {
 #[derive(Clone, Copy, Debug, PartialEq, Eq)]
 struct Child {
     node: u32,
-    byte: u32,
+    byte: u8,
     link: u32,
 }
 
@@ -32,9 +32,9 @@ pub enum Move {
     // to the next chain, by its first link
     Chain(u32),
     // past a leaf with a byte, to the link after it, with what is left of the page budget
-    Past { byte: u32, link: u32, pages: u32 },
+    Past { byte: u8, link: u32, pages: u32 },
     // to an inner node with a byte; `link` is after it
-    Down { node: u32, byte: u32, link: u32 },
+    Down { node: u32, byte: u8, link: u32 },
     // back to the node above
     Up,
 }
@@ -99,7 +99,7 @@ pub fn visit(scope: &Scope<'_>, map: &mut [u32], path: &mut [u8; 64], place: Pla
             if place.left == 0 {
                 return None;
             }
-            path[depth] = byte as u8;
+            path[depth] = byte;
             let child = Child { node, byte, link };
             visit_child(scope, map, path, place, child)
         }
