@@ -43,7 +43,7 @@ fn is_on_path(leaves: &Leaves<'_>, path: &[u8; 64], depth: usize, p: usize) -> b
 {
     for k in 0..depth {
         let level = leaves.rows.level_at(k);
-        if level.page_byte(leaves.sketches, leaves.block, p) as u8 != path[k] {
+        if level.page_byte(leaves.sketches, leaves.block, p) != path[k] {
             return false;
         }
     }

@@ -14,8 +14,8 @@ use node_check::scope::Scope;
 use trie_visit::{Move, Place, visit};
 
 // After a leaf with a byte: `link` is after it, `pages` what is left of the page budget.
-fn past_leaf(place: Place, byte: u32, link: u32, pages: u32) -> Place
-    requires { (byte < 256) × (0 < place.left) }
+fn past_leaf(place: Place, byte: u8, link: u32, pages: u32) -> Place
+    requires { 0 < place.left }
     ensures { result ≡ placed place.depth (past_child place.frame byte link) (place.left - 1) pages }
 {
     Place {

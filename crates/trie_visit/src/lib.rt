@@ -5,7 +5,6 @@ ghost use Rattle.std.specs.Prelude.{◌≡◌, ◌*◌, ◌≤◌, ◌<◌, leng
 ghost use Rattle.node_check.specs.Scope.{within};
 ghost use Rattle.trie_visit.specs.Visit.{seen, visit_child, visited, visit};
 
-use children::cursor::Child;
 use children::order::{Frame, Step};
 use node_check::leaf::{Kind, kind_of, test_leaf};
 use node_check::leaves::Leaves;
@@ -20,15 +19,24 @@ pub struct Place {
     pub pages: u32,
 }
 
+// A child that was tested: its number, its byte, and the link after it. Beside the `Child` of `children`, whose byte is what a word holds,
+// up to 13 bits: here the type says that it is a byte.
+#[derive(Clone, Copy, Debug, PartialEq, Eq)]
+struct Child {
+    node: u32,
+    byte: u8,
+    link: u32,
+}
+
 // Where a visit leads. An enum and no closure for each: the walk alone has the stack that a move changes.
 #[derive(Clone, Copy, Debug, PartialEq, Eq)]
 pub enum Move {
     // to the next chain, by its first link
     Chain(u32),
     // past a leaf with a byte, to the link after it, with what is left of the page budget
-    Past { byte: u32, link: u32, pages: u32 },
+    Past { byte: u8, link: u32, pages: u32 },
     // to an inner node with a byte; `link` is after it
-    Down { node: u32, byte: u32, link: u32 },
+    Down { node: u32, byte: u8, link: u32 },
     // back to the node above
     Up,
 }
@@ -100,7 +108,7 @@ pub fn visit(scope: &Scope<'_>, map: &mut [u32], path: &mut [u8; 64], place: Pla
             if place.left == 0 {
                 return None;
             }
-            path[depth] = byte as u8;
+            path[depth] = byte;
             let child = Child { node, byte, link };
             visit_child(scope, map, path, place, child)
         }
