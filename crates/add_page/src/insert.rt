@@ -1,5 +1,5 @@
 // The page put into the trie of each block. Its row is in the sketch table by now: a split reads the rows of all pages of the leaf.
-ghost use Rattle.std.specs.Prelude.{◌≡◌, ◌<◌, length};
+ghost use Rattle.std.specs.Prelude.{◌≡◌, ◌<◌};
 ghost use Rattle.layout.specs.Headers.{numbers};
 ghost use Rattle.layout.specs.Header.{with_thresholds};
 ghost use Rattle.layout.specs.Tables.{Lent, Fits};
@@ -9,6 +9,7 @@ ghost use Rattle.add_laws.specs.Insert.{filled, insert_block, insert_all};
 use blocks::packed::block_bytes;
 use blocks::{block_of, rows_of};
 use layout::Header;
+use layout::settings::LEVELS;
 use trie::Stop;
 use trie::leaf::Grown;
 use trie_insert::insert::insert_page;
@@ -17,7 +18,7 @@ fn insert_block(
     nodes: &mut [u32],
     pages: &mut [u32],
     sketches: &[u8],
-    thresholds: &[u32],
+    thresholds: &[u32; LEVELS],
     h: Header,
     sketch: &[u8],
     p: usize,
@@ -25,7 +26,6 @@ fn insert_block(
     free: u32,
 ) -> Result<Grown, Stop>
     requires lent { Lent (numbers h) nodes.old pages.old sketches.now }
-    requires thresholds_len { length thresholds.now ≡ 64 }
     requires fits { Fits (numbers h) sketch.now }
     requires p_lt_pages { p < h.pages }
     requires j_lt_q { j < h.q }
@@ -55,14 +55,13 @@ pub fn insert_all(
     nodes: &mut [u32],
     pages: &mut [u32],
     sketches: &[u8],
-    thresholds: &[u32],
+    thresholds: &[u32; LEVELS],
     h: Header,
     sketch: &[u8],
     p: usize,
     free: u32,
 ) -> Option<u32>
     requires lent { Lent (numbers h) nodes.old pages.old sketches.now }
-    requires thresholds_len { length thresholds.now ≡ 64 }
     requires fits { Fits (numbers h) sketch.now }
     requires p_lt_pages { p < h.pages }
     ensures { filled nodes.new pages.new result ≡ insert_all (with_thresholds (numbers h) thresholds.now) sketches.now sketch.now p nodes.old pages.old free }

@@ -1,5 +1,5 @@
 // Question 12, before anything is written: are the nodes that the add needs free?
-ghost use Rattle.std.specs.Prelude.{◌≡◌, ◌<◌, length};
+ghost use Rattle.std.specs.Prelude.{◌≡◌, ◌<◌};
 ghost use Rattle.layout.specs.Headers.{numbers};
 ghost use Rattle.layout.specs.Header.{with_thresholds};
 ghost use Rattle.layout.specs.Tables.{Lent, Fits};
@@ -8,6 +8,7 @@ ghost use Rattle.add_laws.specs.Room.{block_needs, all_needed, room_of};
 use blocks::packed::block_bytes;
 use blocks::{block_of, rows_of};
 use layout::Header;
+use layout::settings::LEVELS;
 use lent::View;
 use trie::Stop;
 use trie::span::enough_free;
@@ -16,13 +17,12 @@ use trie_room::needed::nodes_needed;
 // How many nodes the trie of block j needs.
 fn block_needs(
     view: View<'_>,
-    thresholds: &[u32],
+    thresholds: &[u32; LEVELS],
     h: Header,
     sketch: &[u8],
     j: usize,
 ) -> Option<usize>
     requires lent { Lent (numbers h) view.nodes.now view.pages.now view.sketches.now }
-    requires thresholds_len { length thresholds.now ≡ 64 }
     requires fits { Fits (numbers h) sketch.now }
     requires j_lt_q { j < h.q }
     ensures { result ≡ block_needs (with_thresholds (numbers h) thresholds.now) view.entry.nodes.now view.entry.pages.now view.entry.sketches.now sketch.now j }
@@ -45,9 +45,8 @@ fn block_needs(
 }
 
 // The tries of all blocks together.
-fn all_needed(view: View<'_>, thresholds: &[u32], h: Header, sketch: &[u8]) -> Option<usize>
+fn all_needed(view: View<'_>, thresholds: &[u32; LEVELS], h: Header, sketch: &[u8]) -> Option<usize>
     requires lent { Lent (numbers h) view.nodes.now view.pages.now view.sketches.now }
-    requires thresholds_len { length thresholds.now ≡ 64 }
     requires fits { Fits (numbers h) sketch.now }
     ensures { result ≡ all_needed (with_thresholds (numbers h) thresholds.now) view.entry.nodes.now view.entry.pages.now view.entry.sketches.now sketch.now }
 {
@@ -63,13 +62,12 @@ fn all_needed(view: View<'_>, thresholds: &[u32], h: Header, sketch: &[u8]) -> O
 #[tactic(auto, unfolding(layout::specs::Lengths::nodes_length))]
 pub fn room(
     view: View<'_>,
-    thresholds: &[u32],
+    thresholds: &[u32; LEVELS],
     h: Header,
     sketch: &[u8],
     free: u32,
 ) -> Result<(), Stop>
     requires lent { Lent (numbers h) view.nodes.now view.pages.now view.sketches.now }
-    requires thresholds_len { length thresholds.now ≡ 64 }
     requires fits { Fits (numbers h) sketch.now }
     ensures { result ≡ room_of (with_thresholds (numbers h) thresholds.now) view.entry.nodes.now view.entry.pages.now view.entry.sketches.now sketch.now free }
 {

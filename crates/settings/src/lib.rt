@@ -11,7 +11,7 @@ ghost use Rattle.layout.specs.Limits.{limits_of};
 ghost use Rattle.layout.specs.Header.{header_of, with_thresholds, opening_of};
 ghost use Rattle.refusals.specs.Refusals.{numbered};
 
-use layout::settings::{FREE, LENGTH, LEVELS, MEMBERS, THRESHOLDS};
+use layout::settings::{FREE, LENGTH, LEVELS, THRESHOLDS};
 use layout::{Header, Numbers};
 use refusals::Refusal;
 
@@ -83,11 +83,11 @@ pub fn opening(settings: &[u32]) -> Result<Header, Refusal>
 
 // The thresholds of all levels: a part of the table itself.
 #[tactic(auto, unfolding(layout::specs::Settings::settings_of))]
-pub fn thresholds(settings: &[u32]) -> &[u32]
+pub fn thresholds(settings: &[u32]) -> &[u32; LEVELS]
     requires { settings_length ≤ length settings.now }
     ensures { result.now ≡ (settings_of settings.now).thresholds }
 {
-    &settings[THRESHOLDS..MEMBERS]
+    settings[THRESHOLDS..].first_chunk().unwrap()
 }
 
 // The link to the first free node.

@@ -22,13 +22,12 @@ fn leaf_needs(
     k: usize,
     count: u32,
     first: u32,
-    byte: u32,
+    byte: u8,
 ) -> Option<usize>
     requires page_table { PageTable block.pages block.base pages.now }
     requires row_table { RowTable block.pages rows sketches.now }
     requires bytes_in_bounds { rows.bytes ≤ length thresholds.now }
     requires k_lt_bytes { k < rows.bytes }
-    requires byte_bound { byte < 256 }
     ensures { result ≡ leaf_needs pages.now sketches.now thresholds.now block.pages block.base rows k count first byte }
 {
     if thresholds[k] > count {
@@ -79,7 +78,7 @@ pub fn needed_at(
             }
             let count = page_count(nodes, block.nodes, at.node);
             let first = first_page(nodes, block.nodes, at.node);
-            let byte = bytes[at.level] as u32;
+            let byte = bytes[at.level];
             leaf_needs(
                 pages, sketches, thresholds, block, rows, at.level, count, first, byte,
             )

@@ -1,6 +1,5 @@
 -- A table that shows an opening has numbers that pass 4.
 use mathlib.Core.Path.{sym, ◌∙◌}
-use Rattle.layout.specs.Headers.{numbers}
 use Rattle.layout.proofs.Openings.{shown, shows}
 use Rattle.settings.proofs.opening.Goals as goal
 

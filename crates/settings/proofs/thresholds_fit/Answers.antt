@@ -1,6 +1,7 @@
 -- `thresholds_fit` tests each threshold. The invariant: the joined bits are below 65,536 exactly where the thresholds passed are.
 use Prim.Native.Nat.{ℕ, ◌+◌, ◌<◌}
 use native.Mathlib.Numerals.{add-one}
+use native.Mathlib.Omega.{arith}
 use mathlib.Core.Path.{◌≡◌, refl, sym, ap, ◌∙◌}
 use mathlib.Core.Bool.{◌&&◌}
 use mathlib.Core.List.{List}
@@ -9,7 +10,7 @@ use lib.ListN.{length, get_or, take}
 use lib.Seq.{take_all}
 use Rattle.meaning.specs.Lists.{all}
 use Rattle.words.proofs.Bits.{or-below}
-use Rattle.settings.proofs.Tests.{all_more}
+use Rattle.settings.proofs.Tests.{all_more, thresholds-count}
 use Rattle.layout.proofs.Limits.{short}
 use Rattle.settings.proofs.thresholds_fit.Goals as goal
 
@@ -26,9 +27,10 @@ unfolding all
 loop-t-init c = refl
 
 pub loop-t-preserved : goal.loop-t-preserved
-loop-t-preserved c = more c.thresholds-t-items.result.now c.loop-t.seen c.loop-t.t-index c.loop-t-test.true c.loop-t.invariant
+loop-t-preserved c = more c.thresholds-t-items.result.now c.loop-t.seen c.loop-t.t-index (omega arith) c.loop-t.invariant
 
 pub returns : goal.returns
 returns c =
+    let count = thresholds-count c.args.settings.now (omega (arith, c.requires)) in
     c.loop-t.invariant
-    ∙ ap (all short) (take_all c.loop-t.t-index c.thresholds-t-items.result.now c.loop-t-test.false ∙ c.thresholds-t-items.ensures)
+    ∙ ap (all short) (take_all c.loop-t.t-index c.thresholds-t-items.result.now (omega (arith, count, ap length c.thresholds-t-items.ensures)) ∙ c.thresholds-t-items.ensures)

@@ -57,8 +57,5 @@ returns-in-Err-Broken-clause-model c =
 pub room-requires-clause-lent : goal.room-requires-clause-lent
 room-requires-clause-lent c = (passed (goal.at.room-requires-clause-lent c).After-view-view).lent
 
-pub room-requires-clause-thresholds_len : goal.room-requires-clause-thresholds_len
-room-requires-clause-thresholds_len c = rw c.thresholds-thresholds.ensures (passed (goal.at.room-requires-clause-thresholds_len c).After-view-view).levels
-
 pub room-requires-clause-fits : goal.room-requires-clause-fits
 room-requires-clause-fits c = (passed (goal.at.room-requires-clause-fits c).After-view-view).fits

@@ -61,9 +61,6 @@ write_row-requires-clause-x_len c = (passed (goal.at.write_row-requires-clause-x
 pub insert_all-requires-clause-lent : goal.insert_all-requires-clause-lent
 insert_all-requires-clause-lent c = let k = c in let ok = passed (goal.at.insert_all-requires-clause-lent k).Start in lent_row _ _ _ _ ok _ c.write_row.ensures
 
-pub insert_all-requires-clause-thresholds_len : goal.insert_all-requires-clause-thresholds_len
-insert_all-requires-clause-thresholds_len c = let k = c in let ok = passed (goal.at.insert_all-requires-clause-thresholds_len k).Start in rw c.thresholds-thresholds.ensures ok.levels
-
 pub insert_all-requires-clause-fits : goal.insert_all-requires-clause-fits
 insert_all-requires-clause-fits c = let k = c in let ok = passed (goal.at.insert_all-requires-clause-fits k).Start in ok.fits
 

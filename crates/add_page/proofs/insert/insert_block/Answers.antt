@@ -17,10 +17,10 @@ tables c =
 pub slice_bounds-bytes-end : goal.slice_bounds-bytes-end
 slice_bounds-bytes-end c = omega (arith, (tables (goal.at.slice_bounds-bytes-end c).After-rows_of-rows).rows.short)
 
-pub slice_bounds-insert_page-end : goal.slice_bounds-insert_page-end
-slice_bounds-insert_page-end c =
+pub slice_bounds-insert_page-end-2 : goal.slice_bounds-insert_page-end-2
+slice_bounds-insert_page-end-2 c =
     let r = c in
-    sym (length-take-le r.rows_of-rows.result.bytes r.block_bytes-bytes.result (omega (arith, (tables (goal.at.slice_bounds-insert_page-end r).After-rows_of-rows).rows.short)))
+    sym (length-take-le r.rows_of-rows.result.bytes r.block_bytes-bytes.result (omega (arith, (tables (goal.at.slice_bounds-insert_page-end-2 r).After-rows_of-rows).rows.short)))
 
 pub returns : goal.returns
 returns c =
@@ -39,4 +39,4 @@ pub insert_page-requires-clause-row_table : goal.insert_page-requires-clause-row
 insert_page-requires-clause-row_table c = let r = c in let t = tables (goal.at.insert_page-requires-clause-row_table r).After-rows_of-rows in t.rows
 
 pub insert_page-requires-clause-bytes_in_bounds : goal.insert_page-requires-clause-bytes_in_bounds
-insert_page-requires-clause-bytes_in_bounds c = let r = c in let t = tables (goal.at.insert_page-requires-clause-bytes_in_bounds r).After-rows_of-rows in omega (arith, t.rows.short, r.requires.thresholds_len)
+insert_page-requires-clause-bytes_in_bounds c = let r = c in let t = tables (goal.at.insert_page-requires-clause-bytes_in_bounds r).After-rows_of-rows in omega (arith, t.rows.short, r.told-thresholds)

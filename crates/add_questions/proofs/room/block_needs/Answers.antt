@@ -18,9 +18,9 @@ tables c =
 pub slice_bounds-bytes-end : goal.slice_bounds-bytes-end
 slice_bounds-bytes-end c = omega (arith, (tables (goal.at.slice_bounds-bytes-end c).After-rows_of-rows).rows.short)
 
-pub slice_bounds-nodes_needed-end : goal.slice_bounds-nodes_needed-end
-slice_bounds-nodes_needed-end c =
-    sym (length-take-le c.rows_of-rows.result.bytes c.block_bytes-bytes.result (omega (arith, (tables (goal.at.slice_bounds-nodes_needed-end c).After-rows_of-rows).rows.short)))
+pub slice_bounds-nodes_needed-end-2 : goal.slice_bounds-nodes_needed-end-2
+slice_bounds-nodes_needed-end-2 c =
+    sym (length-take-le c.rows_of-rows.result.bytes c.block_bytes-bytes.result (omega (arith, (tables (goal.at.slice_bounds-nodes_needed-end-2 c).After-rows_of-rows).rows.short)))
 
 pub returns : goal.returns
 returns c =
@@ -37,7 +37,7 @@ pub nodes_needed-requires-clause-row_table : goal.nodes_needed-requires-clause-r
 nodes_needed-requires-clause-row_table c = (tables (goal.at.nodes_needed-requires-clause-row_table c).After-rows_of-rows).rows
 
 pub nodes_needed-requires-clause-bytes_in_bounds : goal.nodes_needed-requires-clause-bytes_in_bounds
-nodes_needed-requires-clause-bytes_in_bounds c = omega (arith, (tables (goal.at.nodes_needed-requires-clause-bytes_in_bounds c).After-rows_of-rows).rows.short, c.requires.thresholds_len)
+nodes_needed-requires-clause-bytes_in_bounds c = omega (arith, (tables (goal.at.nodes_needed-requires-clause-bytes_in_bounds c).After-rows_of-rows).rows.short, c.told-thresholds)
 
 pub nodes_needed-requires-clause-bytes_len : goal.nodes_needed-requires-clause-bytes_len
 nodes_needed-requires-clause-bytes_len c = length-take-le c.rows_of-rows.result.bytes c.block_bytes-bytes.result (omega (arith, (tables (goal.at.nodes_needed-requires-clause-bytes_len c).After-rows_of-rows).rows.short))
