@@ -14,29 +14,27 @@ use layout::{Block, Header};
 // The packed byte of `count` symbols of the sketch table from `at` on, each taken modulo 2^b, so that any table gives a byte.
 // Beside `sketch::packing::pack_byte`: with the mask in there too, packing a sketch takes 5 to 12 in 100 more instructions.
 #[tactic(auto, unfolding(crate::specs::Packed::row_byte))]
-pub fn row_byte(b: u32, sketches: &[u8], at: usize, count: usize) -> u32
+pub fn row_byte(b: u32, sketches: &[u8], at: usize, count: usize) -> u8
     requires b_bound { b ≤ 8 }
     requires count_bound { b * count ≤ 8 }
     requires count_in_bounds { at + count ≤ length sketches.now }
-    ensures value { result ≡ row_byte b sketches.now at count }
-    ensures small { result < 256 }
+    ensures { result ≡ row_byte b sketches.now at count }
 {
     let mask = (1u32 << b) - 1;
     let mut v: u32 = 0;
     for i in (0..count).rev() {
         v = (v << b) + (sketches[at + i] as u32 & mask);
     }
-    v
+    v as u8
 }
 
 impl Level {
     // The byte of a page at this level.
     #[tactic(auto, unfolding(crate::specs::Packed::page_byte))]
-    pub fn page_byte(self, sketches: &[u8], block: Block, p: usize) -> u32
+    pub fn page_byte(self, sketches: &[u8], block: Block, p: usize) -> u8
         requires sketch_table { SketchTable block.pages self sketches.now }
         requires p_lt_pages { p < block.pages }
-        ensures value { result ≡ page_byte sketches.now self p }
-        ensures small { result < 256 }
+        ensures { result ≡ page_byte sketches.now self p }
     {
         let at = p * self.symbols + self.from;
         row_byte(self.bits, sketches, at, self.count)
@@ -76,7 +74,7 @@ pub fn row_bytes(bytes: &mut [u8; 64], h: Header, sketches: &[u8], p: usize, j: 
     let block = block_of(h, j);
     let rows = rows_of(h, j);
     for k in 0..rows.bytes {
-        bytes[k] = rows.level_at(k).page_byte(sketches, block, p) as u8;
+        bytes[k] = rows.level_at(k).page_byte(sketches, block, p);
     }
 }
 

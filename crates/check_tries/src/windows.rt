@@ -16,6 +16,9 @@ use trie_check::test::test_trie;
 // How many passes reach all nodes.
 const WINDOWS: usize = 8;
 
+// `Lent` ties a header to three lent tables, and two clauses bound the map's size. A struct of header and view would be made for the four
+// functions here and `test_store` alone and be opened in each; one with the map, lent with `&mut`, would be made anew for each window.
+
 // The trie of block j.
 fn test_block(
     view: View<'_>,

@@ -94,10 +94,9 @@ pub fn step(nodes: &[u32], cap: usize, c: Cursor) -> Next
 
 // The link to the first child of node x in the chain of a byte.
 #[tactic(auto, unfolding(crate::specs::Cursors::first_for))]
-pub fn first_for(nodes: &[u32], cap: usize, x: usize, byte: u32) -> u32
+pub fn first_for(nodes: &[u32], cap: usize, x: usize, byte: u8) -> u32
     requires node_table { NodeTable cap nodes.now }
     requires x_lt_cap { x < cap }
-    requires byte_bound { byte < 256 }
     ensures { result ≡ first_for nodes.now cap x byte }
 {
     link_of(nodes[head_at(cap, x, (byte / 32) as usize)])

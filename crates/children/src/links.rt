@@ -7,15 +7,14 @@ ghost use Rattle.children.specs.Links.{put_in, take_out};
 use layout::nodes::{chain_word, link_of, with_link};
 
 // Node x, with a byte, before what the slot linked to.
-pub fn put_in(nodes: &mut [u32], cap: usize, slot: usize, x: usize, byte: u32)
+pub fn put_in(nodes: &mut [u32], cap: usize, slot: usize, x: usize, byte: u8)
     requires node_table { NodeTable cap nodes.old }
     requires slot_bound { slot < node_words cap }
     requires x_lt_cap { x < cap }
-    requires byte_bound { byte < 256 }
     ensures { nodes.new ≡ put_in nodes.old slot x byte }
 {
     let old = nodes[slot];
-    nodes[x] = chain_word(byte, link_of(old));
+    nodes[x] = chain_word(byte as u32, link_of(old));
     nodes[slot] = with_link(old, (x + 1) as u32);
 }
 

@@ -36,7 +36,7 @@ pub enum Step {
     // to the next chain, by its first link
     Chain(u32),
     // to a child; `link` is the one after it
-    Child { node: u32, byte: u32, link: u32 },
+    Child { node: u32, byte: u8, link: u32 },
     // no child is left
     Up,
 }
@@ -57,15 +57,14 @@ pub fn enter(nodes: &[u32], cap: usize, x: usize) -> Frame
 }
 
 // The children after one with a byte, from a link on.
-pub fn past_child(frame: Frame, byte: u32, link: u32) -> Frame
-    requires { byte < 256 }
+pub fn past_child(frame: Frame, byte: u8, link: u32) -> Frame
     ensures { result ≡ past_child frame byte link }
 {
     Frame {
         node: frame.node,
         group: frame.group,
         link,
-        least: byte + 1,
+        least: byte as u32 + 1,
     }
 }
 
@@ -104,7 +103,7 @@ fn step_along(nodes: &[u32], cap: usize, frame: Frame) -> Option<Step>
     }
     Some(Step::Child {
         node: x,
-        byte,
+        byte: byte as u8,
         link: link_of(w),
     })
 }

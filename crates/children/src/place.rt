@@ -16,10 +16,9 @@ pub enum Place {
 // A chain has at most 32 children: the budget is enough for every sound table. No search of the library: the children are linked
 // through the node table that C lends.
 #[tactic(auto, unfolding(crate::specs::Places::find_place))]
-pub fn find_place(nodes: &[u32], cap: usize, n: usize, byte: u32) -> Place
+pub fn find_place(nodes: &[u32], cap: usize, n: usize, byte: u8) -> Place
     requires node_table { NodeTable cap nodes.now }
     requires n_lt_cap { n < cap }
-    requires byte_bound { byte < 256 }
     ensures value { result ≡ find_place nodes.now cap n byte }
     ensures inside { Inside cap result }
 {
@@ -34,10 +33,10 @@ pub fn find_place(nodes: &[u32], cap: usize, n: usize, byte: u32) -> Place
         }
         let child = link - 1;
         let b = byte_of(nodes[child]);
-        if b < byte {
+        if b < byte as u32 {
             slot = child;
         } else {
-            if b == byte {
+            if b == byte as u32 {
                 return Place::Found { slot, child };
             }
             return Place::Missing { slot };

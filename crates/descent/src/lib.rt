@@ -55,7 +55,7 @@ pub fn arrive(nodes: &[u32], cap: usize, bytes: &[u8], x: usize, at: u32, last: 
             if last < at {
                 return ended(OUTSIDE);
             }
-            let byte = bytes[at as usize] as u32;
+            let byte = bytes[at as usize];
             Cursor {
                 link: first_for(nodes, cap, x, byte),
                 at,

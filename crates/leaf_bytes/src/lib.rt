@@ -18,11 +18,10 @@ pub fn distinct_bytes(
     block: Block,
     level: Level,
     first: u32,
-    byte: u32,
+    byte: u8,
 ) -> Option<usize>
     requires page_table { PageTable block.pages block.base pages.now }
     requires sketch_table { SketchTable block.pages level sketches.now }
-    requires byte_bound { byte < 256 }
     ensures { result ≡ distinct_bytes pages.now sketches.now block.pages block.base level first byte }
 {
     // A flag for each byte: there is no heap for a set.

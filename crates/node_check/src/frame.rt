@@ -14,7 +14,7 @@ pub fn next_step(scope: &Scope<'_>, k: usize, frame: Frame) -> Option<Step>
 {
     let step = next_child(scope.nodes, scope.block.nodes, frame)?;
     if let Step::Child { byte, .. } = step {
-        if !sketch::packing::packable(scope.rows.bits, scope.rows.length, k, byte as u8) {
+        if !sketch::packing::packable(scope.rows.bits, scope.rows.length, k, byte) {
             return None;
         }
     }

@@ -3,7 +3,7 @@ ghost use Rattle.std.specs.Prelude.{◌≡◌, ◌≤◌, ◌<◌};
 ghost use Rattle.layout.specs.Tables.{NodeTable};
 ghost use Rattle.node_check.specs.Leaf.{kind_of, on_path, test_pages, test_leaf};
 
-use crate::scope::Scope;
+use crate::leaves::Leaves;
 use children::order::is_bare;
 
 // What a node of a trie is.
@@ -33,16 +33,17 @@ pub fn kind_of(nodes: &[u32], cap: usize, x: usize) -> Option<Kind>
     }
 }
 
-// Are the first `depth` bytes of page p those of the path? An array with a depth: a path grows in the fixed memory of one walk.
+// Are the first `depth` bytes of page p those of the path? An array with a depth, which stays a clause: a path grows in the fixed memory of
+// one walk, and a level of the walk writes one byte of it.
 #[tactic(auto, unfolding(crate::specs::Leaf::on_path, meaning::specs::Lists::upto))]
-fn is_on_path(scope: &Scope<'_>, path: &[u8; 64], depth: usize, p: usize) -> bool
-    requires p_lt_pages { p < scope.now.block.pages }
+fn is_on_path(leaves: &Leaves<'_>, path: &[u8; 64], depth: usize, p: usize) -> bool
+    requires p_lt_pages { p < leaves.now.block.pages }
     requires depth_bound { depth ≤ 64 }
-    ensures { result ≡ on_path scope.now.sketches.now scope.now.rows path.now depth p }
+    ensures { result ≡ on_path leaves.now.sketches.now leaves.now.rows path.now depth p }
 {
     for k in 0..depth {
-        let level = scope.rows.level_at(k);
-        if level.page_byte(scope.sketches, scope.block, p) as u8 != path[k] {
+        let level = leaves.rows.level_at(k);
+        if level.page_byte(leaves.sketches, leaves.block, p) != path[k] {
             return false;
         }
     }
@@ -52,17 +53,17 @@ fn is_on_path(scope: &Scope<'_>, path: &[u8; 64], depth: usize, p: usize) -> boo
 // Tests the pages of a leaf, from a link on, of which there are at most `budget`. What is left of it; none where the test fails.
 // No `for`: what is left of the budget is the answer.
 fn test_pages(
-    scope: &Scope<'_>,
+    leaves: &Leaves<'_>,
     path: &[u8; 64],
     depth: usize,
     first: u32,
     budget: u32,
 ) -> Option<u32>
     requires depth_bound { depth ≤ 64 }
-    ensures { result ≡ test_pages scope.now.pages.now scope.now.sketches.now scope.now.block.pages scope.now.block.base scope.now.rows path.now depth first budget }
+    ensures { result ≡ test_pages leaves.now.pages.now leaves.now.sketches.now leaves.now.block.pages leaves.now.block.base leaves.now.rows path.now depth first budget }
 {
-    let pages = scope.pages;
-    let block = scope.block;
+    let pages = leaves.pages;
+    let block = leaves.block;
     let mut link = first;
     let mut left = budget;
     loop {
@@ -79,7 +80,7 @@ fn test_pages(
         if !layout::pages::is_live(pages, p) {
             return None;
         }
-        if !is_on_path(scope, path, depth, p) {
+        if !is_on_path(leaves, path, depth, p) {
             return None;
         }
         link = pages[block.base + p];
@@ -91,7 +92,7 @@ fn test_pages(
 // What is left of the budget; none where the test fails.
 #[tactic(auto, unfolding(crate::specs::Leaf::test_leaf))]
 pub fn test_leaf(
-    scope: &Scope<'_>,
+    leaves: &Leaves<'_>,
     path: &[u8; 64],
     depth: usize,
     first: u32,
@@ -99,9 +100,9 @@ pub fn test_leaf(
     budget: u32,
 ) -> Option<u32>
     requires depth_bound { depth ≤ 64 }
-    ensures { result ≡ test_leaf scope.now.pages.now scope.now.sketches.now scope.now.block.pages scope.now.block.base scope.now.rows path.now depth first count budget }
+    ensures { result ≡ test_leaf leaves.now.pages.now leaves.now.sketches.now leaves.now.block.pages leaves.now.block.base leaves.now.rows path.now depth first count budget }
 {
-    let n = test_pages(scope, path, depth, first, budget)?;
+    let n = test_pages(leaves, path, depth, first, budget)?;
     if (n as usize) + (count as usize) != budget as usize {
         return None;
     }

@@ -3,5 +3,6 @@
 
 pub mod frame;
 pub mod leaf;
+pub mod leaves;
 pub mod mark;
 pub mod scope;

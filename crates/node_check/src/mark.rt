@@ -9,7 +9,8 @@ pub struct Window {
     pub size: usize,
 }
 
-// Marks node x where it lies in the window. Was it not marked before?
+// Marks node x where it lies in the window. Was it not marked before? A bool, since it answers yes or no: the map is what is marked, and no
+// part of the answer. Its size is a clause: a struct of the window and a map lent with `&mut` would be made anew for each window.
 #[tactic(auto, unfolding(crate::specs::Mark::mark_once))]
 pub fn mark_once(map: &mut [u32], window: Window, x: usize) -> bool
     requires { window.size ≤ 32 * length map.old }

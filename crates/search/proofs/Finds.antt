@@ -16,7 +16,9 @@ use Rattle.words.specs.Bits.{flag}
 use Rattle.words.proofs.Rising.{rising_none}
 use Rattle.promises.specs.Readings.{Lists}
 use Rattle.marks.specs.Marks.{Room, Summarised, list_of, Counts}
+use Rattle.hits.specs.declared.Probe.{Probe}
 use Rattle.hits.specs.Hit.{Test, far, passes}
+use Rattle.hits.specs.Probes.{test_by}
 use Rattle.hits.proofs.Filter.{passes-below}
 use Rattle.hits.proofs.Hit.{passes-near}
 use Rattle.meeting.specs.declared.Tally.{Tally}
@@ -85,9 +87,9 @@ module _ {t : Test} {words : ℕ} {m : Meets} {map after counts : List ℕ} {a :
         answers-listed m t out (r.some n e).0 n.left number count left (r.some n e).1 (rw found-pages at l)
 
 -- what was found can be listed
-module _ {t : Test} {words : ℕ} {map after counts : List ℕ} (room : Room map words) (bits : t.header.pages ≤ words * 32) where
-  pub found-listable : {m : Meets} {a : Option Tally} (r : Meeting t words m map after counts a) (n : Tally) (e : a ≡ Some n)
-      → list_of map words ≡ [] → Summarised map words → Listable t after counts words
+module _ {pages sketches x : List ℕ} {p : Probe} {words : ℕ} {map after counts : List ℕ} (room : Room map words) (bits : p.header.pages ≤ words * 32) where
+  pub found-listable : {m : Meets} {a : Option Tally} (r : Meeting (test_by pages sketches x p) words m map after counts a) (n : Tally) (e : a ≡ Some n)
+      → list_of map words ≡ [] → Summarised map words → Listable sketches x after counts p words
   found-listable r n e none summary = record {
     room = kept-room r.kept room;
     summarised = found-summary r n e summary;

@@ -22,7 +22,9 @@ use Rattle.words.specs.Bits.{zeroed}
 use Rattle.refusals.specs.declared.Refusal.{Refusal}
 use Rattle.refusals.specs.declared.Refusal.TheVariants.{UnknownCommand, MisplacedCommand, MissingOperands, BadSettings, ShortTable, NoOpening, OutOfRange, NoSuchPage, PageState, BadLength, BadSymbol, NoRoom, ShortOutput, Unsound, Blank}
 use Rattle.refusals.specs.Refusals.{number_of, needed_of}
+use Rattle.layout.specs.declared.Header.{Header}
 use Rattle.layout.specs.declared.Numbers.{Numbers}
+use Rattle.layout.specs.Headers.{numbers}
 use Rattle.layout.specs.Settings.{settings_length, shows_opening}
 use Rattle.layout.specs.Header.{header_of, bare}
 use Rattle.layout.specs.Lengths.{working_length}
@@ -38,7 +40,7 @@ use Rattle.entry.specs.Entry.{tables_asked, entry}
 use Rattle.entry.proofs.Enters.{entry-refused, Entered, entry-shown}
 use Rattle.marks.specs.Marks.{summary_of}
 use Rattle.hits.specs.declared.Probe.{Probe}
-use Rattle.hits.specs.Hit.{Fitting, test_of}
+use Rattle.hits.specs.Hit.{Fitting, test, test_of}
 use Rattle.hits.specs.Probes.{probe_of, test_by}
 use Rattle.meeting.specs.Meets.{Meets, met, broken}
 use Rattle.traversal.specs.Meets.{meet_blocks}
@@ -208,18 +210,26 @@ module _ (T : Tables) (reader radius : ℕ) (x : List ℕ) (before : Output) whe
           )
 
       -- past 11
-      module _ (q : first_no (query_asked h reader radius x) ≡ 0) (k : Classes) (c : k ≡ entry_of T.settings reader) (p : Probe) (r : p ≡ probe_of h k x radius) where
+      module _ (q : first_no (query_asked h reader radius x) ≡ 0) (k : Classes) (c : k ≡ entry_of T.settings reader) (p : Probe)
+          (H : Header) (i : numbers H ≡ h) (r : p ≡ probe_of H k x radius) where
         fit : Fitting (test_of T reader radius x)
         fit = rw in_order.header
             record { limits = in_order.limits; pages = in_order.pages-long; sketches = in_order.sketches-long; query = (query-passed h reader radius x q).1.count }
 
+        -- by the tables and the reader's rights
+        by_reader : (n count : ℕ) (after : Output) (g : Numbers) (l : Classes) (d : ℕ) → g ≡ header_of (given T) → l ≡ entry_of T.settings reader → d ≡ radius
+            → Answered (meet_blocks g T.nodes T.pages x d) (test T.pages T.sketches g l x d) before n count after
+            → Answered (meets T reader radius x) (test_of T reader radius x) before n count after
+        by_reader n count after g l d y z v a = rw (y, z, v) at a
+
         pub promise-found : (n count : ℕ) (after : Output) (last : List ℕ)
-            → Answered (meet_blocks p.header T.nodes T.pages x p.radius) (test_by T.pages T.sketches x p) before n count after
+            → Answered (meet_blocks (numbers p.header) T.nodes T.pages x p.radius) (test_by T.pages T.sketches x p) before n count after
             → last ≡ zeroed cleared 0 (w + summary_of w)
             → SearchPromise T reader radius x before n count after last × AnsweredBy T reader radius x before n count after
         promise-found n count after last a z =
             let b : Answered (meets T reader radius x) (test_of T reader radius x) before n count after =
-            rw (r, c, ← in_order.header) at a in
+            by_reader n count after (numbers p.header) p.classes p.radius (ap (λ y. numbers y.header) r ∙ i ∙ sym in_order.header) (ap (λ y. y.classes) r ∙ c)
+            (ap (λ y. y.radius) r) a in
             let range : in_range (given T).bits x ≡ true = ap (λ g. in_range g.b x) in_order.header ∙ (query-passed h reader radius x q).1.range in (
               record {
                 early = λ k. absurd (k (early-query ∙ q));

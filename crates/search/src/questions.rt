@@ -6,9 +6,8 @@ ghost use Rattle.refusals.specs.Refusals.{answer_number};
 ghost use Rattle.search.specs.Questions.{query_asked};
 
 use layout::Header;
+use layout::settings::READERS;
 use refusals::Refusal;
-
-const READERS: u32 = 256;
 
 const RADIUS: u32 = 64;
 

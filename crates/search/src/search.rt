@@ -15,26 +15,34 @@ use crate::questions;
 use distances::Distances;
 use hits::trial::Trial;
 use lent::{Lists, View};
+use listing::scope::Scope;
 use refusals::Refusal;
+use traversal::quest::Quest;
 
 // Walks the tries, then lists what was met and passed; 14 where a link was not in order or a budget did not last. No page is marked
 // yet; the maps are cleared.
 #[tactic(auto, unfolding(words::specs::Bits::zeroed))]
-fn find(trial: &Trial<'_>, map: &mut [u32], lists: &mut Lists<'_>) -> Result<u32, Refusal>
-    requires room { Room map.old trial.now.words }
-    requires words_value { list_of map.old trial.now.words ≡ [] }
-    requires summarised { Summarised map.old trial.now.words }
+fn find(quest: &Quest<'_>, map: &mut [u32], lists: &mut Lists<'_>) -> Result<u32, Refusal>
+    requires room { Room map.old quest.now.words }
+    requires words_value { list_of map.old quest.now.words ≡ [] }
+    requires summarised { Summarised map.old quest.now.words }
     ensures same { SameLists lists.old lists.new }
-    ensures answered { Answered (meet_blocks (numbers trial.now.probe.header) trial.now.nodes.now trial.now.pages.now trial.now.query.now trial.now.probe.radius) (tried trial.now) (output_of lists.old) (answer_number result) (answer_value result) (output_of lists.new) }
-    ensures map_after { map.new ≡ zeroed map.old 0 (trial.now.words + summary_of trial.now.words) }
+    ensures answered { Answered (meet_blocks (numbers quest.now.trial.probe.header) quest.now.nodes.now quest.now.trial.pages.now quest.now.trial.query.now quest.now.trial.probe.radius) (tried quest.now.trial) (output_of lists.old) (answer_number result) (answer_value result) (output_of lists.new) }
+    ensures map_after { map.new ≡ zeroed map.old 0 (quest.now.words + summary_of quest.now.words) }
 {
     let mut counts = [0u32; 65];
-    let met = traversal::all_blocks::meet_blocks(trial, map, &mut counts);
+    let met = traversal::all_blocks::meet_blocks(quest, map, &mut counts);
     let Some(tally) = met else {
-        marks::clear_marks(map, trial.words);
+        marks::clear_marks(map, quest.words);
         return Err(Refusal::Unsound);
     };
-    listing::list_marks(trial, map, &mut counts, tally.count, lists)
+    let scope = Scope {
+        sketches: quest.trial.sketches,
+        query: quest.trial.query,
+        probe: quest.trial.probe,
+        words: quest.words,
+    };
+    listing::list_marks(&scope, map, &mut counts, tally.count, lists)
 }
 
 // Asks 5, 6, 7, 10 and 11, then searches, and answers how many pages were found. Past 6, refused or not, the needed part of the
@@ -60,12 +68,15 @@ pub fn search(
     let distances = Distances::new();
     let trial = Trial {
         distances: &distances,
-        nodes: view.nodes,
         pages: view.pages,
         sketches: view.sketches,
         query: sketch,
         probe,
+    };
+    let quest = Quest {
+        trial,
+        nodes: view.nodes,
         words,
     };
-    find(&trial, working, lists)
+    find(&quest, working, lists)
 }

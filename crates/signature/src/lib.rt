@@ -26,7 +26,7 @@ pub fn signature_of(b: u32, row: &[u8]) -> u32
     let mut s: u32 = 0;
     for k in (0..packed_length(b, n)).rev() {
         let count = symbols_at(b, n, k);
-        s = row_byte(b, row, k * z, count) ^ s.rotate_left(8);
+        s = row_byte(b, row, k * z, count) as u32 ^ s.rotate_left(8);
     }
     s
 }

@@ -7,7 +7,7 @@ ghost use Rattle.meeting.specs.Mets.{Tallied, Meeting};
 ghost use Rattle.traversal.specs.Meets.{meet_block, meet_from, meet_blocks};
 
 use crate::bytes::{Packed, pack};
-use hits::trial::Trial;
+use crate::quest::Quest;
 use meeting::{Tally, chains_of, meet};
 use walk::batch::Rest;
 use walk_steps::frame::Frame;
@@ -23,27 +23,27 @@ pub struct Start {
 
 // Walks a block's trie from its root, node j for block j, and meets the pages of its leaves, a batch at a time.
 fn meet_block(
-    trial: &Trial<'_>,
+    quest: &Quest<'_>,
     map: &mut [u32],
     counts: &mut [u32; 65],
     start: Start,
 ) -> Option<Tally>
-    requires room { Room map.old trial.now.words }
-    requires block_lt_q { (start.block < trial.now.probe.header.q) × (0 < start.radius) × (start.tally.left < trial.now.probe.header.nodes) }
-    requires tallied { Tallied (tried trial.now) trial.now.words map.old counts.old start.tally.count }
-    ensures { Meeting (tried trial.now) trial.now.words (meet_block (numbers trial.now.probe.header) trial.now.nodes.now trial.now.pages.now trial.now.query.now start.radius start.block start.tally.left) map.old map.new counts.new result }
+    requires room { Room map.old quest.now.words }
+    requires block_lt_q { (start.block < quest.now.trial.probe.header.q) × (0 < start.radius) × (start.tally.left < quest.now.trial.probe.header.nodes) }
+    requires tallied { Tallied (tried quest.now.trial) quest.now.words map.old counts.old start.tally.count }
+    ensures { Meeting (tried quest.now.trial) quest.now.words (meet_block (numbers quest.now.trial.probe.header) quest.now.nodes.now quest.now.trial.pages.now quest.now.trial.query.now start.radius start.block start.tally.left) map.old map.new counts.new result }
 {
-    let h = trial.probe.header;
+    let h = quest.trial.probe.header;
     let j = start.block;
-    let packed = pack(h, trial.query, j);
+    let packed = pack(h, quest.trial.query, j);
     let bytes = packed.bytes;
     let n = packed.n;
     let walk = Walk {
-        nodes: trial.nodes,
+        nodes: quest.nodes,
         cap: h.nodes,
         b: h.b as u32,
         bytes: &bytes[..n],
-        distances: trial.distances,
+        distances: quest.trial.distances,
     };
     let base = layout::pages::next_at(h.pages, j);
     let mut stack = [Frame::NONE; 64];
@@ -55,7 +55,7 @@ fn meet_block(
     // No `for`: the walk itself says when it is over.
     loop {
         let cs = chains_of(&batch.links, batch.n, base, 0);
-        tally = meet(trial, map, counts, cs, tally)?;
+        tally = meet(&quest.trial, quest.words, map, counts, cs, tally)?;
         match batch.rest {
             Rest::More { place } => {
                 batch = walk::batch::next(&walk, &mut stack, place);
@@ -73,18 +73,18 @@ fn meet_block(
 
 // Meets the pages of the leaf in each trie that the query's own bytes lead to: the descents of all blocks go on together, then their chains.
 fn meet_exact(
-    trial: &Trial<'_>,
+    quest: &Quest<'_>,
     map: &mut [u32],
     counts: &mut [u32; 65],
     start: Tally,
 ) -> Option<Tally>
-    requires room { Room map.old trial.now.words }
-    requires left_lt_nodes { start.left < trial.now.probe.header.nodes }
-    requires tallied { Tallied (tried trial.now) trial.now.words map.old counts.old start.count }
-    ensures { Meeting (tried trial.now) trial.now.words (meet_from (numbers trial.now.probe.header) trial.now.nodes.now trial.now.pages.now trial.now.query.now 0 trial.now.probe.header.q 0 start.left) map.old map.new counts.new result }
+    requires room { Room map.old quest.now.words }
+    requires left_lt_nodes { start.left < quest.now.trial.probe.header.nodes }
+    requires tallied { Tallied (tried quest.now.trial) quest.now.words map.old counts.old start.count }
+    ensures { Meeting (tried quest.now.trial) quest.now.words (meet_from (numbers quest.now.trial.probe.header) quest.now.nodes.now quest.now.trial.pages.now quest.now.trial.query.now 0 quest.now.trial.probe.header.q 0 start.left) map.old map.new counts.new result }
 {
-    let h = trial.probe.header;
-    let ends = block_leaves::leaves(trial.nodes, h, trial.query, start.left);
+    let h = quest.trial.probe.header;
+    let ends = block_leaves::leaves(quest.nodes, h, quest.trial.query, start.left);
     let left = ends.left?;
     let firsts = ends.firsts;
     let each = chains_of(&firsts, h.q, layout::pages::next_at(h.pages, 0), h.pages);
@@ -92,7 +92,7 @@ fn meet_exact(
         left: (h.q * h.pages) as u32,
         count: start.count,
     };
-    let met = meet(trial, map, counts, each, most)?;
+    let met = meet(&quest.trial, quest.words, map, counts, each, most)?;
     Some(Tally {
         left,
         count: met.count,
@@ -101,45 +101,45 @@ fn meet_exact(
 
 // Walks the trie of each block in turn, within a block radius that is not 0. What one leaves of the nodes is the next one's.
 fn meet_each(
-    trial: &Trial<'_>,
+    quest: &Quest<'_>,
     map: &mut [u32],
     counts: &mut [u32; 65],
     radius: u32,
     first: Tally,
 ) -> Option<Tally>
-    requires room { Room map.old trial.now.words }
-    requires radius_nonzero { (0 < radius) × (first.left < trial.now.probe.header.nodes) }
-    requires tallied { Tallied (tried trial.now) trial.now.words map.old counts.old first.count }
-    ensures { Meeting (tried trial.now) trial.now.words (meet_from (numbers trial.now.probe.header) trial.now.nodes.now trial.now.pages.now trial.now.query.now radius trial.now.probe.header.q 0 first.left) map.old map.new counts.new result }
+    requires room { Room map.old quest.now.words }
+    requires radius_nonzero { (0 < radius) × (first.left < quest.now.trial.probe.header.nodes) }
+    requires tallied { Tallied (tried quest.now.trial) quest.now.words map.old counts.old first.count }
+    ensures { Meeting (tried quest.now.trial) quest.now.words (meet_from (numbers quest.now.trial.probe.header) quest.now.nodes.now quest.now.trial.pages.now quest.now.trial.query.now radius quest.now.trial.probe.header.q 0 first.left) map.old map.new counts.new result }
 {
     let mut tally = first;
-    for j in 0..trial.probe.header.q {
+    for j in 0..quest.trial.probe.header.q {
         let start = Start {
             block: j,
             radius,
             tally,
         };
-        tally = meet_block(trial, map, counts, start)?;
+        tally = meet_block(quest, map, counts, start)?;
     }
     Some(tally)
 }
 
 // Walks the tries of all blocks, each within the block radius. One of 0 leaves one path in each. The budget is every node once, the
 // roots counted first. No page is marked yet. None: a link was not in order, or a budget did not last.
-pub fn meet_blocks(trial: &Trial<'_>, map: &mut [u32], counts: &mut [u32; 65]) -> Option<Tally>
-    requires room { Room map.old trial.now.words }
-    requires tallied { Tallied (tried trial.now) trial.now.words map.old counts.old 0 }
-    ensures { Meeting (tried trial.now) trial.now.words (meet_blocks (numbers trial.now.probe.header) trial.now.nodes.now trial.now.pages.now trial.now.query.now trial.now.probe.radius) map.old map.new counts.new result }
+pub fn meet_blocks(quest: &Quest<'_>, map: &mut [u32], counts: &mut [u32; 65]) -> Option<Tally>
+    requires room { Room map.old quest.now.words }
+    requires tallied { Tallied (tried quest.now.trial) quest.now.words map.old counts.old 0 }
+    ensures { Meeting (tried quest.now.trial) quest.now.words (meet_blocks (numbers quest.now.trial.probe.header) quest.now.nodes.now quest.now.trial.pages.now quest.now.trial.query.now quest.now.trial.probe.radius) map.old map.new counts.new result }
 {
-    let h = trial.probe.header;
+    let h = quest.trial.probe.header;
     let q = h.q;
-    let radius = trial.probe.radius / (q as u32);
+    let radius = quest.trial.probe.radius / (q as u32);
     let start = Tally {
         left: (h.nodes - q) as u32,
         count: 0,
     };
     if radius == 0 {
-        return meet_exact(trial, map, counts, start);
+        return meet_exact(quest, map, counts, start);
     }
-    meet_each(trial, map, counts, radius, start)
+    meet_each(quest, map, counts, radius, start)
 }

@@ -3,3 +3,4 @@
 
 pub mod all_blocks;
 mod bytes;
+pub mod quest;

@@ -11,11 +11,10 @@ use layout::nodes::{State, next_free, set_free, set_state};
 
 // Node f as an empty leaf with a byte, linked into a slot before what the slot linked to.
 #[tactic(auto, unfolding(crate::specs::Model::link_leaf))]
-fn link_leaf(nodes: &mut [u32], cap: usize, slot: usize, f: usize, byte: u32)
+fn link_leaf(nodes: &mut [u32], cap: usize, slot: usize, f: usize, byte: u8)
     requires node_table { NodeTable cap nodes.old }
     requires slot_bound { slot < node_words cap }
     requires f_lt_cap { f < cap }
-    requires byte_bound { byte < 256 }
     ensures { nodes.new ≡ link_leaf nodes.old cap slot f byte }
 {
     set_state(nodes, cap, f, State::Empty);
@@ -35,12 +34,11 @@ pub fn fresh_leaf(
     nodes: &mut [u32],
     cap: usize,
     slot: usize,
-    byte: u32,
+    byte: u8,
     free: u32,
 ) -> Result<Grown, Stop>
     requires node_table { NodeTable cap nodes.old }
     requires slot_bound { slot < node_words cap }
-    requires byte_bound { byte < 256 }
     ensures result_after { made nodes.new result ≡ fresh_leaf nodes.old cap slot byte free }
     ensures inside { node_in result ≤ cap }
 {
@@ -65,12 +63,11 @@ pub fn child_leaf(
     nodes: &mut [u32],
     cap: usize,
     n: usize,
-    byte: u32,
+    byte: u8,
     free: u32,
 ) -> Result<Grown, Stop>
     requires node_table { NodeTable cap nodes.old }
     requires n_lt_cap { n < cap }
-    requires byte_bound { byte < 256 }
     ensures result_after { made nodes.new result ≡ child_leaf nodes.old cap n byte free }
     ensures inside { node_in result ≤ cap }
 {

@@ -32,7 +32,7 @@ fn step_to(nodes: &[u32], cap: usize, bytes: &[u8], n: usize, level: usize) -> S
         return Step::Broken;
     }
     // No `From`: the same three lines, for this one place.
-    match find_place(nodes, cap, n, bytes[level] as u32) {
+    match find_place(nodes, cap, n, bytes[level]) {
         Place::Found { slot, child } => Step::Child { slot, child },
         Place::Missing { slot } => Step::Gap { slot },
         Place::Broken => Step::Broken,

@@ -9,19 +9,20 @@ ghost use Rattle.trie_check.specs.Trie.{left_if, tested, test_below, test_trie};
 
 use children::order::{enter, next_chain, past_child};
 use node_check::leaf::{Kind, kind_of, test_leaf};
+use node_check::leaves::Leaves;
 use node_check::scope::Scope;
 use trie_visit::{Move, Place, visit};
 
 // After a leaf with a byte: `link` is after it, `pages` what is left of the page budget.
-fn past_leaf(place: Place, byte: u32, link: u32, pages: u32) -> Place
-    requires { (byte < 256) × (0 < place.left) }
+fn past_leaf(place: Place, byte: u8, link: u32, pages: u32) -> Place
+    requires { 0 < place.left }
     ensures { result ≡ placed place.depth (past_child place.frame byte link) (place.left - 1) pages }
 {
     Place {
-        depth: place.depth,
         frame: past_child(place.frame, byte, link),
         left: place.left - 1,
         pages,
+        ..place
     }
 }
 
@@ -37,11 +38,12 @@ fn enter_child(nodes: &[u32], cap: usize, place: Place, x: u32) -> Place
         depth: place.depth + 1,
         frame: enter(nodes, cap, x as usize),
         left: place.left - 1,
-        pages: place.pages,
+        ..place
     }
 }
 
-// Tests what is below an inner root. What is left of the node budget; the page budget is to be spent.
+// Tests what is below an inner root. What is left of the node budget; the page budget is to be spent. The map's size is a clause here and in
+// `test_trie`: it is lent with `&mut` beside the scope.
 fn test_below(scope: &Scope<'_>, map: &mut [u32], root: usize, left: u32, live: u32) -> Option<u32>
     requires bitmap { scope.now.window.size ≤ 32 * length map.old }
     requires root_lt_nodes { root < scope.now.block.nodes }
@@ -111,7 +113,13 @@ pub fn test_trie(
         Kind::Leaf(first) => {
             let path = [0u8; 64];
             let count = layout::nodes::page_count(scope.nodes, scope.block.nodes, root);
-            let n = test_leaf(scope, &path, 0, first, count, live)?;
+            let leaves = Leaves {
+                pages: scope.pages,
+                sketches: scope.sketches,
+                block: scope.block,
+                rows: scope.rows,
+            };
+            let n = test_leaf(&leaves, &path, 0, first, count, live)?;
             (n == 0).then_some(left)
         }
     }

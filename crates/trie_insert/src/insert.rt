@@ -39,7 +39,7 @@ pub fn leaf_for(
             free,
         }),
         Reach::Gap(at) => {
-            let made = fresh_leaf(nodes, cap, at.slot, bytes[at.level] as u32, free)?;
+            let made = fresh_leaf(nodes, cap, at.slot, bytes[at.level], free)?;
             Ok(Target {
                 leaf: made.node,
                 level: at.level + 1,

@@ -41,14 +41,13 @@ pub fn put_leaf(
     pages: &mut [u32],
     block: Block,
     n: usize,
-    byte: u32,
+    byte: u8,
     p: usize,
     free: u32,
 ) -> Result<Grown, Stop>
     requires node_table { NodeTable block.nodes nodes.old }
     requires page_table { PageTable block.pages block.base pages.old }
     requires n_lt_nodes { n < block.nodes }
-    requires byte_bound { byte < 256 }
     requires p_lt_pages { p < block.pages }
     ensures { after nodes.new pages.new result ≡ put_leaf_m nodes.old pages.old block.nodes block.base n byte p free }
 {

@@ -17,11 +17,10 @@ fn leaf_needs(
     k: usize,
     count: u32,
     first: u32,
-    byte: u32,
+    byte: u8,
 ) -> Option<usize>
     requires page_table { PageTable growth.now.block.pages growth.now.block.base pages.now }
     requires k_lt_bytes { k < growth.now.rows.bytes }
-    requires byte_bound { byte < 256 }
     ensures { result ≡ leaf_needs pages.now growth.now.sketches.now growth.now.thresholds.now growth.now.block.pages growth.now.block.base growth.now.rows k count first byte }
 {
     if growth.thresholds[k] > count {
@@ -67,7 +66,7 @@ pub fn needed_at(
             }
             let count = page_count(nodes, growth.block.nodes, at.node);
             let first = first_page(nodes, growth.block.nodes, at.node);
-            let byte = bytes[at.level] as u32;
+            let byte = bytes[at.level];
             leaf_needs(pages, growth, at.level, count, first, byte)
         }
         Reach::Gap(at) => Some(gap_needs(growth.thresholds, bytes.len(), at.level + 1)),

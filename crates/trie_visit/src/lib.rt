@@ -7,6 +7,7 @@ ghost use Rattle.trie_visit.specs.Visit.{seen, visit_child, visited, visit};
 
 use children::order::{Frame, Step};
 use node_check::leaf::{Kind, kind_of, test_leaf};
+use node_check::leaves::Leaves;
 use node_check::scope::Scope;
 
 // Where a walk stands: the level, the children still to be tested there, and what is left of the node and the page budget.
@@ -18,11 +19,12 @@ pub struct Place {
     pub pages: u32,
 }
 
-// A child: its number, its byte, and the link after it.
+// A child that was tested: its number, its byte, and the link after it. Beside the `Child` of `children`, whose byte is what a word holds,
+// up to 13 bits: here the type says that it is a byte.
 #[derive(Clone, Copy, Debug, PartialEq, Eq)]
 struct Child {
     node: u32,
-    byte: u32,
+    byte: u8,
     link: u32,
 }
 
@@ -32,14 +34,15 @@ pub enum Move {
     // to the next chain, by its first link
     Chain(u32),
     // past a leaf with a byte, to the link after it, with what is left of the page budget
-    Past { byte: u32, link: u32, pages: u32 },
+    Past { byte: u8, link: u32, pages: u32 },
     // to an inner node with a byte; `link` is after it
-    Down { node: u32, byte: u32, link: u32 },
+    Down { node: u32, byte: u8, link: u32 },
     // back to the node above
     Up,
 }
 
-// Tests a child of the node where the walk stands. None where the trie is not sound.
+// Tests a child of the node where the walk stands. None where the trie is not sound. The map's size is a clause, and no part of the scope:
+// a visit writes the map, which is lent with `&mut` beside it.
 #[tactic(auto, unfolding(crate::specs::Visit::visit_child))]
 fn visit_child(
     scope: &Scope<'_>,
@@ -73,7 +76,13 @@ fn visit_child(
                 return None;
             }
             let count = layout::nodes::page_count(scope.nodes, scope.block.nodes, x);
-            let pages = test_leaf(scope, path, below, first, count, place.pages)?;
+            let leaves = Leaves {
+                pages: scope.pages,
+                sketches: scope.sketches,
+                block: scope.block,
+                rows: scope.rows,
+            };
+            let pages = test_leaf(&leaves, path, below, first, count, place.pages)?;
             Some(Move::Past {
                 byte: child.byte,
                 link: child.link,
@@ -99,7 +108,7 @@ pub fn visit(scope: &Scope<'_>, map: &mut [u32], path: &mut [u8; 64], place: Pla
             if place.left == 0 {
                 return None;
             }
-            path[depth] = byte as u8;
+            path[depth] = byte;
             let child = Child { node, byte, link };
             visit_child(scope, map, path, place, child)
         }

@@ -12,7 +12,7 @@ use Rattle.layout.specs.Working.{map_words}
 use Rattle.promises.specs.Tables.{Tables}
 use Rattle.lent.specs.Lists.{held_with}
 use Rattle.entry.specs.Entry.{entry}
-use Rattle.check_store.proofs.Admitted.{Admitted, admitted, header-limits, lent-header, words-most, words-fit, working-long}
+use Rattle.check_store.proofs.Admitted.{Admitted, admitted, lent-header, words-most, words-fit, working-long}
 use Rattle.check_store.proofs.Promise.{check-refused, check_done}
 use Rattle.check_store.proofs.check.Goals as goal
 use Rattle.check_store.proofs.check.Goals.{After-map_words-words, After-test_store-sound, In_ok-h}

@@ -16,7 +16,7 @@ loop-init c =
     let args = c.args in
     let all : args.block.pages - 0 ≡ args.block.pages = omega arith in (
       rw all (count-start (page_byte args.sketches.now args.level) args.byte (replicate 256 false)
-          (chain_from args.pages.now args.block.base args.block.pages args.first args.block.pages) c.requires.byte_bound (no-flags 256)),
+          (chain_from args.pages.now args.block.base args.block.pages args.first args.block.pages) (omega arith) (no-flags 256)),
       length-set (replicate 256 false) args.byte true,
       omega arith,
     )
@@ -32,9 +32,9 @@ loop-preserved c =
     let call = c in
     let head = call in
     let v = call.page_byte-v.result in
-    let inside : v < length head.loop.seen = omega (arith, head.loop.invariant.1, call.page_byte-v.ensures.small) in (
+    let inside : v < length head.loop.seen = omega (arith, head.loop.invariant.1) in (
       bytes_next _ _ _ _ head.loop.seen head.loop.n _ _ _ head.loop.invariant.0 call.if-link-eq0.false
-          (omega arith) call.if-block-link.false _ _ refl (omega arith) v call.page_byte-v.ensures.value inside,
+          (omega arith) call.if-block-link.false _ _ refl (omega arith) v call.page_byte-v.ensures inside,
       length-set head.loop.seen v true ∙ head.loop.invariant.1,
       omega (arith, flag-most (not (flagged head.loop.seen v))),
     )

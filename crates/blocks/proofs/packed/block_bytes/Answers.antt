@@ -4,7 +4,6 @@ use mathlib.Core.Path.{ap, ◌∙◌}
 use lib.ListN.{take}
 use Rattle.layout.specs.Headers.{given_by}
 use Rattle.meaning.specs.Forest.{block_bytes, bytes_of_sketch}
-use Rattle.layout.specs.Header.{bare}
 use Rattle.blocks.proofs.BlockBytes.{bytes_most, bytes-first}
 use Rattle.blocks.proofs.packed.block_bytes.Goals as goal
 

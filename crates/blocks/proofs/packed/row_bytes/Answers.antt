@@ -24,7 +24,7 @@ loop-k-preserved c =
     let loop = c in (
       simp length-set loop.loop-k.invariant.0,
       written-more (λ i. page_byte loop.args.sketches.now (level_at loop.rows_of-rows.result i) loop.args.p)
-          loop.loop-k.bytes loop.loop-k.k c.page_byte.result (omega (arith, (rows (goal.at.loop-k-preserved loop).After-rows_of-rows).short)) (c.page_byte.ensures.value ∙ ap (λ v. page_byte loop.args.sketches.now v loop.args.p) c.level_at.ensures)
+          loop.loop-k.bytes loop.loop-k.k c.page_byte.result (omega (arith, (rows (goal.at.loop-k-preserved loop).After-rows_of-rows).short)) (c.page_byte.ensures ∙ ap (λ v. page_byte loop.args.sketches.now v loop.args.p) c.level_at.ensures)
           loop.loop-k.invariant.1,
     )
 

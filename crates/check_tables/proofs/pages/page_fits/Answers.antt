@@ -4,7 +4,6 @@ use native.Mathlib.Omega.{arith}
 use mathlib.Core.Path.{ap, ◌∙◌}
 use lib.ListN.{length}
 use Rattle.layout.specs.Headers.{given_by}
-use Rattle.layout.specs.Header.{bare}
 use Rattle.layout.specs.Lengths.{sketches_length}
 use Rattle.layout.proofs.Words.{page-inside, signature-inside}
 use Rattle.layout.proofs.Rows.{row_inside, length-row}

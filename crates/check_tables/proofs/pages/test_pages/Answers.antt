@@ -1,7 +1,6 @@
 -- The function `test_pages` is the definition `test_pages`.
 use native.Mathlib.Omega.{arith}
 use Rattle.layout.specs.Headers.{given_by}
-use Rattle.layout.specs.Header.{bare}
 use Rattle.layout.proofs.Words.{page-inside}
 use Rattle.leaf_bytes.proofs.Count.{flag-most}
 use Rattle.check_tables.proofs.PageSteps.{count-done, count-fails, count-more}

@@ -1,7 +1,6 @@
 use Prim.Native.Nat.{◌-◌, ◌≤◌}
 use mathlib.Core.Path.{◌≡◌}
 use Rattle.layout.specs.Headers.{given_by}
-use Rattle.layout.specs.Header.{bare}
 use Rattle.layout.specs.Pages.{is_live}
 use Rattle.check_tables.specs.Pages.{page_fits, count_from, test_pages}
 use Rattle.check_tables.proofs.pages.test_pages.Given as goal

@@ -1,7 +1,6 @@
 -- `test_block` is the test of block j's trie.
 use mathlib.Core.Path.{◌∙◌}
 use Rattle.layout.specs.Headers.{given_by}
-use Rattle.layout.specs.Header.{bare}
 use Rattle.check_tries.proofs.Fits.{readable-block, tested-block}
 use Rattle.check_tries.proofs.windows.test_block.Goals as goal
 

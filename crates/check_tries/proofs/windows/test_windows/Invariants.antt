@@ -2,7 +2,6 @@ use Prim.Native.Nat.{◌-◌}
 use mathlib.Core.Path.{◌≡◌}
 use lib.ListN.{length}
 use Rattle.layout.specs.Headers.{given_by}
-use Rattle.layout.specs.Header.{bare}
 use Rattle.check_tries.specs.Windows.{windows_from, test_windows}
 use Rattle.check_tries.proofs.windows.test_windows.Given as goal
 

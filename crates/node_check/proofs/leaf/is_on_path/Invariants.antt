@@ -6,4 +6,4 @@ use Rattle.node_check.proofs.LeafSteps.{match_at}
 use Rattle.node_check.proofs.leaf.is_on_path.Given as goal
 
 abbrev pub invariant-loop-k : goal.invariant-loop-k
-invariant-loop-k l = all (match_at l.scope.sketches.now l.scope.rows l.path l.p) (from l.k (l.depth - l.k)) ≡ on_path l.scope.sketches.now l.scope.rows l.path l.depth l.p
+invariant-loop-k l = all (match_at l.leaves.sketches.now l.leaves.rows l.path l.p) (from l.k (l.depth - l.k)) ≡ on_path l.leaves.sketches.now l.leaves.rows l.path l.depth l.p

@@ -23,6 +23,6 @@ returns-then-not-is_on_path c = sym (pages-astray _ _ _ _ _ _ _ _ _ (omega arith
 pub loop-link-preserved : goal.loop-link-preserved
 loop-link-preserved c = (
   sym (pages-next _ _ _ _ _ _ _ _ _ (omega arith) (omega arith) (omega arith) (sym c.is_live.ensures ∙ c.if-not-is_live.false) (sym c.is_on_path.ensures ∙ c.if-not-is_on_path.false)) ∙ c.loop-link.invariant.0,
-  omega (arith, c.type_inv.pages (c.args.scope.now.block.base + (c.loop-link.link - 1))),
+  omega (arith, c.type_inv.pages (c.args.leaves.now.block.base + (c.loop-link.link - 1))),
   omega arith,
 )

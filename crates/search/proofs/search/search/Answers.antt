@@ -52,8 +52,8 @@ returns-in_err-ask_query-clause-model c =
     rw (up, query-needed _ _ _ _ _ c.in_err-ask_query.ensures)
     (promise-query _ _ _ _ _ _ (sym c.in_ok-h.ensures) _ c.map_words-words.ensures _ c.clear_marks.ensures _ c.in_err-ask_query.ensures (not_zero _)).1
 
-pub probe_of-probe-requires-clause-fits : goal.probe_of-probe-requires-clause-fits
-probe_of-probe-requires-clause-fits c = (passed (goal.at.probe_of-probe-requires-clause-fits c).In_ok-ask_query).1
+pub probe_of-probe-requires : goal.probe_of-probe-requires
+probe_of-probe-requires c = record { fits = (passed (goal.at.probe_of-probe-requires c).In_ok-ask_query).1 }
 
 pub invariant_of-trial : goal.invariant_of-trial
 invariant_of-trial c =
@@ -62,6 +62,13 @@ invariant_of-trial c =
     rw c.probe_of-probe.ensures record {
       fitting = record { limits = o.limits; pages = o.pages-long; sketches = o.sketches-long; query = q.count };
       prepared = refl;
+    }
+
+pub invariant_of-quest : goal.invariant_of-quest
+invariant_of-quest c =
+    let o = opened (goal.at.invariant_of-quest c).In_ok-h in
+    let q = (passed (goal.at.invariant_of-quest c).In_ok-ask_query).1 in
+    rw c.probe_of-probe.ensures record {
       nodes_long = o.nodes-long;
       range = q.range;
       bits = entered-bits _ _ o _ c.map_words-words.ensures;
@@ -78,10 +85,10 @@ find-requires-clause-summarised c = entered-summary _ _ (opened (goal.at.find-re
 
 pub returns-clause-search_promise : goal.returns-clause-search_promise
 returns-clause-search_promise c =
-    (promise-found _ _ _ _ _ _ (sym c.in_ok-h.ensures) _ c.map_words-words.ensures _ c.clear_marks.ensures (sym c.in_ok-ask_query.ensures) _ c.entry-classes.ensures _ c.probe_of-probe.ensures
+    (promise-found _ _ _ _ _ _ (sym c.in_ok-h.ensures) _ c.map_words-words.ensures _ c.clear_marks.ensures (sym c.in_ok-ask_query.ensures) _ c.entry-classes.ensures _ c.in_ok-h.h refl c.probe_of-probe.ensures
     _ _ _ _ c.find.ensures.answered c.find.ensures.map_after).0
 
 pub returns-clause-model : goal.returns-clause-model
 returns-clause-model c =
-    (promise-found _ _ _ _ _ _ (sym c.in_ok-h.ensures) _ c.map_words-words.ensures _ c.clear_marks.ensures (sym c.in_ok-ask_query.ensures) _ c.entry-classes.ensures _ c.probe_of-probe.ensures
+    (promise-found _ _ _ _ _ _ (sym c.in_ok-h.ensures) _ c.map_words-words.ensures _ c.clear_marks.ensures (sym c.in_ok-ask_query.ensures) _ c.entry-classes.ensures _ c.in_ok-h.h refl c.probe_of-probe.ensures
     _ _ _ _ c.find.ensures.answered c.find.ensures.map_after).1

@@ -17,7 +17,7 @@ begin-long : (c : After-begin-batch) → length c.begin-batch.result.links ≡ 1
 begin-long c = search rules
 
 -- the chains of a batch
-linked : (c : After-chains_of-cs) → Linked (base_of (next_at c.args.trial.now.probe.header.pages c.args.start.block) 0) c.loop-tally.batch.links c.loop-tally.batch.n c.chains_of-cs.result
+linked : (c : After-chains_of-cs) → Linked (base_of (next_at c.args.quest.now.trial.probe.header.pages c.args.start.block) 0) c.loop-tally.batch.links c.loop-tally.batch.n c.chains_of-cs.result
 linked c = linked-from _ _ _ c.next_at-base.ensures c.chains_of-cs.ensures
 
 next-long : (c : After-next-batch) → length c.next-batch.result.links ≡ 16
@@ -25,8 +25,8 @@ next-long c = search rules
 
 pub invariant_of-walk : goal.invariant_of-walk
 invariant_of-walk c =
-    let trial = c.args.trial.now in
-    record { fitting = fitting (numbers trial.probe.header) trial.fitting.limits _ _ trial.nodes_long trial.fitting.query _ c.requires.block_lt_q.0 _ c.pack-packed.ensures.same }
+    let trial = c.args.quest.now.trial in
+    record { fitting = fitting (numbers trial.probe.header) trial.fitting.limits _ _ c.args.quest.now.nodes_long trial.fitting.query _ c.requires.block_lt_q.0 _ c.pack-packed.ensures.same }
 
 pub loop-tally-init : goal.loop-tally-init
 loop-tally-init c = walking_start _ _ _ _ _ _ _ _ _ _ (c.begin-batch.ensures _ refl) (begin-long (goal.at.loop-tally-init c).After-begin-batch) c.requires.tallied
@@ -34,7 +34,7 @@ loop-tally-init c = walking_start _ _ _ _ _ _ _ _ _ _ (c.begin-batch.ensures _ r
 pub meet-requires-clause-inside : goal.meet-requires-clause-inside
 meet-requires-clause-inside c =
     inside-in _ (linked (goal.at.meet-requires-clause-inside c).After-chains_of-cs) c.loop-tally.invariant.gives.few _ _
-    (links-inside (numbers c.args.trial.now.probe.header) _ c.args.trial.now.fitting.pages _ c.requires.block_lt_q.0)
+    (links-inside (numbers c.args.quest.now.trial.probe.header) _ c.args.quest.now.trial.fitting.pages _ c.requires.block_lt_q.0)
 
 pub returns-in_err-tally : goal.returns-in_err-tally
 returns-in_err-tally c =

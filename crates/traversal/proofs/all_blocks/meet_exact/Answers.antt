@@ -15,15 +15,15 @@ use Rattle.traversal.proofs.all_blocks.meet_exact.Goals.{After-chains_of-each}
 
 -- the chains, a leaf of each block
 linked : (c : After-chains_of-each) →
-    let h = (numbers c.args.trial.now.probe.header) in
+    let h = (numbers c.args.quest.now.trial.probe.header) in
     Linked (base_of (next_at h.pages 0) h.pages) c.leaves-ends.result.firsts h.q c.chains_of-each.result
 linked c = linked-from _ _ _ c.next_at.ensures c.chains_of-each.ensures
 
-few : (c : After-chains_of-each) → c.args.trial.now.probe.header.q ≤ 16
-few c = omega (arith, c.args.trial.now.fitting.limits.blocks-most)
+few : (c : After-chains_of-each) → c.args.quest.now.trial.probe.header.q ≤ 16
+few c = omega (arith, c.args.quest.now.trial.fitting.limits.blocks-most)
 
 pub leaves-ends-requires-clause-nodes_in_bounds : goal.leaves-ends-requires-clause-nodes_in_bounds
-leaves-ends-requires-clause-nodes_in_bounds c = nodes-there (numbers c.args.trial.now.probe.header) _ c.args.trial.now.nodes_long
+leaves-ends-requires-clause-nodes_in_bounds c = nodes-there (numbers c.args.quest.now.trial.probe.header) _ c.args.quest.now.nodes_long
 
 pub returns-in_err-left : goal.returns-in_err-left
 returns-in_err-left c =
@@ -34,7 +34,7 @@ returns-in_err-left c =
 pub meet-requires-clause-inside : goal.meet-requires-clause-inside
 meet-requires-clause-inside c =
     let at = (goal.at.meet-requires-clause-inside c).After-chains_of-each in
-    inside-each _ (linked at) (few at) _ (links-inside (numbers c.args.trial.now.probe.header) _ c.args.trial.now.fitting.pages)
+    inside-each _ (linked at) (few at) _ (links-inside (numbers c.args.quest.now.trial.probe.header) _ c.args.quest.now.trial.fitting.pages)
 
 pub returns-in_err-met : goal.returns-in_err-met
 returns-in_err-met c =

@@ -23,12 +23,7 @@ next_chain-place-requires c = chain-inside _ _ _ _ _ _ _ c.loop-turn.invariant.2
 pub past_leaf-place-requires : goal.past_leaf-place-requires
 past_leaf-place-requires c =
     let inside = past-inside _ _ _ _ _ _ _ c.loop-turn.invariant.2.inside.1 _ _ _ c.visit.ensures _ _ _ (c.in_ok-next.was ∙ ap Some c.in-Past.is) in
-    (inside.1, inside.0)
-
-pub past_child-requires : goal.past_child-requires
-past_child-requires c =
-    let inside = down-inside _ _ _ _ _ _ _ c.loop-turn.invariant.2.inside.1 _ _ _ c.visit.ensures _ _ _ (c.in_ok-next.was ∙ ap Some c.in-Down.is) in
-    inside.1
+    inside.0
 
 pub returns-then-place-eq0 : goal.returns-then-place-eq0
 returns-then-place-eq0 c =

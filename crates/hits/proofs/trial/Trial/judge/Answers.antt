@@ -44,6 +44,9 @@ returns-then-probe c =
     within _ _ _ c.measure.ensures (omega (arith, c.if-probe.true, trial.fitting.query, distance-le (row_of trial.probe.header.m trial.sketches.now c.args.p) trial.query.now))
     ∙ judged (tried trial) _ c.requires (alive at) (sym (class-answer at) ∙ c.if-not-is_open.false) (sym c.is_near.ensures ∙ c.if-not-is_near.false) _ refl
 
+pub measure-requires : goal.measure-requires
+measure-requires c = let fit = c.args.self.now.fitting in record { h_in_bounds = fit.sketches; query_len = fit.query; p_lt_pages = c.requires }
+
 pub row-row-requires : goal.row-row-requires
 row-row-requires c = row_fits (tried c.args.self.now) _ c.requires c.args.self.now.fitting
 
