@@ -1,19 +1,20 @@
 // A leaf that is too long then is split: its pages go into leaves below.
-ghost use Rattle.std.specs.Prelude.{◌≡◌, ◌+◌, ◌<◌, ◌≤◌, length};
+ghost use Rattle.std.specs.Prelude.{◌≡◌, ◌+◌, ◌<◌};
 ghost use Rattle.layout.specs.Tables.{NodeTable, PageTable};
 ghost use Rattle.blocks.specs.Tables.{SketchTable};
 ghost use Rattle.trie_insert.specs.Pages.{after};
 ghost use Rattle.trie_insert.specs.Split.{split_from, too_long, split_leaf, grow_leaf};
 
 use crate::pages::{push_page, put_leaf};
-use blocks::{Level, Rows};
+use blocks::Level;
 use layout::Block;
 use layout::nodes::{State, page_count, set_state};
 use trie::Stop;
 use trie::growth::Growth;
 use trie::leaf::Grown;
 
-// The pages of a chain, each in turn put into the child leaf of its byte; the answer is node n.
+// The pages of a chain, each in turn put into the child leaf of its byte; the answer is node n. No `Growth`: it would ask more of the
+// caller, rows and thresholds, of which nothing is read here.
 #[tactic(auto, unfolding(crate::specs::Split::split_from))]
 pub fn split_pages(
     nodes: &mut [u32],
@@ -55,16 +56,15 @@ pub fn split_pages(
 
 // Whether leaf n at level k is too long, by the number that stands in it.
 #[tactic(auto, unfolding(crate::specs::Split::too_long))]
-fn too_long(nodes: &[u32], thresholds: &[u32], cap: usize, rows: Rows, k: usize, n: usize) -> bool
-    requires node_table { NodeTable cap nodes.now }
-    requires bytes_in_bounds { rows.bytes ≤ length thresholds.now }
-    requires n_lt_cap { n < cap }
-    ensures { result ≡ too_long thresholds.now rows nodes.now cap k n }
+fn too_long(nodes: &[u32], growth: &Growth<'_>, k: usize, n: usize) -> bool
+    requires node_table { NodeTable growth.now.block.nodes nodes.now }
+    requires n_lt_nodes { n < growth.now.block.nodes }
+    ensures { result ≡ too_long growth.now.thresholds.now growth.now.rows nodes.now growth.now.block.nodes k n }
 {
-    if k >= rows.bytes {
+    if k >= growth.rows.bytes {
         return false;
     }
-    thresholds[k] < page_count(nodes, cap, n)
+    growth.thresholds[k] < page_count(nodes, growth.block.nodes, n)
 }
 
 // Leaf n at level k as an inner node without children, its pages, which are loose then, in leaves below.
@@ -106,9 +106,8 @@ pub fn grow_leaf(
     requires p_lt_pages { p < growth.now.block.pages }
     ensures { after nodes.new pages.new result ≡ grow_leaf growth.now.sketches.now growth.now.thresholds.now growth.now.rows growth.now.block.nodes growth.now.block.pages growth.now.block.base nodes.old pages.old k n p free }
 {
-    let block = growth.block;
-    push_page(nodes, pages, block, n, p)?;
-    if !too_long(nodes, growth.thresholds, block.nodes, growth.rows, k, n) {
+    push_page(nodes, pages, growth.block, n, p)?;
+    if !too_long(nodes, growth, k, n) {
         return Ok(Grown { node: n, free });
     }
     let first = (p + 1) as u32;
