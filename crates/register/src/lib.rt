@@ -23,7 +23,8 @@ fn admit(settings: &[u32], change: Change) -> Result<(), Refusal>
     Ok(())
 }
 
-// Makes the change, if no question says no.
+// Makes the change, if no question says no. Inline: each call for C then has the one change that it makes.
+#[inline(always)]
 pub fn change(settings: &mut [u32], change: Change) -> Result<(), Refusal>
     ensures { RightsPromise (change_meant change) settings.old (answer_number result) settings.new }
 {
