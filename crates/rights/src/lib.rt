@@ -47,7 +47,8 @@ pub fn is_in_range(change: Change) -> bool
     }
 }
 
-// Makes a change whose numbers are in range.
+// Makes a change whose numbers are in range. Inline, as `register::change` is.
+#[inline(always)]
 #[tactic(auto, unfolding(crate::specs::Changes::change_meant, crate::specs::Entries::registered), using(crate::proofs::Ranges::below))]
 pub fn make_change(ws: &mut [u32], change: Change)
     requires long { settings_length ≤ length ws.old }
