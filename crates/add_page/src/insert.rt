@@ -11,6 +11,7 @@ use blocks::{block_of, rows_of};
 use layout::Header;
 use layout::settings::LEVELS;
 use trie::Stop;
+use trie::growth::Growth;
 use trie::leaf::Grown;
 use trie_insert::insert::insert_page;
 
@@ -33,21 +34,14 @@ fn insert_block(
 {
     // An array and not a Vec, since there is no heap; what is called gets the block's part of it.
     let bytes = block_bytes(h, sketch, j);
-    let block = block_of(h, j);
-    let rows = rows_of(h, j);
-    let n = rows.bytes;
-    insert_page(
-        nodes,
-        pages,
+    let growth = Growth {
         sketches,
         thresholds,
-        &bytes[..n],
-        block,
-        rows,
-        j,
-        p,
-        free,
-    )
+        block: block_of(h, j),
+        rows: rows_of(h, j),
+    };
+    let n = growth.rows.bytes;
+    insert_page(nodes, pages, &growth, &bytes[..n], j, p, free)
 }
 
 // The free link then, or none where it stopped on unsound tables.

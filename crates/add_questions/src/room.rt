@@ -11,6 +11,7 @@ use layout::Header;
 use layout::settings::LEVELS;
 use lent::View;
 use trie::Stop;
+use trie::growth::Growth;
 use trie::span::enough_free;
 use trie_room::needed::nodes_needed;
 
@@ -29,19 +30,14 @@ fn block_needs(
 {
     // An array and not a Vec, since there is no heap; what is called gets the block's part of it.
     let bytes = block_bytes(h, sketch, j);
-    let block = block_of(h, j);
-    let rows = rows_of(h, j);
-    let n = rows.bytes;
-    nodes_needed(
-        view.nodes,
-        view.pages,
-        view.sketches,
+    let growth = Growth {
+        sketches: view.sketches,
         thresholds,
-        block,
-        rows,
-        &bytes[..n],
-        j,
-    )
+        block: block_of(h, j),
+        rows: rows_of(h, j),
+    };
+    let n = growth.rows.bytes;
+    nodes_needed(view.nodes, view.pages, &growth, &bytes[..n], j)
 }
 
 // The tries of all blocks together.

@@ -1,6 +1,7 @@
 // One block's trie in the node table and the page table: where things stand in it.
 #![tactic(auto)]
 
+pub mod growth;
 pub mod leaf;
 pub mod path;
 pub mod span;

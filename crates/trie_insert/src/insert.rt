@@ -1,14 +1,12 @@
 // A page put into one block's trie.
-ghost use Rattle.std.specs.Prelude.{◌≡◌, ◌<◌, ◌≤◌, length};
+ghost use Rattle.std.specs.Prelude.{◌≡◌, ◌<◌, ◌≤◌};
 ghost use Rattle.layout.specs.Tables.{NodeTable, PageTable};
-ghost use Rattle.blocks.specs.Tables.{RowTable};
 ghost use Rattle.trie_insert.specs.Pages.{after};
 ghost use Rattle.trie_insert.specs.Insert.{aimed, leaf_for, target_in, insert_page};
 
 use crate::split::grow_leaf;
-use blocks::Rows;
-use layout::Block;
 use trie::Stop;
+use trie::growth::Growth;
 use trie::leaf::{Grown, fresh_leaf};
 use trie::path::{Reach, descend_to};
 
@@ -56,31 +54,23 @@ pub fn leaf_for(
 pub fn insert_page(
     nodes: &mut [u32],
     pages: &mut [u32],
-    sketches: &[u8],
-    thresholds: &[u32],
+    growth: &Growth<'_>,
     bytes: &[u8],
-    block: Block,
-    rows: Rows,
     root: usize,
     p: usize,
     free: u32,
 ) -> Result<Grown, Stop>
-    requires node_table { NodeTable block.nodes nodes.old }
-    requires page_table { PageTable block.pages block.base pages.old }
-    requires row_table { RowTable block.pages rows sketches.now }
-    requires bytes_in_bounds { rows.bytes ≤ length thresholds.now }
-    requires root_lt_nodes { root < block.nodes }
-    requires p_lt_pages { p < block.pages }
-    ensures { after nodes.new pages.new result ≡ insert_page sketches.now thresholds.now rows block.nodes block.pages block.base nodes.old pages.old bytes.now root p free }
+    requires node_table { NodeTable growth.now.block.nodes nodes.old }
+    requires page_table { PageTable growth.now.block.pages growth.now.block.base pages.old }
+    requires root_lt_nodes { root < growth.now.block.nodes }
+    requires p_lt_pages { p < growth.now.block.pages }
+    ensures { after nodes.new pages.new result ≡ insert_page growth.now.sketches.now growth.now.thresholds.now growth.now.rows growth.now.block.nodes growth.now.block.pages growth.now.block.base nodes.old pages.old bytes.now root p free }
 {
-    let target = leaf_for(nodes, block.nodes, bytes, root, free)?;
+    let target = leaf_for(nodes, growth.block.nodes, bytes, root, free)?;
     grow_leaf(
         nodes,
         pages,
-        sketches,
-        thresholds,
-        block,
-        rows,
+        growth,
         target.level,
         target.leaf,
         p,

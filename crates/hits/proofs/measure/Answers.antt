@@ -17,9 +17,6 @@ inside c = row_inside c.args.h.m c.args.h.pages (length c.args.sketches.now) c.r
 long : (c : Start) → length (row_of c.args.h.m c.args.sketches.now c.args.p) ≡ c.args.h.m
 long c = length-row _ _ _ (inside c)
 
-pub row-requires : goal.row-requires
-row-requires c = inside (goal.at.row-requires c).Start
-
 pub distance-requires-clause-xs_len : goal.distance-requires-clause-xs_len
 distance-requires-clause-xs_len c = ap length c.row.ensures.result_value ∙ long (goal.at.distance-requires-clause-xs_len c).Start ∙ sym c.requires.query_len
 

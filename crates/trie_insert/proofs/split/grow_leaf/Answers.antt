@@ -17,4 +17,4 @@ pub returns : goal.returns
 returns c = grow-split _ _ _ _ _ _ _ _ _ _ _ _ _ _ _ c.in_ok-push_page.ensures refl _ c.too_long.ensures c.if-not-too_long.false _ _ _ c.split_leaf.ensures
 
 pub split_leaf-requires-clause-k_bound : goal.split_leaf-requires-clause-k_bound
-split_leaf-requires-clause-k_bound c = long-below _ _ _ _ _ _ _ _ _ c.too_long.ensures (c.if-not-too_long.false) c.requires.row_table
+split_leaf-requires-clause-k_bound c = long-below _ _ _ _ _ _ _ _ _ c.too_long.ensures c.if-not-too_long.false c.args.growth.now.row_table

@@ -4,8 +4,8 @@ use Rattle.blocks.proofs.Bytes.{level-path}
 use Rattle.trie_room.proofs.Ways.{leaf-splits, leaf-stays}
 use Rattle.trie_room.proofs.needed.leaf_needs.Goals as goal
 
-pub returns-then-thresholds-k : goal.returns-then-thresholds-k
-returns-then-thresholds-k c = search leaf-stays
+pub returns-then-growth-k : goal.returns-then-growth-k
+returns-then-growth-k c = search leaf-stays
 
 pub returns : goal.returns
 returns c = search (leaf-splits, arith)

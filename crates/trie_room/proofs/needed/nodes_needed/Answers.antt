@@ -7,6 +7,7 @@ pub returns : goal.returns
 unfolding nodes_needed
 returns c =
     let args = c.args in
+    let growth = args.growth.now in
     c.needed_at.ensures
-    ∙ ap (needed_at args.pages.now args.sketches.now args.thresholds.now args.block.pages args.block.base args.rows args.bytes.now args.nodes.now args.block.nodes)
+    ∙ ap (needed_at args.pages.now growth.sketches.now growth.thresholds.now growth.block.pages growth.block.base growth.rows args.bytes.now args.nodes.now growth.block.nodes)
     c.descend_to-reach.ensures.value
