@@ -61,10 +61,9 @@ pub fn past_child(frame: Frame, byte: u8, link: u32) -> Frame
     ensures { result ≡ past_child frame byte link }
 {
     Frame {
-        node: frame.node,
-        group: frame.group,
         link,
         least: byte as u32 + 1,
+        ..frame
     }
 }
 
@@ -75,10 +74,10 @@ pub fn next_chain(frame: Frame, link: u32) -> Frame
 {
     let group = frame.group + 1;
     Frame {
-        node: frame.node,
         group,
         link,
         least: 32 * group,
+        ..frame
     }
 }
 

@@ -67,7 +67,8 @@ fn search_in(
     search(index.view(sketches), working, reader, radius, query, output)
 }
 
-// Carries a command out, by a match: each call has operands of its own. A search gives its count, and any other 0. Its m symbols, where it has any, lie in the journal's bytes.
+// Carries a command out, by a match: each call has operands of its own. A search gives its count, and any other 0. Its m symbols, where
+// it has any, lie in the journal's bytes.
 #[tactic(auto, unfolding(journal::specs::Steps::symbols_end, journal::specs::Steps::meant))]
 pub fn execute(desk: &mut Desk<'_>, bytes: &[u8], m: u8, command: Command) -> Result<u32, Refusal>
     requires { symbols_end m command ≤ length bytes.now }

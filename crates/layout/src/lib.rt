@@ -24,6 +24,7 @@ impl Numbers {
     ghost use Rattle.meaning.specs.Ledger.{settings_given};
     ghost use Rattle.layout.specs.Header.{header_of};
 
+    // In the order of an opening.
     pub fn new(b: u32, m: u32, q: u32, page_capacity: u32, node_capacity: u32) -> Numbers
         ensures { result ≡ header_of (settings_given b m q page_capacity node_capacity []) }
     {
@@ -53,6 +54,7 @@ impl Header {
     ghost use Rattle.layout.specs.Limits.{HeaderLimits};
     ghost use Rattle.layout.specs.Headers.{numbers};
 
+    // Of numbers that have passed it.
     pub fn new(given: Numbers) -> Header
         requires { HeaderLimits given }
         ensures { numbers result ≡ given }

@@ -1,4 +1,5 @@
-// Blocks of a sketch: the first (m mod q) have one symbol more than the others.
+// Blocks of a sketch: the first (m mod q) have one symbol more than the others. Which block is told by m, q and j: three numbers, as
+// the definitions have them; a struct of the three would be made anew at each call.
 ghost use Rattle.std.specs.Prelude.{◌≡◌, true, ◌<◌, ◌≤◌, length};
 ghost use Rattle.meaning.specs.Lists.{onto};
 ghost use Rattle.meaning.specs.Sketch.{in_range, packed_length, pack, block_length, block_start, block};
