@@ -20,7 +20,7 @@ pub fn admit(view: View<'_>, page: u32, class: u32, sketch: &[u8]) -> Result<Hea
     if CLASSES <= class {
         return Err(Refusal::OutOfRange);
     }
-    entry::ask_page(h, view.pages, page, false)?;
+    entry::ask_page(h.pages, view.pages, page, false)?;
     if sketch.len() != h.m {
         return Err(Refusal::BadLength);
     }

@@ -16,6 +16,6 @@ pub fn admit(view: View<'_>, page: u32) -> Result<Header, Refusal>
     ensures { numbers_in (numbered result) ≡ admission (held view.entry) (drop page) }
 {
     let h = entry::admit(view)?;
-    entry::ask_page(h, view.pages, page, true)?;
+    entry::ask_page(h.pages, view.pages, page, true)?;
     Ok(h)
 }

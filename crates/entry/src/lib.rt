@@ -58,11 +58,11 @@ pub fn admit(view: View<'_>) -> Result<Header, Refusal>
 
 // 8 and 9: is the page below the capacity, and live where it is to be?
 #[tactic(auto, unfolding(meaning::specs::Refusal::first_no, crate::specs::Entry::page_asked))]
-pub fn ask_page(h: Header, pages: &[u32], page: u32, live: bool) -> Result<(), Refusal>
-    requires { h.pages ≤ length pages.now }
-    ensures { answer_number result ≡ first_no (page_asked h.pages pages.now page live) }
+pub fn ask_page(capacity: usize, pages: &[u32], page: u32, live: bool) -> Result<(), Refusal>
+    requires { capacity ≤ length pages.now }
+    ensures { answer_number result ≡ first_no (page_asked capacity pages.now page live) }
 {
-    if h.pages <= page as usize {
+    if capacity <= page as usize {
         return Err(Refusal::NoSuchPage);
     }
     if layout::pages::is_live(pages, page as usize) != live {

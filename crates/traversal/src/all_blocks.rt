@@ -43,7 +43,6 @@ fn meet_block(
         cap: h.nodes,
         b: h.b as u32,
         bytes: &bytes[..n],
-        distances: quest.trial.distances,
     };
     let base = layout::pages::next_at(h.pages, j);
     let mut stack = [Frame::NONE; 64];
@@ -58,7 +57,7 @@ fn meet_block(
         tally = meet(&quest.trial, quest.words, map, counts, cs, tally)?;
         match batch.rest {
             Rest::More { place } => {
-                batch = walk::batch::next(&walk, &mut stack, place);
+                batch = walk::batch::next(&walk, quest.trial.distances, &mut stack, place);
             }
             Rest::Done { nodes } => {
                 return Some(Tally {

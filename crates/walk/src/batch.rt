@@ -7,6 +7,7 @@ ghost use Rattle.walk.specs.Waiting.{rest_of, Settled};
 ghost use Rattle.walk.specs.Batch.{bare, from, Standing, Gives, Begins};
 
 use descent::{Cursor, Descents};
+use distances::Distances;
 use layout::nodes::Kind;
 use walk_steps::frame;
 use walk_steps::frame::Frame;
@@ -110,7 +111,7 @@ pub fn begin(walk: &Walk<'_>, root: usize, radius: u32, budget: u32) -> Batch
 }
 
 // Goes on from a place until 16 leaves wait or the walk is over. The frames of the nodes above lie in the stack.
-pub fn next(walk: &Walk<'_>, stack: &mut [Frame; 64], start: Place) -> Batch
+pub fn next(walk: &Walk<'_>, distances: &Distances, stack: &mut [Frame; 64], start: Place) -> Batch
     requires { Standing (given_of walk.now) stack.old start }
     ensures { Gives (given_of walk.now) stack.new (from (given_of walk.now) stack.old start) start.steps result }
 {
@@ -119,7 +120,7 @@ pub fn next(walk: &Walk<'_>, stack: &mut [Frame; 64], start: Place) -> Batch
     let mut n = 0;
     // No `for`: n counts leaves, not turns.
     while n < 16 {
-        match turn(walk, place) {
+        match turn(walk, distances, place) {
             Move::Chain { at, link } => {
                 place = place.on_chain(at, link);
             }

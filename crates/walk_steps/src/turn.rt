@@ -9,6 +9,7 @@ use crate::place::Place;
 use crate::walk::Walk;
 use children::cursor::Next;
 use descent::Cursor;
+use distances::Distances;
 use layout::nodes::Kind;
 
 // Where a step leads; `link` is the one to go on from. An enum: six things can come next.
@@ -62,7 +63,7 @@ fn reach(walk: &Walk<'_>, x: usize, level: usize, radius: u32, link: u32) -> Mov
 
 // Takes one step for the query's bytes.
 #[tactic(auto, unfolding(crate::specs::Place::turned))]
-pub fn turn(walk: &Walk<'_>, place: Place) -> Move
+pub fn turn(walk: &Walk<'_>, distances: &Distances, place: Place) -> Move
     requires { (place.depth < length walk.now.bytes.now) × (place.frame.cursor.last < node_words walk.now.cap) }
     ensures { result ≡ turned (given_of walk.now) place }
 {
@@ -80,7 +81,7 @@ pub fn turn(walk: &Walk<'_>, place: Place) -> Move
             }
             let depth = place.depth;
             let v = (byte % 256) as u8 ^ walk.bytes[depth];
-            let d = walk.distances.byte_distance(walk.b, v);
+            let d = distances.byte_distance(walk.b, v);
             if frame.radius < d {
                 return Move::Past { link };
             }
