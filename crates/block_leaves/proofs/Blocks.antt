@@ -36,9 +36,9 @@ module _ (h : Numbers) (x : List ℕ) where
   packed_all p end = record { long = p.long; each = λ i k l m. p.each i k (omega (arith, p.most)) m }
 
   module _ (limits : HeaderLimits h) (count : length x ≡ h.m) {out : List ℕ} {j : ℕ} (p : PackedTo out j) (more : j < h.q) where
-    pub packed-fits : block_size h j ≤ length (take (length out - 64 * j) (drop (64 * j) out))
+    pub packed-fits : block_size h j ≤ length (take (512 - 64 * j) (drop (64 * j) out))
     packed-fits =
-        rw (take_all (length out - 64 * j) (drop (64 * j) out) (omega (arith, length-drop (64 * j) out)))
+        rw (take_all (512 - 64 * j) (drop (64 * j) out) (omega (arith, length-drop (64 * j) out, p.long)))
         (omega (arith, length-drop (64 * j) out, p.long, size-most h limits j more, limits.blocks-most))
 
     abbrev before : List ℕ
@@ -47,24 +47,24 @@ module _ (h : Numbers) (x : List ℕ) where
     before-long : length before ≡ 64 * j
     before-long = length-take-le (64 * j) out (omega (arith, p.long, limits.blocks-most))
 
-    pub packed-next : (part : List ℕ) → part ≡ onto (pack h.b (block h.m h.q j x)) (take (length out - 64 * j) (drop (64 * j) out))
-        → PackedTo (before ++ (part ++ drop (length out - 64 * j) (drop (64 * j) out))) (j + 1)
+    pub packed-next : (part : List ℕ) → part ≡ onto (pack h.b (block h.m h.q j x)) (take (512 - 64 * j) (drop (64 * j) out))
+        → PackedTo (before ++ (part ++ drop (512 - 64 * j) (drop (64 * j) out))) (j + 1)
     unfolding onto bytes_of_sketch
     packed-next part e = record { most = omega arith; long = long; each = each }
       where
         rest : List ℕ
-        rest = drop (length out - 64 * j) (drop (64 * j) out)
+        rest = drop (512 - 64 * j) (drop (64 * j) out)
 
         room : List ℕ
-        room = take (length out - 64 * j) (drop (64 * j) out)
+        room = take (512 - 64 * j) (drop (64 * j) out)
 
-        room-long : length room ≡ length out - 64 * j
-        room-long = length-take-le (length out - 64 * j) (drop (64 * j) out) (omega (arith, length-drop (64 * j) out))
+        room-long : length room ≡ 512 - 64 * j
+        room-long = length-take-le (512 - 64 * j) (drop (64 * j) out) (omega (arith, length-drop (64 * j) out, p.long))
 
         size : length (bytes_of j) ≡ block_size h j
         size = bytes-length h x count j more
 
-        part-long : length part ≡ length out - 64 * j
+        part-long : length part ≡ 512 - 64 * j
         part-long =
             ap length e
             ∙ omega (
@@ -86,7 +86,7 @@ module _ (h : Numbers) (x : List ℕ) where
               length-append part rest,
               before-long,
               part-long,
-              length-drop (length out - 64 * j) (drop (64 * j) out),
+              length-drop (512 - 64 * j) (drop (64 * j) out),
               length-drop (64 * j) out,
               p.long,
             )

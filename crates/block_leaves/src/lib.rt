@@ -18,11 +18,11 @@ pub struct Ends {
     pub left: Option<u32>,
 }
 
-// Packs each block of a sketch, block j from byte 64 × j on.
-fn pack_blocks(h: Header, sketch: &[u8], out: &mut [u8])
+// Packs each block of a sketch, block j from byte 64 × j on. One array of fixed length, 64 bytes for each of at most eight blocks: a search
+// takes no heap.
+fn pack_blocks(h: Header, sketch: &[u8], out: &mut [u8; 512])
     requires sketch_len { length sketch.now ≡ h.m }
     requires sketch_value { in_range h.b sketch.now ≡ true }
-    requires out_len { length out.old ≡ 512 }
     ensures { Packed (numbers h) sketch.now out.new }
 {
     let b = h.b as u32;
@@ -33,9 +33,8 @@ fn pack_blocks(h: Header, sketch: &[u8], out: &mut [u8])
 }
 
 // The descent of each block, at its root: node j for block j.
-fn start_all(nodes: &[u32], h: Header, bytes: &[u8]) -> [Cursor; 16]
+fn start_all(nodes: &[u32], h: Header, bytes: &[u8; 512]) -> [Cursor; 16]
     requires nodes_in_bounds { node_words h.nodes ≤ length nodes.now }
-    requires bytes_len { length bytes.now ≡ 512 }
     ensures { Started (numbers h) nodes.now bytes.now result }
 {
     let b = h.b as u32;

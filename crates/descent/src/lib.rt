@@ -9,7 +9,8 @@ use children::cursor::{Child, first_for, look};
 use layout::nodes::{Kind, kind_of};
 
 // Where a descent stands: ahead of the child at `link`, which must have the byte at `at`; the block's last byte is at `last`.
-// At link 0 it has ended: `first` is the link of the leaf's first page, or 0 where no leaf is reached.
+// At link 0 it has ended: `first` is the link of the leaf's first page, or 0 where no leaf is reached. Four numbers and no enum: `arrive`
+// and `leaf_of` of the promises have it so, and each round asks each descent for its link alone.
 #[derive(Clone, Copy, Debug, PartialEq, Eq)]
 pub struct Cursor {
     pub link: u32,
@@ -82,9 +83,8 @@ fn advance(nodes: &[u32], cap: usize, bytes: &[u8], c: Cursor) -> Cursor
             if byte < y {
                 return Cursor {
                     link,
-                    at: c.at,
-                    last: c.last,
                     first: 0,
+                    ..c
                 };
             }
             if y < byte {

@@ -36,6 +36,7 @@ fn find(quest: &Quest<'_>, map: &mut [u32], lists: &mut Lists<'_>) -> Result<u32
         marks::clear_marks(map, quest.words);
         return Err(Refusal::Unsound);
     };
+    // no `From`: a scope is made of a quest here alone
     let scope = Scope {
         sketches: quest.trial.sketches,
         query: quest.trial.query,

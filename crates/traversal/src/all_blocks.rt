@@ -45,6 +45,7 @@ fn meet_block(
         bytes: &bytes[..n],
     };
     let base = layout::pages::next_at(h.pages, j);
+    // fixed memory inside a call: a trie has at most 64 levels
     let mut stack = [Frame::NONE; 64];
     let mut tally = Tally {
         left: h.pages as u32,
@@ -60,6 +61,7 @@ fn meet_block(
                 batch = walk::batch::next(&walk, quest.trial.distances, &mut stack, place);
             }
             Rest::Done { nodes } => {
+                // no `..tally`: it would stand for one part alone
                 return Some(Tally {
                     left: nodes,
                     count: tally.count,
@@ -92,6 +94,7 @@ fn meet_exact(
         count: start.count,
     };
     let met = meet(&quest.trial, quest.words, map, counts, each, most)?;
+    // no `..met`: it would stand for one part alone
     Some(Tally {
         left,
         count: met.count,

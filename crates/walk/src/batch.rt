@@ -15,7 +15,7 @@ use walk_steps::place::Place;
 use walk_steps::turn::{Move, turn};
 use walk_steps::walk::Walk;
 
-// What is left of a walk. An enum: it goes on, it is over, or it cannot go on.
+// What is left of a walk. No Option of a batch: where it cannot go on, the leaves beside it are met all the same.
 #[derive(Clone, Copy, Debug, PartialEq, Eq)]
 pub enum Rest {
     // it goes on from a place

@@ -35,7 +35,9 @@ pub overflow_sub-last : goal.overflow_sub-last
 overflow_sub-last c = omega (arith, size-least c)
 
 pub overflow_cast-last : goal.overflow_cast-last
-overflow_cast-last c = record { fits = omega (arith, size c, few c) }
+overflow_cast-last c =
+    let k = (goal.at.overflow_cast-last c).After-packed_length-n in
+    record { fits = omega (arith, size k, few k) }
 
 pub loop-j-preserved : goal.loop-j-preserved
 loop-j-preserved c =
@@ -46,4 +48,6 @@ pub packed_length-n-requires-clause-n_bound : goal.packed_length-n-requires-clau
 packed_length-n-requires-clause-n_bound c = let pre = c.requires in rw c.block_length.ensures (block-most _ c.args.h.limits _ c.loop-j-test.true)
 
 pub arrive-requires-clause-x_lt_cap : goal.arrive-requires-clause-x_lt_cap
-arrive-requires-clause-x_lt_cap c = let pre = c.requires in (omega (arith, c.loop-j-test.true, c.args.h.limits.nodes-least), omega (arith, size c, size-least c, few c, pre.bytes_len))
+arrive-requires-clause-x_lt_cap c =
+    let k = (goal.at.arrive-requires-clause-x_lt_cap c).After-packed_length-n in
+    (omega (arith, c.loop-j-test.true, c.args.h.limits.nodes-least), omega (arith, size k, size-least k, few k, c.told-bytes))
