@@ -45,7 +45,8 @@ fn put_page(
     Ok(())
 }
 
-// Past 15: question 12, before anything is written.
+// Past 15: question 12, before anything is written. No `From`: here a full table is 12, while an insertion that stops past this
+// question is 14 in either case.
 fn place_page(
     index: &mut Index<'_>,
     sketches: &mut [u8],

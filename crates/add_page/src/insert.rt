@@ -1,4 +1,6 @@
 // The page put into the trie of each block. Its row is in the sketch table by now: a split reads the rows of all pages of the leaf.
+// That the tables are long enough for the header (`Lent`) is a clause: header and tables are lent side by side by each caller.
+// The two tables stay two parameters, as in trie_insert.
 ghost use Rattle.std.specs.Prelude.{◌≡◌, ◌<◌};
 ghost use Rattle.layout.specs.Headers.{numbers};
 ghost use Rattle.layout.specs.Header.{with_thresholds};

@@ -1,4 +1,6 @@
 // Question 12, before anything is written: are the nodes that the add needs free?
+// That the tables are long enough for the header (`Lent`) is a clause: header and tables are lent side by side by each caller.
+// Thresholds go beside a header: an opening is lent them as numbers of 16 bits, every other call reads them where they stand in the table.
 ghost use Rattle.std.specs.Prelude.{◌≡◌, ◌<◌};
 ghost use Rattle.layout.specs.Headers.{numbers};
 ghost use Rattle.layout.specs.Header.{with_thresholds};

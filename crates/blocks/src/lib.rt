@@ -12,6 +12,8 @@ use sketch::blocks::{block_length, block_start};
 use sketch::limits::{packed_length, per_byte};
 
 // A clause ties each to the lent sketch table (`SketchTable`, `RowTable`): the table is a slice, and no part of the value.
+// That j is one of the q blocks is a clause: j counts a loop over them, and a type for it would be made anew at each turn. So is that p
+// is one of its pages.
 
 // Where the symbols of one block stand in a page's row of `symbols` symbols: `length` of them from place `start`, of `bits` bits each.
 // They are packed into `bytes` bytes, `per` to a byte.

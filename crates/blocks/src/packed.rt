@@ -67,7 +67,6 @@ pub fn row_bytes(bytes: &mut [u8; 64], h: Header, sketches: &[u8], p: usize, j: 
     requires h_in_bounds { sketches_length (given_by h) ≤ length sketches.now }
     requires p_lt_pages { p < h.pages }
     requires j_lt_q { j < h.q }
-    requires bytes_len { length bytes.old ≡ 64 }
     ensures bytes_after { take (block_bytes (given_by h) j) bytes.new ≡ row_bytes (given_by h) j sketches.now p }
     ensures long { length bytes.new ≡ 64 }
 {
@@ -79,7 +78,8 @@ pub fn row_bytes(bytes: &mut [u8; 64], h: Header, sketches: &[u8], p: usize, j: 
 }
 
 // The packed bytes of block j of a sketch, at the beginning of an array of fixed length; how many, `Rows` says. That the sketch fits the
-// header is a clause, here and where pages are added: a sketch is a part of what a caller lends, and a type for it would be made anew by each.
+// header is a clause, here, where pages are added and where a query is made ready: a sketch is a part of what a caller lends, and a type
+// for it would be made anew by each.
 #[tactic(auto, unfolding(meaning::specs::Forest::block_bytes, meaning::specs::Forest::bytes_of_sketch))]
 pub fn block_bytes(h: Header, sketch: &[u8], j: usize) -> [u8; 64]
     requires fits { Fits (numbers h) sketch.now }

@@ -6,6 +6,7 @@ ghost use Rattle.children.specs.Places.{Inside, find_place};
 use layout::nodes::{byte_of, head_at, link_of};
 
 // Where a byte belongs among a node's children: the slot that links to its child, with the child, or that is to.
+// An enum of three: an Option around two would trade an arm of each caller's match for a `?` or an `ok_or`.
 #[derive(Clone, Copy, Debug, PartialEq, Eq)]
 pub enum Place {
     Found { slot: usize, child: usize },

@@ -1,4 +1,6 @@
 // The page taken out of the trie of each block.
+// That the tables are long enough for the header (`Lent`) is a clause: header and tables are lent side by side by each caller.
+// The two tables stay two parameters, as in trie_insert.
 ghost use Rattle.std.specs.Prelude.{◌≡◌, ◌<◌};
 ghost use Rattle.layout.specs.Headers.{given_by, numbers};
 ghost use Rattle.layout.specs.Tables.{Lent};
@@ -48,6 +50,7 @@ pub fn remove_all(
     requires p_lt_pages { p < h.pages }
     ensures { gone nodes.new pages.new result ≡ remove_all (given_by h) sketches.now p nodes.old pages.old free }
 {
+    // Fixed memory inside a call: a trie has at most 64 levels.
     let mut path = [Passed { node: 0, slot: 0 }; 64];
     let mut link = free;
     // Not one function with an add's loop over its tries: the closure's contract would be longer than both loops.

@@ -6,6 +6,7 @@ use blocks::Rows;
 use layout::Block;
 
 // The sketch table, by which a leaf is split, the thresholds of the levels, the block, and where its symbols stand in a row.
+// Each of its two makers writes it out: a function that makes it of a header would have both their clauses.
 #[derive(Clone, Copy, Drop)]
 pub struct Growth<'a> {
     pub sketches: &'a [u8],

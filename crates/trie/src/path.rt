@@ -6,7 +6,8 @@ ghost use Rattle.trie.specs.Descend.{step_to, StepInside, descend_to, Inside, pa
 use children::place::{Place, find_place};
 use layout::nodes::{Kind, kind_of};
 
-// What a node has for its next byte: the slot of a child, and the child; nothing, since it is a leaf; no child, and the slot where it belongs.
+// What a node has for its next byte: the slot of a child, and the child; nothing, since it is a leaf; no child, and the slot where it
+// belongs. Broken is an answer among four: the one loop that asks has an arm for each.
 #[derive(Clone, Copy, Debug, PartialEq, Eq)]
 pub enum Step {
     Child { slot: usize, child: usize },
@@ -39,7 +40,8 @@ fn step_to(nodes: &[u32], cap: usize, bytes: &[u8], n: usize, level: usize) -> S
     }
 }
 
-// The node where a way down ends, at a level. At a leaf the slot links to it, and is 0 at the root; at a gap the missing child belongs there.
+// The node where a way down ends, at a level. At a leaf the slot links to it, and is 0 at the root; at a gap the missing child belongs
+// there.
 #[derive(Clone, Copy, Debug, PartialEq, Eq)]
 pub struct Reached {
     pub node: usize,
@@ -48,6 +50,7 @@ pub struct Reached {
 }
 
 // A leaf; or an inner node without a child for the next byte.
+// Broken is a third answer: an Option around two would trade an arm of each caller's match for a `?` or an `ok_or`.
 #[derive(Clone, Copy, Debug, PartialEq, Eq)]
 pub enum Reach {
     Leaf(Reached),
@@ -81,7 +84,7 @@ fn walk<const NOTES: bool>(
     let mut n = root;
     let mut slot = 0;
     let mut level = 0;
-    // No `for` over the bytes: a leaf may stand where they end, and the level is a part of the answer.
+    // No `for`: a turn behind the last byte may end at a leaf, and behind a loop with that turn an answer would stand that is never given.
     loop {
         match step_to(nodes, cap, bytes, n, level) {
             Step::Child { slot: s, child } => {

@@ -29,8 +29,7 @@ pub fn push_page(
             lengthen(nodes, block.nodes, n, (p + 1) as u32);
             Ok(())
         }
-        Kind::Inner => Err(Stop::Broken),
-        Kind::Free => Err(Stop::Broken),
+        Kind::Inner | Kind::Free => Err(Stop::Broken),
     }
 }
 

@@ -1,4 +1,5 @@
 // A page taken out of one block's trie.
+// The two tables stay two parameters, as in trie_insert.
 #![tactic(auto)]
 
 ghost use Rattle.std.specs.Prelude.{◌≡◌, ◌≤◌, ◌<◌, length};
@@ -23,7 +24,7 @@ pub enum Lost {
     Broken,
 }
 
-// Page p out of a chain of which it is not the first.
+// Page p out of a chain of which it is not the first. No `Block`: a chain of pages has nothing of the node table, here and in `take_page`.
 #[tactic(auto, unfolding(crate::specs::Take::take_from))]
 fn take_behind(
     pages: &mut [u32],
@@ -80,6 +81,8 @@ pub fn take_page(
     }
     Ok(after)
 }
+
+// Path and leaf stay two parameters with their clauses: a struct would be made once for each block and opened in all three functions.
 
 // Up from an empty leaf: where it is not the root it is freed, and the node above is an empty leaf in its turn where it has no child
 // left. The path has the nodes above. The free link then.
@@ -172,7 +175,6 @@ pub fn remove_page(
 {
     match trace_to(nodes, block.nodes, root, bytes, path) {
         Reach::Leaf(leaf) => remove_at(nodes, pages, block, path, leaf, p, free),
-        Reach::Gap(_) => None,
-        Reach::Broken => None,
+        Reach::Gap(_) | Reach::Broken => None,
     }
 }

@@ -2,7 +2,6 @@ use Prim.Native.Nat.{◌-◌}
 use mathlib.Core.Path.{◌≡◌}
 use lib.ListN.{length}
 use Rattle.layout.specs.Headers.{given_by}
-use Rattle.layout.specs.Header.{bare}
 use Rattle.drop_laws.specs.Removal.{remove_from, remove_all}
 use Rattle.drop_steps.proofs.removal.remove_all.Given as goal
 
