@@ -18,7 +18,7 @@ use lent::View;
 use refusals::Refusal;
 
 // The pages, the free chain and the tries, with the first free link. The map is for marks. `Lent` and the map's size are clauses, as in
-// check_tries: a struct of header and view, or one with the map, would be made for this call alone.
+// check_tries.
 #[tactic(auto, unfolding(layout::specs::Lengths::nodes_length, crate::specs::Store::test_store))]
 fn test_store(view: View<'_>, map: &mut [u32], h: Header, free: u32) -> bool
     requires lent { Lent (numbers h) view.nodes.now view.pages.now view.sketches.now }

@@ -16,8 +16,9 @@ use trie_check::test::test_trie;
 // How many passes reach all nodes.
 const WINDOWS: usize = 8;
 
-// `Lent` ties a header to three lent tables, and two clauses bound the map's size. A struct of header and view would be made for the four
-// functions here and `test_store` alone and be opened in each; one with the map, lent with `&mut`, would be made anew for each window.
+// `Lent` ties a header to three lent tables. A struct of header and view would be made for a check and for the room of an add, and opened
+// in each of their functions; an insertion and a removal write two of the tables, and could take none. Two clauses bound the map's size: a
+// struct with the map, lent with `&mut`, would be made anew for each window.
 
 // The trie of block j.
 fn test_block(
@@ -45,7 +46,8 @@ fn test_block(
     test_trie(&scope, map, j, left, live)
 }
 
-// The tries of all blocks: `budget` nodes together, each with `live` pages.
+// The tries of all blocks: `budget` nodes together, each with `live` pages. Two budgets, of nodes and of pages: the first goes down from
+// block to block, the second begins anew in each.
 #[tactic(auto, unfolding(crate::specs::Windows::blocks_from))]
 fn test_blocks(
     view: View<'_>,

@@ -34,7 +34,7 @@ pub fn shape_of(b: u32, n: usize) -> Shape
 
 // The bytes of the packing in turn, and the groups of each; left at the first place where the distance passes the radius.
 // `left` is what the radius still allows. A distance within the radius is given; one beyond it is none.
-// Two loops, left by label, as document 01 names the form.
+// By rule two loops, one over bytes and in it one over groups, left by label with the verdict.
 #[tactic(auto, unfolding(crate::specs::Verdicts::verdict_of, meaning::specs::Sketch::distance))]
 pub fn compare(shape: Shape, row: &[u8], query: &[u8], radius: u32) -> Option<u32>
     requires shaped { Shaped shape (length row.now) }

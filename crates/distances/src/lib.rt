@@ -6,8 +6,8 @@ ghost use Rattle.meaning.specs.Sketch.{byte_distance};
 ghost use Rattle.sketch.specs.Settings.{Bits};
 ghost use Rattle.distances.specs.Table.{distance_table};
 
-// A constant table of 2,048 numbers, as the scope has it. Row b stands at (b - 1) × 256; its entry v is how many of the z lowest b-bit
-// groups of v are not zero.
+// A constant table of 2,048 numbers, by rule: what its entries mean is shown by one computed test. Row b stands at (b - 1) × 256; its entry
+// v is how many of the z lowest b-bit groups of v are not zero.
 const BYTE_DISTANCES: [u8; 2048] = [
     0, 1, 1, 2, 1, 2, 2, 3, 1, 2, 2, 3, 2, 3, 3, 4, 1, 2, 2, 3, 2, 3, 3, 4, 2, 3, 3, 4, 3, 4, 4, 5,
     1, 2, 2, 3, 2, 3, 3, 4, 2, 3, 3, 4, 3, 4, 4, 5, 2, 3, 3, 4, 3, 4, 4, 5, 3, 4, 4, 5, 4, 5, 5, 6,

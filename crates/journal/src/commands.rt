@@ -65,7 +65,7 @@ pub fn symbols_at(bytes: &[u8], at: usize, m: u8) -> &[u8]
     &bytes[at..end]
 }
 
-// J, L, G or R with its two operands.
+// J, L, G or R with its two operands. Told by its byte, as in journal_form.
 #[tactic(auto, unfolding(crate::specs::Steps::change_of))]
 fn change_of(c: u8, x: u32, y: u32) -> Change
     ensures { result ≡ change_of c x y }

@@ -1,4 +1,5 @@
 // The form of one command: questions 1 to 3.
+// Commands are told by their byte, and by no enum: each of these is asked of any byte, known or not.
 #![tactic(auto)]
 
 ghost use Rattle.std.specs.Prelude.{◌≡◌};

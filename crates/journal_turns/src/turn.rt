@@ -31,6 +31,7 @@ pub struct Turn {
     pub at: usize,
     pub m: u8,
     pub going: bool,
+    // The length and not the line, as in journal_lines: the line stays in the program's buffer.
     pub length: usize,
 }
 

@@ -38,7 +38,8 @@ impl Numbers {
     }
 }
 
-// What a call goes by: numbers that pass question 4.
+// What a call goes by: numbers that pass question 4. Five fields of its own and no `Numbers` in it: every crate above reads them, by one
+// name each.
 #[derive(Clone, Copy)]
 pub struct Header {
     pub b: usize,

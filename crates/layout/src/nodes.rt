@@ -1,6 +1,8 @@
 // The words of the node table: a link with a byte above it, where the words of a node stand, and what a node is by its state.
-// Nodes are linked by numbers in one slice of words: the table is lent, and an index allocates nothing.
-// That the slice is long enough for its nodes is a clause (`NodeTable`): a table is lent as a slice, the form that document 01 names.
+// Nodes are linked by numbers in one slice of words: the table is lent, and an index allocates nothing. A link is a number and 1 more, and
+// 0 links to none, in the words of the table and where they are handed on.
+// That the slice is long enough for its nodes is a clause (`NodeTable`): nodes lie in lent tables of 32-bit words, by rule. That a node, a
+// slot or a link lies in the table is a clause too: each is an index into what is lent.
 ghost use Rattle.std.specs.Prelude.{◌≡◌, ◌≤◌, ◌<◌, set};
 ghost use Rattle.layout.specs.Nodes.{most_nodes, link_base, link_of, byte_of, chain_word, with_link, state_at, head_at};
 ghost use Rattle.layout.specs.Pages.{most_pages};
@@ -125,8 +127,7 @@ pub fn first_page(nodes: &[u32], cap: usize, x: usize) -> u32
 {
     match kind_of(nodes, cap, x) {
         Kind::Leaf(first) => first,
-        Kind::Free => 0,
-        Kind::Inner => 0,
+        Kind::Free | Kind::Inner => 0,
     }
 }
 

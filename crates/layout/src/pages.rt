@@ -1,6 +1,6 @@
 // The words of the page table, and the rows of the sketch table.
 // The pages of a leaf are linked by numbers in one slice of words: the table is lent, and an index allocates nothing.
-// That a slice is long enough for its pages is a clause: a table is lent as a slice, the form that document 01 names.
+// That a slice is long enough for its pages is a clause: pages lie in lent tables of 32-bit words, by rule.
 ghost use Rattle.std.specs.Prelude.{◌≡◌, ◌+◌, ◌*◌, ◌≤◌, ◌<◌, length, get_or};
 ghost use Rattle.layout.specs.Pages.{most_pages, is_live, class_of, signature_at, next_at, row_of, with_page, without_page, with_row};
 

@@ -6,7 +6,7 @@ ghost use Rattle.node_check.specs.Leaf.{kind_of, on_path, test_pages, test_leaf}
 use crate::leaves::Leaves;
 use children::order::is_bare;
 
-// What a node of a trie is.
+// What a node of a trie is. Beside that of layout, which has the free node too.
 #[derive(Clone, Copy, Debug, PartialEq, Eq)]
 pub enum Kind {
     Inner,

@@ -18,7 +18,7 @@ mod records;
 
 use layout::settings::{CLASSES, ENTRIES, GRANTS, GROUPS, MEMBERS, READERS};
 
-// A set of classes: 0 to 31 in the low word, 32 to 63 in the high.
+// A set of classes: 0 to 31 in the low word, 32 to 63 in the high, as an entry of the table has them.
 #[derive(Clone, Copy, PartialEq, Eq)]
 pub struct Classes {
     pub low: u32,
@@ -40,10 +40,12 @@ pub fn is_in_range(change: Change) -> bool
     ensures { result ≡ change_in_range (change_meant change) }
 {
     match change {
-        Change::Join { reader, group } => (reader < READERS) & (group < GROUPS),
-        Change::Leave { reader, group } => (reader < READERS) & (group < GROUPS),
-        Change::Grant { group, class } => (group < GROUPS) & (class < CLASSES),
-        Change::Revoke { group, class } => (group < GROUPS) & (class < CLASSES),
+        Change::Join { reader, group } | Change::Leave { reader, group } => {
+            (reader < READERS) & (group < GROUPS)
+        }
+        Change::Grant { group, class } | Change::Revoke { group, class } => {
+            (group < GROUPS) & (class < CLASSES)
+        }
     }
 }
 

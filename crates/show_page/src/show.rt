@@ -71,7 +71,8 @@ pub fn show_number(
     Ok(())
 }
 
-// The row itself, or an empty part.
+// The row itself, a part of the lent table, or an empty part where it is refused: `show_number` tells why. No Result: an answer that is
+// always a part is what the index offers.
 #[tactic(auto, unfolding(crate::specs::Show::place_of, promises::specs::Answers::number, promises::specs::Readings::start_shown))]
 pub fn show<'a>(
     settings: &[u32],

@@ -6,7 +6,7 @@ ghost use Rattle.sketch.specs.Settings.{Bits};
 
 use crate::limits::{packed_length, per_byte};
 
-// `Bits b` stays a clause: b comes as a u32 from C and as a usize in the header, so that each call would make a type of it anew.
+// `Bits b` and `n ≤ 64` stay clauses on two numbers: the bodies shift by b or divide by it, so that a type would be opened in every one.
 
 // How many symbols byte k of a packing of n symbols holds.
 #[tactic(auto, unfolding(meaning::specs::Sketch::symbols_at))]

@@ -27,7 +27,7 @@ fn strip_end(k: usize, n: usize) -> usize
 
 // The places of two sketches in one loop, range and difference together. After k places all symbols so far are in range, and d is the
 // distance of the first k (`After`); a symbol out of range ends it. A turn takes a strip, and asks at its end: with a branch at each place
-// long sketches take five times as long. No `for`: a turn goes on by a strip, not by a place.
+// long sketches take five times as long. No `for` over `chunks`: that a turn takes at most 32 places is what `strip_end` promises.
 #[tactic(auto, unfolding(crate::specs::Measuring::ending))]
 fn measure_symbols(b: u32, x: &[u8], y: &[u8]) -> Result<u32, Refusal>
     requires bits { Bits b }

@@ -92,7 +92,8 @@ fn visit_child(
     }
 }
 
-// Takes one step from a place, and tests the child that it leads to. None where the trie is not sound.
+// Takes one step from a place, and tests the child that it leads to. None where the trie is not sound. From step to move no `From`: a match
+// for its one use.
 #[tactic(auto, unfolding(crate::specs::Visit::visit))]
 pub fn visit(scope: &Scope<'_>, map: &mut [u32], path: &mut [u8; 64], place: Place) -> Option<Move>
     requires bitmap { scope.now.window.size ≤ 32 * length map.old }
