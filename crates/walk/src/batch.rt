@@ -119,7 +119,10 @@ pub fn next(walk: &Walk<'_>, stack: &mut [Frame; 64], start: Place) -> Batch
     let mut n = 0;
     // No `for`: n counts leaves, not turns.
     while n < 16 {
-        match turn(walk, place) {
+        let Some(to) = turn(walk, place) else {
+            return bare(Rest::Broken);
+        };
+        match to {
             Move::Chain { at, link } => {
                 place = place.on_chain(at, link);
             }
@@ -142,7 +145,6 @@ pub fn next(walk: &Walk<'_>, stack: &mut [Frame; 64], start: Place) -> Batch
                 }
                 place = place.raise(stack);
             }
-            Move::Broken => return bare(Rest::Broken),
         }
     }
     settle(walk, waiting, n, place)
