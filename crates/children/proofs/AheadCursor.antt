@@ -6,6 +6,7 @@ use mathlib.Core.List.{List}
 use borrow.Author.Tests.{eqb-true, eqb-false}
 use lib.Dec.{eqb}
 use lib.ListN.{get_or}
+use Rattle.std.specs.Prelude.{Some}
 use Rattle.layout.specs.Nodes.{link_of, head_at, most_nodes}
 use Rattle.children.specs.declared.cursor.Cursor.{Cursor}
 use Rattle.children.specs.declared.cursor.Next.TheVariants.{Child, Chain, End}
@@ -50,13 +51,13 @@ module _ (cap pcap base : ℕ) (small : cap ≤ most_nodes) (N P : List ℕ) whe
 
   -- where a child is to come: to the next chain, or to the child
   pub data NextKid (c : Cursor) (b : ℕ) (t : Phys) (ks : Kids) : Type 0 where
-    to_chain : (l : ℕ) → 0 < chains_left c → next_of N cap c ≡ Chain (c.at + 1) l → AheadC (moved c (c.at + 1) l) (kid b t ks) → NextKid c b t ks
-    to_kid : (l : ℕ) → c.link ≡ root t + 1 → next_of N cap c ≡ Child (root t) b l → Holds (cells cap base t) N P → Sound cap pcap t → AheadC (moved c c.at l) ks → NextKid c b t ks
+    to_chain : (l : ℕ) → 0 < chains_left c → next_of N cap c ≡ Some (Chain (c.at + 1) l) → AheadC (moved c (c.at + 1) l) (kid b t ks) → NextKid c b t ks
+    to_kid : (l : ℕ) → c.link ≡ root t + 1 → next_of N cap c ≡ Some (Child (root t) b l) → Holds (cells cap base t) N P → Sound cap pcap t → AheadC (moved c c.at l) ks → NextKid c b t ks
 
   -- where none is: to the next chain, or to the end
   pub data NextEnd (c : Cursor) : Type 0 where
-    end_chain : (l : ℕ) → 0 < chains_left c → next_of N cap c ≡ Chain (c.at + 1) l → AheadC (moved c (c.at + 1) l) no_kid → NextEnd c
-    to_end : next_of N cap c ≡ End → NextEnd c
+    end_chain : (l : ℕ) → 0 < chains_left c → next_of N cap c ≡ Some (Chain (c.at + 1) l) → AheadC (moved c (c.at + 1) l) no_kid → NextEnd c
+    to_end : next_of N cap c ≡ Some End → NextEnd c
 
   module _ (c : Cursor) where
     onward : (ks : Kids) (a : AheadC c ks) → c.link ≡ 0 → a.chain < 7 → AheadC (moved c (c.at + 1) (first_in ks (a.chain + 1))) ks
@@ -71,7 +72,7 @@ module _ (cap pcap base : ℕ) (small : cap ≤ most_nodes) (N P : List ℕ) whe
           ahead = ahead-chain cap pcap base N P a.ahead e;
         }
 
-    next-chain : (ks : Kids) (a : AheadC c ks) → c.link ≡ 0 → a.chain < 7 → next_of N cap c ≡ Chain (c.at + 1) (first_in ks (a.chain + 1))
+    next-chain : (ks : Kids) (a : AheadC c ks) → c.link ≡ 0 → a.chain < 7 → next_of N cap c ≡ Some (Chain (c.at + 1) (first_in ks (a.chain + 1)))
     next-chain ks a e l =
         let here : c.at + 1 ≡ head_at cap a.node (a.chain + 1) = omega (arith, a.at) in
         let w : get_or N (head_at cap a.node (a.chain + 1)) 0 ≡ first_in ks (a.chain + 1) = a.ahead.later (a.chain + 1) (omega arith) (omega arith) in

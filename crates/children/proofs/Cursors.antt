@@ -13,7 +13,7 @@ use Rattle.children.specs.Cursors.{all_of, seen, look_at, next_by, next_of, firs
 use Rattle.children.specs.declared.cursor.Cursor.{Cursor}
 use Rattle.children.specs.declared.cursor.Child.{Child as Kid}
 use Rattle.children.specs.declared.cursor.Next.{Next}
-use Rattle.children.specs.declared.cursor.Next.TheVariants.{Child, Chain, End, Broken}
+use Rattle.children.specs.declared.cursor.Next.TheVariants.{Child, Chain, End}
 
 pub all-is : (N : List ℕ) (cap x first last link : ℕ) → first ≡ head_at cap x 0 → last ≡ head_at cap x 7 → link ≡ link_of (get_or N first 0) →
     record { at = first; last = last; link = link } ≡ all_of N cap x
@@ -39,11 +39,11 @@ module _ (N : List ℕ) (cap : ℕ) (c : Cursor) where
   step-along some found e a q = rw (ne_eqb c.link 0 some) (ap next_by (sym q ∙ e))
 
   module _ (done : c.link ≡ 0) where
-    pub step_end : c.last ≤ c.at → End ≡ next_of N cap c
+    pub step_end : c.last ≤ c.at → Some End ≡ next_of N cap c
     unfolding next_of
     step_end l = rw (eq-eqb c.link 0 done, le-ltb c.at c.last l) refl
 
-    pub step-chain : c.at < c.last → (link : ℕ) → link ≡ link_of (get_or N (c.at + 1) 0) → Chain (c.at + 1) link ≡ next_of N cap c
+    pub step-chain : c.at < c.last → (link : ℕ) → link ≡ link_of (get_or N (c.at + 1) 0) → Some (Chain (c.at + 1) link) ≡ next_of N cap c
     unfolding next_of
     step-chain l link e = rw (eq-eqb c.link 0 done, lt-ltb c.at c.last l, e) refl
 
@@ -64,11 +64,11 @@ module _ (N : List ℕ) (cap x byte link : ℕ) where
   pub look-below : (at : ℕ) → 0 < at → (found : Option Kid) → found ≡ look_at N cap at → found ≡ seen x byte link → x < cap
   look-below at some found e q = subst (Seated cap) (sym e ∙ q) (look-seated N cap at some)
 
-  abbrev Led : Next → Type 0
-  Led (Child y u l) = y < cap
-  Led (Chain at l) = Unit {0}
-  Led End = Unit {0}
-  Led Broken = Unit {0}
+  abbrev Led : Option Next → Type 0
+  Led (Some (Child y u l)) = y < cap
+  Led (Some (Chain at l)) = Unit {0}
+  Led (Some End) = Unit {0}
+  Led None = Unit {0}
 
   led-by : (a : Option Kid) → Seated cap a → Led (next_by a)
   led-by (Some c) h = h
@@ -79,10 +79,10 @@ module _ (N : List ℕ) (cap x byte link : ℕ) where
   next-led c = go (eqb c.link 0) refl (ltb c.at c.last)
     where
       go : (q : Bool) → eqb c.link 0 ≡ q → (r : Bool)
-          → Led (cond q (cond r (Chain (c.at + 1) (link_of (get_or N (c.at + 1) 0))) End) (next_by (look_at N cap c.link)))
+          → Led (cond q (cond r (Some (Chain (c.at + 1) (link_of (get_or N (c.at + 1) 0)))) (Some End)) (next_by (look_at N cap c.link)))
       go true e true = tt
       go true e false = tt
       go false e r = led-by (look_at N cap c.link) (look-seated N cap c.link (omega (arith, eqb-false c.link 0 e)))
 
-  pub next-below : (c : Cursor) (found : Next) → found ≡ next_of N cap c → found ≡ Child x byte link → x < cap
+  pub next-below : (c : Cursor) (found : Option Next) → found ≡ next_of N cap c → found ≡ Some (Child x byte link) → x < cap
   next-below c found e q = subst Led (sym e ∙ q) (next-led c)

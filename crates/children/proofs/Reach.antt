@@ -3,6 +3,7 @@ use Prim.Native.Nat.{ℕ, zero, suc, ◌+◌, ◌<◌, ◌≤◌}
 use native.Mathlib.Omega.{arith}
 use mathlib.Core.Path.{◌≡◌, refl}
 use mathlib.Core.List.{List}
+use Rattle.std.specs.Prelude.{Some}
 use Rattle.layout.specs.Nodes.{most_nodes}
 use Rattle.children.specs.declared.cursor.Cursor.{Cursor}
 use Rattle.children.specs.declared.cursor.Next.TheVariants.{Child, Chain, End}
@@ -14,7 +15,7 @@ use Rattle.children.proofs.AheadCursor.{AheadC, moved, chains_left, to_chain, to
 -- k steps to other chains
 abbrev pub Over : List ℕ → ℕ → ℕ → Cursor → Cursor → Type 0
 Over N cap zero c d = c ≡ d
-Over N cap (suc k) c d = (l : ℕ) × (next_of N cap c ≡ Chain (c.at + 1) l) × Over N cap k (moved c (c.at + 1) l) d
+Over N cap (suc k) c d = (l : ℕ) × (next_of N cap c ≡ Some (Chain (c.at + 1) l)) × Over N cap k (moved c (c.at + 1) l) d
 
 module _ (cap pcap base : ℕ) (small : cap ≤ most_nodes) (N P : List ℕ) where
   -- to the next child
@@ -25,7 +26,7 @@ module _ (cap pcap base : ℕ) (small : cap ≤ most_nodes) (N P : List ℕ) whe
     pub few : steps + chains_left here ≤ chains_left c
     pub link : ℕ
     pub at : here.link ≡ root t + 1
-    pub next : next_of N cap here ≡ Child (root t) b link
+    pub next : next_of N cap here ≡ Some (Child (root t) b link)
     pub tree : Holds (cells cap base t) N P
     pub sound : Sound cap pcap t
     pub onward : AheadC cap pcap base small N P (moved here here.at link) ks
@@ -36,7 +37,7 @@ module _ (cap pcap base : ℕ) (small : cap ≤ most_nodes) (N P : List ℕ) whe
     pub here : Cursor
     pub over : Over N cap steps c here
     pub few : steps ≤ chains_left c
-    pub next : next_of N cap here ≡ End
+    pub next : next_of N cap here ≡ Some End
 
   kid-within : (k : ℕ) (c : Cursor) (b : ℕ) (t : Phys) (ks : Kids) → chains_left c < k → AheadC cap pcap base small N P c (kid b t ks) → ReachKid c b t ks
   kid-within zero c b t ks m a = absurd (omega arith)

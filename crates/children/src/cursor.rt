@@ -22,7 +22,7 @@ pub struct Child {
     pub link: u32,
 }
 
-// An enum: four things can come next.
+// What comes next. The child by its parts: a `Child` here would be opened by the one match that asks.
 #[derive(Clone, Copy, Debug, PartialEq, Eq)]
 pub enum Next {
     Child { node: u32, byte: u32, link: u32 },
@@ -30,8 +30,6 @@ pub enum Next {
     Chain { at: u32, link: u32 },
     // no child is left
     End,
-    // a link that leads outside
-    Broken,
 }
 
 // All children of node x.
@@ -69,27 +67,25 @@ pub fn look(nodes: &[u32], cap: usize, link: u32) -> Option<Child>
     })
 }
 
-// The next step: along the chain, else to the next chain.
+// The next step: along the chain, else to the next chain; none where a link leads outside.
 #[tactic(auto, unfolding(crate::specs::Cursors::next_of))]
-pub fn step(nodes: &[u32], cap: usize, c: Cursor) -> Next
+pub fn step(nodes: &[u32], cap: usize, c: Cursor) -> Option<Next>
     requires node_table { NodeTable cap nodes.now }
     requires last_bound { c.last < node_words cap }
     ensures { result ≡ next_of nodes.now cap c }
 {
     if c.link != 0 {
-        return match look(nodes, cap, c.link) {
-            Some(Child { node, byte, link }) => Next::Child { node, byte, link },
-            None => Next::Broken,
-        };
+        let Child { node, byte, link } = look(nodes, cap, c.link)?;
+        return Some(Next::Child { node, byte, link });
     }
     if c.at >= c.last {
-        return Next::End;
+        return Some(Next::End);
     }
     let at = c.at + 1;
-    Next::Chain {
+    Some(Next::Chain {
         at,
         link: link_of(nodes[at as usize]),
-    }
+    })
 }
 
 // The link to the first child of node x in the chain of a byte.

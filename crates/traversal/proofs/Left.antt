@@ -6,6 +6,7 @@ use mathlib.Core.Bool.{Bool, true, false, cond}
 use mathlib.Core.List.{List, [], ◌∷◌}
 use lib.Dec.{ltb, eqb}
 use lib.ListN.{length}
+use Rattle.std.specs.Prelude.{Option, Some, None}
 use Rattle.layout.specs.Nodes.{steps_for}
 use Rattle.layout.specs.States.{kind_of}
 use Rattle.layout.specs.declared.nodes.Kind.{Kind}
@@ -44,21 +45,21 @@ module _ (w : Given) where
       spend-most n (drawn_from w c) (λ k. before (leaf_from w c ∷ []) (go k)) (λ k. before-most k (leaf_from w c ∷ []) (go k) (h k))
 
   follow-most : (go : ℕ → State → Leaves) → ((k : ℕ) (s : State) → AtMost k (go k s))
-      → (n : ℕ) (frame : Frame) (stack : List Frame) (m : Move) → AtMost n (follow w go n frame stack m)
-  follow-most go h n frame stack (move.Chain at link) = h n _
-  follow-most go h n frame stack (move.Past link) = h n _
-  follow-most go h n frame stack (move.Leaf c link) =
+      → (n : ℕ) (frame : Frame) (stack : List Frame) (m : Option Move) → AtMost n (follow w go n frame stack m)
+  follow-most go h n frame stack (Some (move.Chain at link)) = h n _
+  follow-most go h n frame stack (Some (move.Past link)) = h n _
+  follow-most go h n frame stack (Some (move.Leaf c link)) =
       leaf-most (λ k. go k (state (at_link frame link) stack)) (λ k. h k (state (at_link frame link) stack)) n c
-  follow-most go h n frame stack (move.Down x radius link) = h n _
-  follow-most go h n frame [] move.Up = omega arith
-  follow-most go h n frame (f ∷ fs) move.Up = h n _
-  follow-most go h n frame stack move.Broken = tt
+  follow-most go h n frame stack (Some (move.Down x radius link)) = h n _
+  follow-most go h n frame [] (Some move.Up) = omega arith
+  follow-most go h n frame (f ∷ fs) (Some move.Up) = h n _
+  follow-most go h n frame stack None = tt
 
   run-most : (f n : ℕ) (s : State) → AtMost n (run w f n s)
   unfolding run
   run-most zero n s = tt
   run-most (suc f) n s =
-      let m : Move = found w (length s.stack) s.frame in
+      let m : Option Move = found w (length s.stack) s.frame in
       spend-most n (reads m) (λ k. follow w (run w f) k s.frame s.stack m) (λ k. follow-most (run w f) (run-most f) k s.frame s.stack m)
 
   walk-most : (root radius n : ℕ) → AtMost n (walk_from w root radius n)

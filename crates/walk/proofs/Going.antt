@@ -8,12 +8,13 @@ use mathlib.Core.List.{List, [], ◌∷◌, ◌++◌}
 use lib.Dec.{ltb, eqb}
 use lib.ListN.{length, set, take, length-set}
 use borrow.Author.Tests.{eqb-true, eqb-false, lt-ltb, le-ltb}
+use Rattle.std.specs.Prelude.{Option, Some, None}
 use Rattle.descent.specs.declared.Cursor.{Cursor}
 use Rattle.descent.specs.Cursor.{AllInside}
 use Rattle.walk_steps.specs.declared.frame.Frame.{Frame}
 use Rattle.walk_steps.specs.declared.place.Place.{Place}
 use Rattle.walk_steps.specs.declared.turn.Move.{Move}
-use Rattle.walk_steps.specs.declared.turn.Move.TheVariants.{Chain, Past, Leaf, Down, Up, Broken}
+use Rattle.walk_steps.specs.declared.turn.Move.TheVariants.{Chain, Past, Leaf, Down, Up}
 use Rattle.walk_steps.specs.Given.{Given, Fitting}
 use Rattle.walk_steps.specs.Turn.{entered, at_chain, at_link, found, reads}
 use Rattle.walk_steps.specs.Place.{with_nodes, on_chain, on_link, lowered, raised, turned}
@@ -41,43 +42,43 @@ module _ (w : Given) where
     popped [] = past w (leaves []) p.nodes cs
     popped (f ∷ fs) = behind cs p.nodes (p.steps - 1) f fs
 
-    abbrev pub after : Move → Leaves
-    after (Chain at link) = behind cs p.nodes (p.steps - 1) (at_chain p.frame at link) stack
-    after (Past link) = behind cs (p.nodes - 1) (p.steps - 1) (at_link p.frame link) stack
-    after (Leaf c link) = behind (cs ++ (c ∷ [])) (p.nodes - 1) (p.steps - 1) (at_link p.frame link) stack
-    after (Down x radius link) =
+    abbrev pub after : Option Move → Leaves
+    after (Some (Chain at link)) = behind cs p.nodes (p.steps - 1) (at_chain p.frame at link) stack
+    after (Some (Past link)) = behind cs (p.nodes - 1) (p.steps - 1) (at_link p.frame link) stack
+    after (Some (Leaf c link)) = behind (cs ++ (c ∷ [])) (p.nodes - 1) (p.steps - 1) (at_link p.frame link) stack
+    after (Some (Down x radius link)) =
         behind cs (p.nodes - 1) (p.steps - 1) (entered w.nodes w.cap x radius) (at_link p.frame link ∷ stack)
-    after Up = popped stack
-    after Broken = broken
+    after (Some Up) = popped stack
+    after None = broken
 
-    abbrev followed : Move → ℕ → Leaves
+    abbrev followed : Option Move → ℕ → Leaves
     followed m k = follow w (run w (p.steps - 1)) k p.frame stack m
 
     ups : (fs : List Frame) → past w (λ k. above w (run w (p.steps - 1)) k p.frame stack fs) (p.nodes - 0) cs ≡ popped fs
     ups [] = ap (λ k. past w (leaves []) k cs) (sub-zero p.nodes)
     ups (f ∷ fs) = ap (λ k. behind cs k (p.steps - 1) f fs) (sub-zero p.nodes)
 
-    moves : (m : Move) → past w (followed m) (p.nodes - reads m) cs ≡ after m
-    moves (Chain at link) = ap (λ k. behind cs k (p.steps - 1) (at_chain p.frame at link) stack) (sub-zero p.nodes)
-    moves (Past link) = refl
-    moves (Leaf c link) = past_more w (λ k. run w (p.steps - 1) k (state (at_link p.frame link) stack)) (p.nodes - 1) cs c
-    moves (Down x radius link) = refl
-    moves Up = ups stack
-    moves Broken = past-broken w (p.nodes - 0) cs
+    moves : (m : Option Move) → past w (followed m) (p.nodes - reads m) cs ≡ after m
+    moves (Some (Chain at link)) = ap (λ k. behind cs k (p.steps - 1) (at_chain p.frame at link) stack) (sub-zero p.nodes)
+    moves (Some (Past link)) = refl
+    moves (Some (Leaf c link)) = past_more w (λ k. run w (p.steps - 1) k (state (at_link p.frame link) stack)) (p.nodes - 1) cs c
+    moves (Some (Down x radius link)) = refl
+    moves (Some Up) = ups stack
+    moves None = past-broken w (p.nodes - 0) cs
 
     turn-law : length stack ≡ p.depth → behind cs p.nodes p.steps p.frame stack ≡ after (turned w p)
     unfolding turned
     turn-law level = go (eqb p.steps 0) refl
       where
-        m : Move
+        m : Option Move
         m = found w p.depth p.frame
 
-        by : (q : Bool) → cond q broken (past w (followed m) (p.nodes - reads m) cs) ≡ after (cond q Broken m)
+        by : (q : Bool) → cond q broken (past w (followed m) (p.nodes - reads m) cs) ≡ after (cond q None m)
         by true = refl
         by false = moves m
 
         go : (q : Bool) → eqb p.steps 0 ≡ q
-            → behind cs p.nodes p.steps p.frame stack ≡ after (cond q Broken (cond (ltb p.nodes (reads m)) Broken m))
+            → behind cs p.nodes p.steps p.frame stack ≡ after (cond q None (cond (ltb p.nodes (reads m)) None m))
         go true e =
             past_same w (λ k. run w p.steps k (state p.frame stack)) (λ k. broken) p.nodes cs
             (λ k. run-spent w p.steps k p.frame stack (eqb-true p.steps 0 e))
@@ -121,18 +122,18 @@ module _ (w : Given) where
       }
 
       -- a turn
-      module _ (answer : Move) (e : answer ≡ turned w p) where
-        pub kept : (m : Move) → answer ≡ m → Kept w fits.some p m
+      module _ (answer : Option Move) (e : answer ≡ turned w p) where
+        pub kept : (m : Option Move) → answer ≡ m → Kept w fits.some p m
         kept m q = kept_by w fits.some p answer e m q
 
-        led : (m : Move) → answer ≡ m → after (take n waiting) p (frames stack p.depth) m ≡ goal
+        led : (m : Option Move) → answer ≡ m → after (take n waiting) p (frames stack p.depth) m ≡ goal
         led m q =
             sym (turn-law (take n waiting) p (frames stack p.depth) (frames-length stack p.depth) ∙ ap (after (take n waiting) p (frames stack p.depth)) (sym e ∙ q))
             ∙ g.walk
 
-        pub going-chain : (at link : ℕ) → answer ≡ Chain at link → (q : Place) → q ≡ on_chain p at link → Going waiting n q stack
+        pub going-chain : (at link : ℕ) → answer ≡ Some (Chain at link) → (q : Place) → q ≡ on_chain p at link → Going waiting n q stack
         going-chain at link h q o = rw o record {
-          walk = led (Chain at link) h;
+          walk = led (Some (Chain at link)) h;
           stands = record {
             here = g.stands.here;
             over = g.stands.over;
@@ -154,34 +155,34 @@ module _ (w : Given) where
           few = omega (arith, g.stands.few);
         }
 
-        pub going-past : (link : ℕ) → answer ≡ Past link → (q : Place) → q ≡ on_link p link → Going waiting n q stack
-        going-past link h q o = rw o record { walk = led (Past link) h; stands = stands-past link; waits = g.waits; spent = omega (arith, g.spent) }
+        pub going-past : (link : ℕ) → answer ≡ Some (Past link) → (q : Place) → q ≡ on_link p link → Going waiting n q stack
+        going-past link h q o = rw o record { walk = led (Some (Past link)) h; stands = stands-past link; waits = g.waits; spent = omega (arith, g.spent) }
 
-        pub going-leaf : n < 16 → (c : Cursor) (link : ℕ) → answer ≡ Leaf c link → (q : Place) → q ≡ on_link p link
+        pub going-leaf : n < 16 → (c : Cursor) (link : ℕ) → answer ≡ Some (Leaf c link) → (q : Place) → q ≡ on_link p link
             → Going (set waiting n c) (n + 1) q stack
         going-leaf l c link h q o =
-            let held = kept (Leaf c link) h in
+            let held = kept (Some (Leaf c link)) h in
             rw o record {
               walk =
                   ap (λ cs. behind cs (p.nodes - 1) (p.steps - 1) (at_link p.frame link) (frames stack p.depth))
                   (take_put waiting n c (omega (arith, g.waits.long)))
-                  ∙ led (Leaf c link) h;
+                  ∙ led (Some (Leaf c link)) h;
               stands = stands-past link;
               waits = inside-put w.bytes waiting n c g.waits l held.2;
               spent = omega (arith, g.spent, held.1);
             }
 
-        pub going-down : (x radius link : ℕ) → answer ≡ Down x radius link → (q r : Place) → q ≡ on_link p link
+        pub going-down : (x radius link : ℕ) → answer ≡ Some (Down x radius link) → (q r : Place) → q ≡ on_link p link
             → r ≡ lowered w.nodes w.cap q x radius → Going waiting n r (set stack q.depth q.frame)
         going-down x radius link h q r o f =
-            let held = kept (Down x radius link) h in
+            let held = kept (Some (Down x radius link)) h in
             let back : Frame = at_link p.frame link in
             let put : frames (set stack p.depth back) (p.depth + 1) ≡ back ∷ frames stack p.depth =
             frames-put stack p.depth back (omega (arith, g.stands.level, fits.bytes, g.stands.room)) in
             rw (f, o) record {
               walk =
                   ap (behind (take n waiting) (p.nodes - 1) (p.steps - 1) (entered w.nodes w.cap x radius)) put
-                  ∙ led (Down x radius link) h;
+                  ∙ led (Some (Down x radius link)) h;
               stands = record {
                 here = entered-within w.nodes w.cap x radius held.2;
                 over = rw put (g.stands.here, g.stands.over);
@@ -193,12 +194,12 @@ module _ (w : Given) where
               spent = omega (arith, g.spent);
             }
 
-        pub going-up : answer ≡ Up → 0 < p.depth → (q : Place) → q ≡ raised stack p → Going waiting n q stack
+        pub going-up : answer ≡ Some Up → 0 < p.depth → (q : Place) → q ≡ raised stack p → Going waiting n q stack
         going-up h l q o =
             let taken = frames-take stack p.depth l in
             let both : AllWithin w.cap (frame_at stack (p.depth - 1) ∷ frames stack (p.depth - 1)) = rw taken at g.stands.over in
             rw o record {
-              walk = sym (ap (popped (take n waiting) p (frames stack p.depth)) taken) ∙ led Up h;
+              walk = sym (ap (popped (take n waiting) p (frames stack p.depth)) taken) ∙ led (Some Up) h;
               stands = record {
                 here = both.0;
                 over = both.1;
@@ -211,7 +212,7 @@ module _ (w : Given) where
             }
 
         -- the walk is over
-        pub going-over : answer ≡ Up → p.depth ≡ 0 → n < 16 → (r : Batch) → Settled w waiting n p r → Gives w stack goal most r
+        pub going-over : answer ≡ Some Up → p.depth ≡ 0 → n < 16 → (r : Batch) → Settled w waiting n p r → Gives w stack goal most r
         going-over h z l r s = record {
           few = omega (arith, s.count);
           same =
@@ -219,12 +220,12 @@ module _ (w : Given) where
               ∙ past_same w (λ k. cond (ltb n 16) (leaves [] k) (from w stack (with_nodes p k))) (leaves []) p.nodes (take n waiting)
               (λ k. rw (lt-ltb n 16 l) refl)
               ∙ sym (ap (popped (take n waiting) p (frames stack p.depth)) (frames-none stack p.depth z))
-              ∙ led Up h;
+              ∙ led (Some Up) h;
           ready = settled-ready w stack p waiting n g.waits r s most stands-less (λ m. absurd (omega arith));
         }
 
-        pub going-broken : answer ≡ Broken → Gives w stack goal most (bare rest.Broken)
-        going-broken h = record { few = omega arith; same = led Broken h; ready = tt }
+        pub going-broken : answer ≡ None → Gives w stack goal most (bare rest.Broken)
+        going-broken h = record { few = omega arith; same = led None h; ready = tt }
 
   -- at the start none waits
   pub going_start : (waiting : List Cursor) (p : Place) (stack : List Frame) → length waiting ≡ 16 → Standing w stack p

@@ -5,6 +5,7 @@ use mathlib.Core.Path.{◌≡◌, refl, sym, ap, ◌∙◌}
 use mathlib.Core.List.{List, []}
 use lib.ListN.{length}
 use borrow.Author.Tests.{eq-eqb, ne_eqb}
+use Rattle.std.specs.Prelude.{Option}
 use Rattle.meaning.proofs.Stacks.{suc-pred}
 use Rattle.layout.specs.States.{kind_of}
 use Rattle.layout.specs.declared.nodes.Kind.{Kind}
@@ -20,13 +21,13 @@ module _ (w : Given) (f nodes : ℕ) (frame : Frame) (stack : List Frame) where
   unfolding run
   run-spent e = rw e refl
 
-  pub run_by : 0 < f → (depth : ℕ) → length stack ≡ depth → (m : Move) → found w depth frame ≡ m
+  pub run_by : 0 < f → (depth : ℕ) → length stack ≡ depth → (m : Option Move) → found w depth frame ≡ m
       → run w f nodes (state frame stack) ≡ spend nodes (reads m) (λ k. follow w (run w (f - 1)) k frame stack m)
   unfolding run
   run_by some depth level m e =
       ap (λ n. run w n nodes (state frame stack)) (suc-pred f some) ∙ ap (λ n. by (found w n frame)) level ∙ ap by e
     where
-      by : Move → Leaves
+      by : Option Move → Leaves
       by q = spend nodes (reads q) (λ k. follow w (run w (f - 1)) k frame stack q)
 
 module _ (w : Given) (root radius nodes : ℕ) where

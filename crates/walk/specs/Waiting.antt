@@ -1,7 +1,7 @@
 -- Leaves that wait until the descents that lead to them are over.
 use Rattle.std.specs.Prelude.{ℕ, ◌<◌, ◌≡◌, cond, List, ltb, length, get_or, take, Option, Some, None}
 use Rattle.descent.specs.declared.Cursor.{Cursor}
-use Rattle.descent.specs.Cursor.{ended, drawn_all, leaf_of, left_of}
+use Rattle.descent.specs.Cursor.{ended, drawn_all, left_of}
 use Rattle.walk_steps.specs.declared.place.Place.{Place}
 use Rattle.walk_steps.specs.Given.{Given, leaf_from}
 use Rattle.walk_steps.specs.Place.{with_nodes}

@@ -1,5 +1,5 @@
 -- The walk over one block's trie, as a machine with fuel.
-use Rattle.std.specs.Prelude.{ℕ, zero, suc, cond, List, [], ◌∷◌, eqb, length}
+use Rattle.std.specs.Prelude.{ℕ, zero, suc, cond, List, [], ◌∷◌, eqb, length, Option, Some, None}
 use Rattle.layout.specs.Nodes.{steps_for}
 use Rattle.layout.specs.States.{kind_of}
 use Rattle.layout.specs.declared.nodes.Kind.{Kind}
@@ -7,7 +7,7 @@ use Rattle.layout.specs.declared.nodes.Kind.TheVariants as kind
 use Rattle.descent.specs.declared.Cursor.{Cursor}
 use Rattle.walk_steps.specs.declared.frame.Frame.{Frame}
 use Rattle.walk_steps.specs.declared.turn.Move.{Move}
-use Rattle.walk_steps.specs.declared.turn.Move.TheVariants.{Chain, Past, Leaf, Down, Up, Broken}
+use Rattle.walk_steps.specs.declared.turn.Move.TheVariants.{Chain, Past, Leaf, Down, Up}
 use Rattle.walk_steps.specs.Given.{Given, exact_from, leaf_from, drawn_from}
 use Rattle.walk_steps.specs.Turn.{entered, at_chain, at_link, found, reads}
 use Rattle.walk.specs.Leaves.{Leaves, leaves, broken, before, spend}
@@ -31,19 +31,19 @@ module _ (w : Given) where
     above [] = leaves [] nodes
     above (f ∷ fs) = run nodes (state f fs)
 
-    abbrev pub follow : Move → Leaves
-    follow (Chain at link) = run nodes (state (at_chain frame at link) stack)
-    follow (Past link) = run nodes (state (at_link frame link) stack)
-    follow (Leaf c link) = leaf_then (λ k. run k (state (at_link frame link) stack)) nodes c
-    follow (Down x radius link) = run nodes (state (entered w.nodes w.cap x radius) (at_link frame link ∷ stack))
-    follow Up = above stack
-    follow Broken = broken
+    abbrev pub follow : Option Move → Leaves
+    follow (Some (Chain at link)) = run nodes (state (at_chain frame at link) stack)
+    follow (Some (Past link)) = run nodes (state (at_link frame link) stack)
+    follow (Some (Leaf c link)) = leaf_then (λ k. run k (state (at_link frame link) stack)) nodes c
+    follow (Some (Down x radius link)) = run nodes (state (entered w.nodes w.cap x radius) (at_link frame link ∷ stack))
+    follow (Some Up) = above stack
+    follow None = broken
 
   -- at most f steps, with so many nodes to read
   unfoldable pub run : ℕ → ℕ → State → Leaves
   run zero nodes s = broken
   run (suc f) nodes s =
-      let m : Move = found w (length s.stack) s.frame in
+      let m : Option Move = found w (length s.stack) s.frame in
       spend nodes (reads m) (λ k. follow (run f) k s.frame s.stack m)
 
   -- below the inner node x: for each node that is read a step to it, at most seven to the next chain, and one up. The nodes are what can run out

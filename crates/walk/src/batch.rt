@@ -120,7 +120,10 @@ pub fn next(walk: &Walk<'_>, distances: &Distances, stack: &mut [Frame; 64], sta
     let mut n = 0;
     // No `for`: n counts leaves, not turns.
     while n < 16 {
-        match turn(walk, distances, place) {
+        let Some(to) = turn(walk, distances, place) else {
+            return bare(Rest::Broken);
+        };
+        match to {
             Move::Chain { at, link } => {
                 place = place.on_chain(at, link);
             }
@@ -143,7 +146,6 @@ pub fn next(walk: &Walk<'_>, distances: &Distances, stack: &mut [Frame; 64], sta
                 }
                 place = place.raise(stack);
             }
-            Move::Broken => return bare(Rest::Broken),
         }
     }
     settle(walk, waiting, n, place)

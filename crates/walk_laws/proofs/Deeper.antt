@@ -5,6 +5,7 @@ use native.Mathlib.Omega.{arith}
 use mathlib.Core.Path.{◌≡◌, refl, ◌∙◌}
 use mathlib.Core.List.{List, [], ◌∷◌}
 use lib.ListN.{get_or}
+use Rattle.std.specs.Prelude.{Some}
 use Rattle.meaning.specs.Lists.{count, from, upto}
 use Rattle.meaning.specs.Sketch.{per_byte, group, byte_distance}
 use Rattle.layout.specs.States.{kind_of}
@@ -103,10 +104,10 @@ pub deeper-trail-off : trail_from (w 26) 0 1 ≡ 0 ∷ 1 ∷ []
 deeper-trail-off = right-trail (w 26) page_table 8 16 (omega arith) (query 26 (omega arith)) t 1 holds sound fits (omega arith) (omega arith) ∙ near-off
 
 -- ---- the steps to node 1, which lead there
-step-one : found (w 27) 0 (record { cursor = record { at = 11; last = 13; link = 2 }; radius = 1 }) ≡ Leaf (exact_from (w 27) 1 1) 0
+step-one : found (w 27) 0 (record { cursor = record { at = 11; last = 13; link = 2 }; radius = 1 }) ≡ Some (Leaf (exact_from (w 27) 1 1) 0)
 unfolding found reached kind_of next_of look_at byte_distance count upto from per_byte group
 step-one = refl
 
-step-two : found (w 27) 0 (record { cursor = record { at = 11; last = 13; link = 2 }; radius = 2 }) ≡ Down 1 1 0
+step-two : found (w 27) 0 (record { cursor = record { at = 11; last = 13; link = 2 }; radius = 2 }) ≡ Some (Down 1 1 0)
 unfolding found reached kind_of next_of look_at byte_distance count upto from per_byte group
 step-two = refl

@@ -27,7 +27,7 @@ use Rattle.descent.specs.declared.Cursor.{Cursor}
 use Rattle.descent.specs.Cursor.{ended, ahead, outside, arrive_as, arrive, pass, advance, descended, drawn, leaf_of}
 use Rattle.walk_steps.specs.declared.frame.Frame.{Frame}
 use Rattle.walk_steps.specs.declared.turn.Move.{Move}
-use Rattle.walk_steps.specs.declared.turn.Move.TheVariants.{Chain, Past, Leaf, Down, Up, Broken}
+use Rattle.walk_steps.specs.declared.turn.Move.TheVariants.{Chain, Past, Leaf, Down, Up}
 use Rattle.walk_steps.specs.Given.{Given, given, exact_from, leaf_from, drawn_from}
 use Rattle.walk_steps.specs.Turn.{entered, at_chain, at_link, reached_as, reached, distance_at, found_by, found, reads}
 use Rattle.walk.specs.Leaves.{Leaves, leaves, broken, before, spend}
@@ -130,19 +130,19 @@ module _ {cap : ℕ} {N M : List ℕ} (a : Renumbered cap N M) where
   AllHigh (f ∷ fs) = High f × AllHigh fs
 
   -- and so does the next
-  abbrev HighNext : Next → Type 0
-  HighNext (next.Child x byte link) = Unit {0}
-  HighNext (next.Chain at link) = heads_at cap ≤ at
-  HighNext next.End = Unit {0}
-  HighNext next.Broken = Unit {0}
+  abbrev HighNext : Option Next → Type 0
+  HighNext (Some (next.Child x byte link)) = Unit {0}
+  HighNext (Some (next.Chain at link)) = heads_at cap ≤ at
+  HighNext (Some next.End) = Unit {0}
+  HighNext None = Unit {0}
 
-  abbrev HighMove : Move → Type 0
-  HighMove (Chain at link) = heads_at cap ≤ at
-  HighMove (Past link) = Unit {0}
-  HighMove (Leaf c link) = Unit {0}
-  HighMove (Down x radius link) = Unit {0}
-  HighMove Up = Unit {0}
-  HighMove Broken = Unit {0}
+  abbrev HighMove : Option Move → Type 0
+  HighMove (Some (Chain at link)) = heads_at cap ≤ at
+  HighMove (Some (Past link)) = Unit {0}
+  HighMove (Some (Leaf c link)) = Unit {0}
+  HighMove (Some (Down x radius link)) = Unit {0}
+  HighMove (Some Up) = Unit {0}
+  HighMove None = Unit {0}
 
   all-high : (x radius : ℕ) → High (entered N cap x radius)
   unfolding all_of
@@ -152,18 +152,18 @@ module _ {cap : ℕ} {N M : List ℕ} (a : Renumbered cap N M) where
   unfolding next_of
   next-same c h = go (eqb c.link 0) refl
     where
-      over : List ℕ → Next
-      over K = cond (ltb c.at c.last) (next.Chain (c.at + 1) (link_at K (c.at + 1))) next.End
+      over : List ℕ → Option Next
+      over K = cond (ltb c.at c.last) (Some (next.Chain (c.at + 1) (link_at K (c.at + 1)))) (Some next.End)
 
       go : (t : Bool) → eqb c.link 0 ≡ t → cond t (over M) (next_by (look_at M cap c.link)) ≡ cond t (over N) (next_by (look_at N cap c.link))
-      go true e = ap (λ w. cond (ltb c.at c.last) (next.Chain (c.at + 1) (link_of w)) next.End) (a.heads (c.at + 1) (omega arith))
+      go true e = ap (λ w. cond (ltb c.at c.last) (Some (next.Chain (c.at + 1) (link_of w))) (Some next.End)) (a.heads (c.at + 1) (omega arith))
       go false e = ap next_by (look-same c.link (eqb-false c.link 0 e))
 
   next-high : (c : Children) → heads_at cap ≤ c.at → HighNext (next_of N cap c)
   unfolding next_of
   next-high c h = go (eqb c.link 0) (ltb c.at c.last) (look_at N cap c.link)
     where
-      go : (t u : Bool) (s : Option Child) → HighNext (cond t (cond u (next.Chain (c.at + 1) (link_at N (c.at + 1))) next.End) (next_by s))
+      go : (t u : Bool) (s : Option Child) → HighNext (cond t (cond u (Some (next.Chain (c.at + 1) (link_at N (c.at + 1)))) (Some next.End)) (next_by s))
       go true true s = omega arith
       go true false s = tt
       go false u (Some s) = tt
@@ -187,24 +187,24 @@ module _ {cap : ℕ} {N M : List ℕ} (a : Renumbered cap N M) where
         by kind.Free = refl
         by (kind.Leaf first) = refl
         by kind.Inner =
-            ap (λ c. cond (eqb radius 0) (Leaf c link) (cond (ltb level (length bytes)) (Down x radius link) Broken)) (exact_same x level)
+            ap (λ c. cond (eqb radius 0) (Some (Leaf c link)) (cond (ltb level (length bytes)) (Some (Down x radius link)) None)) (exact_same x level)
 
     found-same : (level : ℕ) (f : Frame) → High f → found v level f ≡ found w level f
     unfolding found
     found-same level f h = ap (found_by v level f.radius) (next-same f.cursor h) ∙ by (next_of N cap f.cursor)
       where
-        by : (n : Next) → found_by v level f.radius n ≡ found_by w level f.radius n
-        by (next.Child x byte link) =
-            ap (cond (ltb f.radius (distance_at w level byte)) (Past link)) (reached-same x (level + 1) (f.radius - distance_at w level byte) link)
-        by (next.Chain at link) = refl
-        by next.End = refl
-        by next.Broken = refl
+        by : (n : Option Next) → found_by v level f.radius n ≡ found_by w level f.radius n
+        by (Some (next.Child x byte link)) =
+            ap (cond (ltb f.radius (distance_at w level byte)) (Some (Past link))) (reached-same x (level + 1) (f.radius - distance_at w level byte) link)
+        by (Some (next.Chain at link)) = refl
+        by (Some next.End) = refl
+        by None = refl
 
     reached-high : (x level radius link : ℕ) → HighMove (reached w x level radius link)
     unfolding reached
     reached-high x level radius link = by (kind_of N cap x)
       where
-        inner : (t u : Bool) (c : Cursor) → HighMove (cond t (Leaf c link) (cond u (Down x radius link) Broken))
+        inner : (t u : Bool) (c : Cursor) → HighMove (cond t (Some (Leaf c link)) (cond u (Some (Down x radius link)) None))
         inner true u c = tt
         inner false true c = tt
         inner false false c = tt
@@ -218,17 +218,17 @@ module _ {cap : ℕ} {N M : List ℕ} (a : Renumbered cap N M) where
     unfolding found
     found-high level f h = by (next_of N cap f.cursor) (next-high f.cursor h)
       where
-        either : (t : Bool) (link : ℕ) (m : Move) → HighMove m → HighMove (cond t (Past link) m)
+        either : (t : Bool) (link : ℕ) (m : Option Move) → HighMove m → HighMove (cond t (Some (Past link)) m)
         either true link m g = tt
         either false link m g = g
 
-        by : (n : Next) → HighNext n → HighMove (found_by w level f.radius n)
-        by (next.Child x byte link) g =
+        by : (n : Option Next) → HighNext n → HighMove (found_by w level f.radius n)
+        by (Some (next.Child x byte link)) g =
             either (ltb f.radius (distance_at w level byte)) link (reached w x (level + 1) (f.radius - distance_at w level byte) link)
             (reached-high x (level + 1) (f.radius - distance_at w level byte) link)
-        by (next.Chain at link) g = g
-        by next.End g = tt
-        by next.Broken g = tt
+        by (Some (next.Chain at link)) g = g
+        by (Some next.End) g = tt
+        by None g = tt
 
     leaf-same : (go on : ℕ → Leaves) (nodes : ℕ) (c : Cursor) → ((k : ℕ) → go k ≡ on k) → leaf_then v go nodes c ≡ leaf_then w on nodes c
     leaf-same go on nodes c e =
@@ -240,25 +240,25 @@ module _ {cap : ℕ} {N M : List ℕ} (a : Renumbered cap N M) where
     abbrev Same : ℕ → Type 0
     Same f = (nodes : ℕ) (frame : Frame) (stack : List Frame) → High frame → AllHigh stack → run v f nodes (state frame stack) ≡ run w f nodes (state frame stack)
 
-    follow-same : (f : ℕ) → Same f → (nodes : ℕ) (frame : Frame) (stack : List Frame) → High frame → AllHigh stack → (m : Move) → HighMove m
+    follow-same : (f : ℕ) → Same f → (nodes : ℕ) (frame : Frame) (stack : List Frame) → High frame → AllHigh stack → (m : Option Move) → HighMove m
         → follow v (run v f) nodes frame stack m ≡ follow w (run w f) nodes frame stack m
-    follow-same f same nodes frame stack h hs (Chain at link) g = same nodes (at_chain frame at link) stack g hs
-    follow-same f same nodes frame stack h hs (Past link) g = same nodes (at_link frame link) stack h hs
-    follow-same f same nodes frame stack h hs (Leaf c link) g =
+    follow-same f same nodes frame stack h hs (Some (Chain at link)) g = same nodes (at_chain frame at link) stack g hs
+    follow-same f same nodes frame stack h hs (Some (Past link)) g = same nodes (at_link frame link) stack h hs
+    follow-same f same nodes frame stack h hs (Some (Leaf c link)) g =
         leaf-same (λ k. run v f k (state (at_link frame link) stack)) (λ k. run w f k (state (at_link frame link) stack)) nodes c
         (λ k. same k (at_link frame link) stack h hs)
-    follow-same f same nodes frame stack h hs (Down x radius link) g =
+    follow-same f same nodes frame stack h hs (Some (Down x radius link)) g =
         ap (λ c. run v f nodes (state (record { cursor = c; radius = radius }) (at_link frame link ∷ stack))) (all_same x)
         ∙ same nodes (entered N cap x radius) (at_link frame link ∷ stack) (all-high x radius) (h, hs)
-    follow-same f same nodes frame [] h hs Up g = refl
-    follow-same f same nodes frame (over ∷ stack) h hs Up g = same nodes over stack hs.0 hs.1
-    follow-same f same nodes frame stack h hs Broken g = refl
+    follow-same f same nodes frame [] h hs (Some Up) g = refl
+    follow-same f same nodes frame (over ∷ stack) h hs (Some Up) g = same nodes over stack hs.0 hs.1
+    follow-same f same nodes frame stack h hs None g = refl
 
     run-same : (f : ℕ) → Same f
     unfolding run
     run-same zero nodes frame stack h hs = refl
     run-same (suc f) nodes frame stack h hs =
-        let m : Move = found w (length stack) frame in
+        let m : Option Move = found w (length stack) frame in
         ap (λ q. spend nodes (reads q) (λ k. follow v (run v f) k frame stack q)) (found-same (length stack) frame h)
         ∙ ap (cond (ltb nodes (reads m)) broken) (follow-same f (run-same f) (nodes - reads m) frame stack h hs m (found-high (length stack) frame h))
 

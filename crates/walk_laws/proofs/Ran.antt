@@ -5,6 +5,7 @@ use mathlib.Core.Path.{◌≡◌, refl, sym, ap, ap₂, ◌∙◌}
 use mathlib.Core.List.{List, [], ◌∷◌, ◌++◌, append_assoc}
 use lib.ListN.{length}
 use borrow.Author.Tests.{eq-eqb, ne_eqb}
+use Rattle.std.specs.Prelude.{Option, Some}
 use Rattle.meaning.proofs.Stacks.{suc-pred}
 use Rattle.layout.specs.Nodes.{steps_for}
 use Rattle.layout.specs.States.{kind_of}
@@ -81,43 +82,43 @@ module _ {w : Given} {f n : ℕ} {s : State} where
 
 -- ---- single steps, by the move that is found
 module _ (w : Given) (f n : ℕ) (some : 0 < f) (frame : Frame) (stack : List Frame) where
-  trail-by : (m : Move) → found w (length stack) frame ≡ m
+  trail-by : (m : Option Move) → found w (length stack) frame ≡ m
       → trail w f (state frame stack) ≡ goes w (frame.cursor.link - 1) m ++ trace w (trail w (f - 1)) frame stack m
   unfolding trail
   trail-by m e = ap (λ k. trail w k (state frame stack)) (suc-pred f some) ∙ ap gone e
     where
-      gone : Move → List ℕ
+      gone : Option Move → List ℕ
       gone q = goes w (frame.cursor.link - 1) q ++ trace w (trail w (f - 1)) frame stack q
 
-  run-paid : (m : Move) → found w (length stack) frame ≡ m → reads m ≤ n
+  run-paid : (m : Option Move) → found w (length stack) frame ≡ m → reads m ≤ n
       → run w f n (state frame stack) ≡ follow w (run w (f - 1)) (n - reads m) frame stack m
   run-paid m e l =
       run_by w f n frame stack some (length stack) refl m e ∙ spend-paid n (reads m) (λ k. follow w (run w (f - 1)) k frame stack m) l
 
-  pub step-chain : (at link : ℕ) → found w (length stack) frame ≡ move.Chain at link
+  pub step-chain : (at link : ℕ) → found w (length stack) frame ≡ Some (move.Chain at link)
       → Ran w f n (state frame stack) (state (at_chain frame at link) stack) 1 0 [] []
   step-chain at link e = record {
     rest = f - 1;
     enough = omega arith;
     over = n - 0;
     lasts = omega arith;
-    same = run-paid (move.Chain at link) e (omega arith) ∙ sym (before-none (run w (f - 1) (n - 0) (state (at_chain frame at link) stack)));
-    nodes = trail-by (move.Chain at link) e;
+    same = run-paid (Some (move.Chain at link)) e (omega arith) ∙ sym (before-none (run w (f - 1) (n - 0) (state (at_chain frame at link) stack)));
+    nodes = trail-by (Some (move.Chain at link)) e;
   }
 
-  pub step_past : (link : ℕ) → found w (length stack) frame ≡ move.Past link → 0 < n
+  pub step_past : (link : ℕ) → found w (length stack) frame ≡ Some (move.Past link) → 0 < n
       → Ran w f n (state frame stack) (state (at_link frame link) stack) 1 1 [] []
   step_past link e l = record {
     rest = f - 1;
     enough = omega arith;
     over = n - 1;
     lasts = omega arith;
-    same = run-paid (move.Past link) e l ∙ sym (before-none (run w (f - 1) (n - 1) (state (at_link frame link) stack)));
-    nodes = trail-by (move.Past link) e;
+    same = run-paid (Some (move.Past link)) e l ∙ sym (before-none (run w (f - 1) (n - 1) (state (at_link frame link) stack)));
+    nodes = trail-by (Some (move.Past link)) e;
   }
 
   -- to a leaf by a descent from node x, which reads at most e nodes
-  pub step-leaf : (x : ℕ) (c : Cursor) (link leaf e : ℕ) (went : List ℕ) → frame.cursor.link ≡ x + 1 → found w (length stack) frame ≡ move.Leaf c link
+  pub step-leaf : (x : ℕ) (c : Cursor) (link leaf e : ℕ) (went : List ℕ) → frame.cursor.link ≡ x + 1 → found w (length stack) frame ≡ Some (move.Leaf c link)
       → leaf_from w c ≡ leaf → exact_after w c ≡ went → drawn_from w c ≤ e → 1 + e ≤ n
       → Ran w f n (state frame stack) (state (at_link frame link) stack) 1 (1 + e) (leaf ∷ []) (x ∷ went)
   step-leaf x c link leaf e went i g h t most paid =
@@ -127,13 +128,13 @@ module _ (w : Given) (f n : ℕ) (some : 0 < f) (frame : Frame) (stack : List Fr
         enough = omega arith;
         over = n - 1 - drawn_from w c;
         lasts = omega arith;
-        same = run-paid (move.Leaf c link) g (omega arith)
+        same = run-paid (Some (move.Leaf c link)) g (omega arith)
             ∙ spend-paid (n - 1) (drawn_from w c) (λ k. before (leaf_from w c ∷ []) (run w (f - 1) k (state (at_link frame link) stack))) (omega arith)
             ∙ ap (λ l. before (l ∷ []) (run w (f - 1) (n - 1 - drawn_from w c) (state (at_link frame link) stack))) h;
-        nodes = trail-by (move.Leaf c link) g ∙ ap₂ (λ y zs. y ∷ (zs ++ trail w (f - 1) (state (at_link frame link) stack))) back t;
+        nodes = trail-by (Some (move.Leaf c link)) g ∙ ap₂ (λ y zs. y ∷ (zs ++ trail w (f - 1) (state (at_link frame link) stack))) back t;
       }
 
-  pub step_down : (x radius link : ℕ) → frame.cursor.link ≡ x + 1 → found w (length stack) frame ≡ move.Down x radius link → 0 < n
+  pub step_down : (x radius link : ℕ) → frame.cursor.link ≡ x + 1 → found w (length stack) frame ≡ Some (move.Down x radius link) → 0 < n
       → Ran w f n (state frame stack) (state (entered w.nodes w.cap x radius) (at_link frame link ∷ stack)) 1 1 [] (x ∷ [])
   step_down x radius link i e l =
       let back : frame.cursor.link - 1 ≡ x = omega arith in
@@ -143,27 +144,27 @@ module _ (w : Given) (f n : ℕ) (some : 0 < f) (frame : Frame) (stack : List Fr
         enough = omega arith;
         over = n - 1;
         lasts = omega arith;
-        same = run-paid (move.Down x radius link) e l ∙ sym (before-none (run w (f - 1) (n - 1) below));
-        nodes = trail-by (move.Down x radius link) e ∙ ap (λ y. y ∷ trail w (f - 1) below) back;
+        same = run-paid (Some (move.Down x radius link)) e l ∙ sym (before-none (run w (f - 1) (n - 1) below));
+        nodes = trail-by (Some (move.Down x radius link)) e ∙ ap (λ y. y ∷ trail w (f - 1) below) back;
       }
 
 module _ (w : Given) (f n : ℕ) (some : 0 < f) (frame : Frame) where
-  pub step-up : (back : Frame) (stack : List Frame) → found w (length (back ∷ stack)) frame ≡ move.Up
+  pub step-up : (back : Frame) (stack : List Frame) → found w (length (back ∷ stack)) frame ≡ Some move.Up
       → Ran w f n (state frame (back ∷ stack)) (state back stack) 1 0 [] []
   step-up back stack e = record {
     rest = f - 1;
     enough = omega arith;
     over = n - 0;
     lasts = omega arith;
-    same = run-paid w f n some frame (back ∷ stack) move.Up e (omega arith) ∙ sym (before-none (run w (f - 1) (n - 0) (state back stack)));
-    nodes = trail-by w f n some frame (back ∷ stack) move.Up e;
+    same = run-paid w f n some frame (back ∷ stack) (Some move.Up) e (omega arith) ∙ sym (before-none (run w (f - 1) (n - 0) (state back stack)));
+    nodes = trail-by w f n some frame (back ∷ stack) (Some move.Up) e;
   }
 
-  pub step_end : found w 0 frame ≡ move.Up → run w f n (state frame []) ≡ leaves [] (n - 0)
-  step_end e = run-paid w f n some frame [] move.Up e (omega arith)
+  pub step_end : found w 0 frame ≡ Some move.Up → run w f n (state frame []) ≡ leaves [] (n - 0)
+  step_end e = run-paid w f n some frame [] (Some move.Up) e (omega arith)
 
-  pub trail-end : found w 0 frame ≡ move.Up → trail w f (state frame []) ≡ []
-  trail-end e = trail-by w f n some frame [] move.Up e
+  pub trail-end : found w 0 frame ≡ Some move.Up → trail w f (state frame []) ≡ []
+  trail-end e = trail-by w f n some frame [] (Some move.Up) e
 
 -- ---- over to where a cursor finds a child, or the end
 -- a frame at another cursor

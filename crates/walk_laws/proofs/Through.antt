@@ -12,6 +12,7 @@ use lib.Dec.{leb}
 use lib.ListN.{length, get_or, drop}
 use lib.Seq.{drop-cons}
 use borrow.Author.Tests.{leb-true, leb-false}
+use Rattle.std.specs.Prelude.{Some}
 use Rattle.meaning.specs.Sketch.{per_byte, byte_distance}
 use Rattle.meaning.specs.Trie.{met, nodes, nodes_in}
 use Rattle.layout.specs.Nodes.{steps_for, node_steps}
@@ -102,7 +103,7 @@ module _ (w : Given) where
   -- the children of a node are exhausted
   pub record Under (f n : ℕ) (frame : Frame) (ks : Kids) (stack : List Frame) (cost : ℕ) : Type 0 where
     pub done : Frame
-    pub up : found w (length stack) done ≡ move.Up
+    pub up : found w (length stack) done ≡ Some move.Up
     pub ran : Ran w f n (state frame stack) (state done stack) cost (steps_among ks) (links_k ks frame.radius stack) (near_in ks frame.radius stack)
 
   -- a child is passed, with a link after it
@@ -127,7 +128,7 @@ module _ (w : Given) (P : List ℕ) (pcap base : ℕ) (small : Small w.cap pcap)
   abbrev gone_near : ℕ → Phys → ℕ → List Frame → Bool → List ℕ
   gone_near c t r stack q = cond q (near_t w t (r - distance c stack) stack) []
 
-  child-through : (c : ℕ) (t : Phys) (stack : List Frame) (f n : ℕ) (frame : Frame) (l : ℕ) → next_of N w.cap frame.cursor ≡ next.Child (root t) c l
+  child-through : (c : ℕ) (t : Phys) (stack : List Frame) (f n : ℕ) (frame : Frame) (l : ℕ) → next_of N w.cap frame.cursor ≡ Some (next.Child (root t) c l)
       → c < 256 → 0 < f → 0 < n
       → ((r : ℕ) → found w (length stack) frame ≡ reached w (root t) (length stack + 1) r l
       → Passed w f n frame stack t l (links_t w t r stack) (near_t w t r stack))
@@ -181,7 +182,7 @@ module _ (w : Given) (P : List ℕ) (pcap base : ℕ) (small : Small w.cap pcap)
         (ran-within {d = 1 + steps_among ks} (omega arith) (omega arith)
         (step-leaf w f n (omega arith) frame stack x (exact_from w x k') l (first (met w.b 0 (tree t) (behind w stack))) (steps_among ks)
         (exact_after w (exact_from w x k')) i
-        (e ∙ to-exact w x (length stack + 1) r l h.0 z ∙ ap (λ q. move.Leaf (exact_from w x q) l) (sym level))
+        (e ∙ to-exact w x (length stack + 1) r l h.0 z ∙ ap (λ q. Some (move.Leaf (exact_from w x q) l)) (sym level))
         (exact-leaf w P pcap base small query t k' h s u few) refl (exact-drew w P pcap base small query t k' h s u) (omega arith)))
 
     -- else through all its children

@@ -37,13 +37,13 @@ module _ (w : Given) where
   exact_after c = exact_trail w.nodes w.cap w.bytes w.cap c
 
   -- where a step goes that looks at node x; one past a child that is too far does not go there
-  abbrev pub goes : ℕ → Move → List ℕ
-  goes x (move.Chain at link) = []
-  goes x (move.Past link) = []
-  goes x (move.Leaf c link) = x ∷ exact_after c
-  goes x (move.Down y radius link) = x ∷ []
-  goes x move.Up = []
-  goes x move.Broken = []
+  abbrev pub goes : ℕ → Option Move → List ℕ
+  goes x (Some (move.Chain at link)) = []
+  goes x (Some (move.Past link)) = []
+  goes x (Some (move.Leaf c link)) = x ∷ exact_after c
+  goes x (Some (move.Down y radius link)) = x ∷ []
+  goes x (Some move.Up) = []
+  goes x None = []
 
   -- the nodes behind a step, as `follow` follows it
   module _ (trail : State → List ℕ) (frame : Frame) (stack : List Frame) where
@@ -51,19 +51,19 @@ module _ (w : Given) where
     trace_above [] = []
     trace_above (f ∷ fs) = trail (state f fs)
 
-    abbrev pub trace : Move → List ℕ
-    trace (move.Chain at link) = trail (state (at_chain frame at link) stack)
-    trace (move.Past link) = trail (state (at_link frame link) stack)
-    trace (move.Leaf c link) = trail (state (at_link frame link) stack)
-    trace (move.Down x radius link) = trail (state (entered w.nodes w.cap x radius) (at_link frame link ∷ stack))
-    trace move.Up = trace_above stack
-    trace move.Broken = []
+    abbrev pub trace : Option Move → List ℕ
+    trace (Some (move.Chain at link)) = trail (state (at_chain frame at link) stack)
+    trace (Some (move.Past link)) = trail (state (at_link frame link) stack)
+    trace (Some (move.Leaf c link)) = trail (state (at_link frame link) stack)
+    trace (Some (move.Down x radius link)) = trail (state (entered w.nodes w.cap x radius) (at_link frame link ∷ stack))
+    trace (Some move.Up) = trace_above stack
+    trace None = []
 
   -- the nodes that the steps of `run` go to
   unfoldable pub trail : ℕ → State → List ℕ
   trail zero s = []
   trail (suc f) s =
-      let m : Move = found w (length s.stack) s.frame in
+      let m : Option Move = found w (length s.stack) s.frame in
       goes (s.frame.cursor.link - 1) m ++ trace (trail f) s.frame s.stack m
 
   -- below an inner root

@@ -1,9 +1,8 @@
 -- Where a walk stands between its steps.
-use Rattle.std.specs.Prelude.{ℕ, ◌+◌, ◌-◌, cond, List, ltb, eqb}
+use Rattle.std.specs.Prelude.{ℕ, ◌+◌, ◌-◌, cond, List, ltb, eqb, Option, None}
 use Rattle.walk_steps.specs.declared.frame.Frame.{Frame}
 use Rattle.walk_steps.specs.declared.place.Place.{Place}
 use Rattle.walk_steps.specs.declared.turn.Move.{Move}
-use Rattle.walk_steps.specs.declared.turn.Move.TheVariants.{Broken}
 use Rattle.walk_steps.specs.Given.{Given}
 use Rattle.walk_steps.specs.Turn.{entered, at_chain, at_link, found, reads}
 use Rattle.walk_steps.specs.Stack.{frame_at}
@@ -32,7 +31,7 @@ abbrev pub raised : List Frame → Place → Place
 raised stack p = placed (p.depth - 1) (frame_at stack (p.depth - 1)) p.nodes (p.steps - 1)
 
 -- the next step, where there are a step and the node that it reads
-unfoldable pub turned : Given → Place → Move
+unfoldable pub turned : Given → Place → Option Move
 turned w p =
-    let m : Move = found w p.depth p.frame in
-    cond (eqb p.steps 0) Broken (cond (ltb p.nodes (reads m)) Broken m)
+    let m : Option Move = found w p.depth p.frame in
+    cond (eqb p.steps 0) None (cond (ltb p.nodes (reads m)) None m)

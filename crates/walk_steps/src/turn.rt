@@ -12,7 +12,7 @@ use descent::Cursor;
 use distances::Distances;
 use layout::nodes::Kind;
 
-// Where a step leads; `link` is the one to go on from. An enum: six things can come next.
+// Where a step leads; `link` is the one to go on from.
 #[derive(Clone, Copy, Debug, PartialEq, Eq)]
 pub enum Move {
     // to the next chain, whose head is at `at`
@@ -25,65 +25,64 @@ pub enum Move {
     Down { node: u32, radius: u32, link: u32 },
     // back to the node above
     Up,
-    // a link is not in order, or no node or step is left
-    Broken,
 }
 
 // To a child x that is within the radius, when so much of it is left: at a level of the query's bytes, and with a link after it.
-// With none left the query's own bytes lead on.
-fn reach(walk: &Walk<'_>, x: usize, level: usize, radius: u32, link: u32) -> Move
+// With none left the query's own bytes lead on. None where a link is not in order.
+fn reach(walk: &Walk<'_>, x: usize, level: usize, radius: u32, link: u32) -> Option<Move>
     requires { (x < walk.now.cap) × (level < 65) }
     ensures { result ≡ reached (given_of walk.now) x level radius link }
 {
     let nodes = walk.nodes;
     let bytes = walk.bytes;
     match layout::nodes::kind_of(nodes, walk.cap, x) {
-        Kind::Free => Move::Broken,
-        Kind::Leaf(first) => Move::Leaf {
+        Kind::Free => None,
+        Kind::Leaf(first) => Some(Move::Leaf {
             descent: descent::ended(first),
             link,
-        },
+        }),
         Kind::Inner => {
             if radius == 0 {
                 let last = (bytes.len() - 1) as u32;
                 let c = descent::arrive(nodes, walk.cap, bytes, x, level as u32, last);
-                return Move::Leaf { descent: c, link };
+                return Some(Move::Leaf { descent: c, link });
             }
             if level >= bytes.len() {
-                return Move::Broken;
+                return None;
             }
-            Move::Down {
+            Some(Move::Down {
                 node: x as u32,
                 radius,
                 link,
-            }
+            })
         }
     }
 }
 
-// Takes one step for the query's bytes.
+// Takes one step for the query's bytes. None where a link is not in order, or no node or step is left. No `From` of the next child's step:
+// a match for its one use.
 #[tactic(auto, unfolding(crate::specs::Place::turned))]
-pub fn turn(walk: &Walk<'_>, distances: &Distances, place: Place) -> Move
+pub fn turn(walk: &Walk<'_>, distances: &Distances, place: Place) -> Option<Move>
     requires { (place.depth < length walk.now.bytes.now) × (place.frame.cursor.last < node_words walk.now.cap) }
     ensures { result ≡ turned (given_of walk.now) place }
 {
     if place.steps == 0 {
-        return Move::Broken;
+        return None;
     }
     let frame = place.frame;
-    match children::cursor::step(walk.nodes, walk.cap, frame.cursor) {
-        Next::Chain { at, link } => Move::Chain { at, link },
-        Next::End => Move::Up,
-        Next::Broken => Move::Broken,
+    let next = children::cursor::step(walk.nodes, walk.cap, frame.cursor)?;
+    match next {
+        Next::Chain { at, link } => Some(Move::Chain { at, link }),
+        Next::End => Some(Move::Up),
         Next::Child { node, byte, link } => {
             if place.nodes == 0 {
-                return Move::Broken;
+                return None;
             }
             let depth = place.depth;
             let v = (byte % 256) as u8 ^ walk.bytes[depth];
             let d = distances.byte_distance(walk.b, v);
             if frame.radius < d {
-                return Move::Past { link };
+                return Some(Move::Past { link });
             }
             reach(walk, node as usize, depth + 1, frame.radius - d, link)
         }
