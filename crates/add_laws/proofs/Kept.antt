@@ -22,7 +22,7 @@ use Rattle.blocks.specs.declared.Rows.{Rows}
 use Rattle.trie.specs.declared.Stop.TheVariants.{Full}
 use Rattle.trie.specs.declared.Stop.TheVariants as stop
 use Rattle.children.specs.declared.place.Place.{Place}
-use Rattle.children.specs.declared.place.Place.TheVariants.{Found, Missing, Broken}
+use Rattle.children.specs.declared.place.Place.TheVariants.{Found, Missing}
 use Rattle.blocks.specs.Tables.{RowTable}
 use Rattle.blocks.specs.Packed.{page_byte, level_at}
 use Rattle.children.specs.Places.{Inside, find_place}
@@ -72,10 +72,10 @@ module _ (cap : ℕ) where
   unfolding child_leaf
   child-kept N n b free ln lb = go (find_place N cap n b) (find-inside N cap b n ln lb)
     where
-      go : (q : Place) → Inside cap q → KeptM N (made_at N cap b free q)
-      go (Found s c) i = (within_none, omega (arith, i.child))
-      go (Missing s) i = fresh_kept N s b free i.slot
-      go Broken i = (within_none, omega arith)
+      go : (q : Option Place) → Inside cap q → KeptM N (made_at N cap b free q)
+      go (Some (Found s c)) i = (within_none, omega (arith, i.child))
+      go (Some (Missing s)) i = fresh_kept N s b free i.slot
+      go None i = (within_none, omega arith)
 
   module _ (N Y : List ℕ) (octets : (k : ℕ) → get_or Y k 0 < 256) where
     aim_kept : (root free : ℕ) → root < cap → KeptA N (leaf_for N cap Y root free)

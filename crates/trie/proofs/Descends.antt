@@ -10,7 +10,7 @@ use Rattle.layout.specs.States.{kind_of}
 use Rattle.layout.specs.declared.nodes.Kind.{Kind}
 use Rattle.layout.specs.declared.nodes.Kind.TheVariants as kind
 use Rattle.children.specs.declared.place.Place.{Place}
-use Rattle.children.specs.declared.place.Place.TheVariants.{Found, Missing, Broken as NoPlace}
+use Rattle.children.specs.declared.place.Place.TheVariants.{Found, Missing}
 use Rattle.children.specs.Places.{find_place}
 use Rattle.trie.specs.declared.path.Step.{Step}
 use Rattle.trie.specs.declared.path.Step.TheVariants.{Child}
@@ -33,18 +33,18 @@ module _ (N : List ℕ) (cap : ℕ) (Y : List ℕ) (n k : ℕ) (q : Kind) (e : q
     unfolding step_to
     step-out o = rw (← e, l, le-ltb _ _ o) refl
 
-    module _ (i : k < length Y) (r : Place) (h : r ≡ find_place N cap n (get_or Y k 0)) where
+    module _ (i : k < length Y) (r : Option Place) (h : r ≡ find_place N cap n (get_or Y k 0)) where
       pub step-inner : step_by r ≡ step_to N cap Y n k
       unfolding step_to
       step-inner = rw (← e, l, lt-ltb _ _ i, h) refl
 
-      pub step-found : (s c : ℕ) → r ≡ Found s c → Some (Child s c) ≡ step_to N cap Y n k
+      pub step-found : (s c : ℕ) → r ≡ Some (Found s c) → Some (Child s c) ≡ step_to N cap Y n k
       step-found s c w = rw w at step-inner
 
-      pub step-gap : (s : ℕ) → r ≡ Missing s → Some (step.Gap s) ≡ step_to N cap Y n k
+      pub step-gap : (s : ℕ) → r ≡ Some (Missing s) → Some (step.Gap s) ≡ step_to N cap Y n k
       step-gap s w = rw w at step-inner
 
-      pub step-nowhere : r ≡ NoPlace → None ≡ step_to N cap Y n k
+      pub step-nowhere : r ≡ None → None ≡ step_to N cap Y n k
       step-nowhere w = rw w at step-inner
 
 -- R is what the walk comes to in the end

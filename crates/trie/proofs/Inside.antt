@@ -13,7 +13,7 @@ use Rattle.layout.specs.States.{kind_of}
 use Rattle.layout.specs.declared.nodes.Kind.{Kind}
 use Rattle.layout.specs.declared.nodes.Kind.TheVariants as kind
 use Rattle.children.specs.declared.place.Place.{Place}
-use Rattle.children.specs.declared.place.Place.TheVariants.{Found, Missing, Broken as NoPlace}
+use Rattle.children.specs.declared.place.Place.TheVariants.{Found, Missing}
 use Rattle.children.specs.Places.{find_place, Inside as PlaceInside}
 use Rattle.children.proofs.Places.{find-inside}
 use Rattle.trie.specs.declared.path.Step.{Step}
@@ -32,10 +32,10 @@ module _ (N : List ℕ) (cap : ℕ) (Y : List ℕ) (octets : (k : ℕ) → get_o
   unfolding step_to
   step-inside n k ln = at (kind_of N cap n) (cond (ltb k (length Y)) (step_by (find_place N cap n (get_or Y k 0))) None) (on (ltb k (length Y)) refl)
     where
-      by : k < length Y → (r : Place) → PlaceInside cap r → StepInside cap (length Y) k (step_by r)
-      by l (Found s c) i = (i.child, i.slot, l)
-      by l (Missing s) i = (i.slot, l)
-      by l NoPlace i = tt
+      by : k < length Y → (r : Option Place) → PlaceInside cap r → StepInside cap (length Y) k (step_by r)
+      by l (Some (Found s c)) i = (i.child, i.slot, l)
+      by l (Some (Missing s)) i = (i.slot, l)
+      by l None i = tt
 
       on : (b : Bool) → ltb k (length Y) ≡ b → StepInside cap (length Y) k (cond b (step_by (find_place N cap n (get_or Y k 0))) None)
       on true e = by (ltb-true k (length Y) e) (find_place N cap n (get_or Y k 0)) (find-inside N cap (get_or Y k 0) n ln (octets k))

@@ -5,7 +5,7 @@ use Rattle.layout.specs.States.{kind_of}
 use Rattle.layout.specs.declared.nodes.Kind.{Kind}
 use Rattle.layout.specs.declared.nodes.Kind.TheVariants as kind
 use Rattle.children.specs.declared.place.Place.{Place}
-use Rattle.children.specs.declared.place.Place.TheVariants.{Found, Missing, Broken as NoPlace}
+use Rattle.children.specs.declared.place.Place.TheVariants.{Found, Missing}
 use Rattle.children.specs.Places.{find_place}
 use Rattle.trie.specs.declared.path.Step.{Step}
 use Rattle.trie.specs.declared.path.Step.TheVariants.{Child}
@@ -16,10 +16,10 @@ use Rattle.trie.specs.declared.path.Reach.{Reach}
 use Rattle.trie.specs.declared.path.Reach.TheVariants.{Leaf, Gap}
 
 -- where the byte of a place leads
-abbrev pub step_by : Place → Option Step
-step_by (Found s c) = Some (Child s c)
-step_by (Missing s) = Some (step.Gap s)
-step_by NoPlace = None
+abbrev pub step_by : Option Place → Option Step
+step_by (Some (Found s c)) = Some (Child s c)
+step_by (Some (Missing s)) = Some (step.Gap s)
+step_by None = None
 
 -- only an inner node has children
 abbrev pub step_in : Option Step → Kind → Option Step

@@ -31,11 +31,10 @@ fn step_to(nodes: &[u32], cap: usize, bytes: &[u8], n: usize, level: usize) -> O
     if level >= bytes.len() {
         return None;
     }
-    // No `From`: the same three lines, for this one place.
-    match find_place(nodes, cap, n, bytes[level]) {
+    // No `From`: the same two lines, for this one place.
+    match find_place(nodes, cap, n, bytes[level])? {
         Place::Found { slot, child } => Some(Step::Child { slot, child }),
         Place::Missing { slot } => Some(Step::Gap { slot }),
-        Place::Broken => None,
     }
 }
 
