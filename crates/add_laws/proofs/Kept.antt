@@ -3,7 +3,7 @@ use Prim.Native.Nat.{ℕ, zero, suc, ◌+◌, ◌-◌, ◌≤◌, ◌<◌}
 use native.Mathlib.Omega.{arith}
 use mathlib.Core.Path.{◌≡◌, refl}
 use mathlib.Core.Bool.{Bool, true, false, cond}
-use Rattle.std.specs.Prelude.{Ok, Err}
+use Rattle.std.specs.Prelude.{Ok, Err, Option, Some, None}
 use mathlib.Core.List.{List}
 use borrow.Author.Tests.{eqb-false, ltb-false}
 use lib.Dec.{ltb, eqb}
@@ -22,7 +22,7 @@ use Rattle.blocks.specs.declared.Rows.{Rows}
 use Rattle.trie.specs.declared.Stop.TheVariants.{Full}
 use Rattle.trie.specs.declared.Stop.TheVariants as stop
 use Rattle.children.specs.declared.place.Place.{Place}
-use Rattle.children.specs.declared.place.Place.TheVariants.{Found, Missing, Broken}
+use Rattle.children.specs.declared.place.Place.TheVariants.{Found, Missing}
 use Rattle.blocks.specs.Tables.{RowTable}
 use Rattle.blocks.specs.Packed.{page_byte, level_at}
 use Rattle.children.specs.Places.{Inside, find_place}
@@ -32,7 +32,6 @@ use Rattle.blocks.proofs.Bytes.{level-table, byte_small}
 use Rattle.blocks.proofs.Tables.{links-high}
 use Rattle.trie.specs.declared.path.Reach.{Reach}
 use Rattle.trie.specs.declared.path.Reach.TheVariants.{Leaf, Gap}
-use Rattle.trie.specs.declared.path.Reach.TheVariants as reach
 use Rattle.trie.specs.Descend.{descend_to, Inside as ReachInside}
 use Rattle.trie.proofs.Inside.{descend-inside}
 use Rattle.trie_insert.specs.Pages.{Pushed, pushed, push_at, push_page, After, after, put_done, put_into, put_leaf_m}
@@ -73,10 +72,10 @@ module _ (cap : ℕ) where
   unfolding child_leaf
   child-kept N n b free ln lb = go (find_place N cap n b) (find-inside N cap b n ln lb)
     where
-      go : (q : Place) → Inside cap q → KeptM N (made_at N cap b free q)
-      go (Found s c) i = (within_none, omega (arith, i.child))
-      go (Missing s) i = fresh_kept N s b free i.slot
-      go Broken i = (within_none, omega arith)
+      go : (q : Option Place) → Inside cap q → KeptM N (made_at N cap b free q)
+      go (Some (Found s c)) i = (within_none, omega (arith, i.child))
+      go (Some (Missing s)) i = fresh_kept N s b free i.slot
+      go None i = (within_none, omega arith)
 
   module _ (N Y : List ℕ) (octets : (k : ℕ) → get_or Y k 0 < 256) where
     aim_kept : (root free : ℕ) → root < cap → KeptA N (leaf_for N cap Y root free)
@@ -87,10 +86,10 @@ module _ (cap : ℕ) where
         fresh k (made N' (Ok g)) e = e
         fresh k (made N' (Err why)) e = e
 
-        go : (q : Reach) → ReachInside cap (length Y) q → KeptA N (aim_at N cap Y free q)
-        go (Leaf at) i = (within_none, omega arith)
-        go (Gap at) i = fresh (at.level + 1) (fresh_leaf N cap at.slot (get_or Y at.level 0) free) (fresh_kept N at.slot (get_or Y at.level 0) free i.1)
-        go reach.Broken i = (within_none, omega arith)
+        go : (q : Option Reach) → ReachInside cap (length Y) q → KeptA N (aim_at N cap Y free q)
+        go (Some (Leaf at)) i = (within_none, omega arith)
+        go (Some (Gap at)) i = fresh (at.level + 1) (fresh_leaf N cap at.slot (get_or Y at.level 0) free) (fresh_kept N at.slot (get_or Y at.level 0) free i.1)
+        go None i = (within_none, omega arith)
 
 -- ---- both tables, of cap nodes, and pages inside lo .. hi
 module _ (cap lo hi : ℕ) where

@@ -1,4 +1,5 @@
 -- An example, computed: four nodes, the first inner with children of the bytes 1 and 2, in chain 0, and 40, in chain 1.
+use Rattle.std.specs.Prelude.{Some}
 use Prim.Native.Nat.{ℕ}
 use native.Mathlib.Omega.{arith}
 use mathlib.Core.Path.{◌≡◌, refl}
@@ -27,14 +28,14 @@ pub sound : Sound 4 4 t
 sound = search arith
 
 -- a child that is there, with the slot that links to it, and two that are not
-pub found : find_place N 4 0 2 ≡ Found 1 2
+pub found : find_place N 4 0 2 ≡ Some (Found 1 2)
 unfolding find_place place_from
 found = refl
 
-pub behind : find_place N 4 0 41 ≡ Missing 3
+pub behind : find_place N 4 0 41 ≡ Some (Missing 3)
 unfolding find_place place_from
 behind = refl
 
-pub other-chain : find_place N 4 0 100 ≡ Missing 11
+pub other-chain : find_place N 4 0 100 ≡ Some (Missing 11)
 unfolding find_place place_from
 other-chain = refl

@@ -1,4 +1,5 @@
 -- What stands at the place of a byte among the children of a node: a child, or none.
+use Rattle.std.specs.Prelude.{Option, Some}
 use Prim.Native.Nat.{ℕ, ◌+◌}
 use Rattle.meaning.specs.Trie.{Children, child}
 use Rattle.layout.specs.Nodes.{chain_word}
@@ -21,9 +22,9 @@ onto b gap cs = cs
 onto b (held u) cs = child b (tree u) cs
 
 -- what `find_place` answers
-abbrev pub answer : Held → ℕ → Place
-answer gap s = Missing s
-answer (held u) s = Found s (root u)
+abbrev pub answer : Held → ℕ → Option Place
+answer gap s = Some (Missing s)
+answer (held u) s = Some (Found s (root u))
 
 -- the link in the slot before it, where `next` is the link to what is after it
 abbrev pub link_to : Held → ℕ → ℕ

@@ -1,4 +1,5 @@
 -- On any table, `find_place` gives a slot and a child inside it.
+use Rattle.std.specs.Prelude.{Some, None}
 use Prim.Native.Nat.{ℕ, zero, suc, ◌/◌, ◌<◌}
 use native.Mathlib.Omega.{arith}
 use mathlib.Core.Path.{◌≡◌, refl}
@@ -7,7 +8,7 @@ use mathlib.Core.List.{List}
 use borrow.Author.Tests.{eqb-false, ltb-false}
 use lib.Dec.{ltb, eqb}
 use Rattle.layout.specs.Nodes.{head_at, node_words}
-use Rattle.children.specs.declared.place.Place.TheVariants.{Found, Missing, Broken}
+use Rattle.children.specs.declared.place.Place.TheVariants.{Found, Missing}
 use Rattle.children.specs.Places.{Inside, link_at, child_at, byte_in, place_from, find_place}
 
 module _ (N : List ℕ) (cap b : ℕ) where
@@ -19,7 +20,7 @@ module _ (N : List ℕ) (cap b : ℕ) where
     where
       go : (z : Bool) → eqb (link_at N s) 0 ≡ z → (w : Bool) → ltb cap (link_at N s) ≡ w → (x y : Bool) →
           (child_at N s < node_words cap → Inside cap (place_from N cap b (child_at N s) f)) →
-          Inside cap (cond z (Missing s) (cond w Broken (cond x (place_from N cap b (child_at N s) f) (cond y (Found s (child_at N s)) (Missing s)))))
+          Inside cap (cond z (Some (Missing s)) (cond w None (cond x (place_from N cap b (child_at N s) f) (cond y (Some (Found s (child_at N s))) (Some (Missing s))))))
       go true e w m x y ih = record { slot = l; child = omega arith }
       go false e true m x y ih = record { slot = omega arith; child = omega arith }
       go false e false m true y ih = ih (omega (arith, eqb-false (link_at N s) 0 e, ltb-false cap (link_at N s) m))

@@ -6,18 +6,16 @@ ghost use Rattle.children.specs.Places.{Inside, find_place};
 use layout::nodes::{byte_of, head_at, link_of};
 
 // Where a byte belongs among a node's children: the slot that links to its child, with the child, or that is to.
-// An enum of three: an Option around two would trade an arm of each caller's match for a `?` or an `ok_or`.
 #[derive(Clone, Copy, Debug, PartialEq, Eq)]
 pub enum Place {
     Found { slot: usize, child: usize },
     Missing { slot: usize },
-    Broken,
 }
 
 // A chain has at most 32 children: the budget is enough for every sound table. No search of the library: the children are linked
-// through the node table that C lends.
+// through the node table that C lends. None on unsound tables.
 #[tactic(auto, unfolding(crate::specs::Places::find_place))]
-pub fn find_place(nodes: &[u32], cap: usize, n: usize, byte: u8) -> Place
+pub fn find_place(nodes: &[u32], cap: usize, n: usize, byte: u8) -> Option<Place>
     requires node_table { NodeTable cap nodes.now }
     requires n_lt_cap { n < cap }
     ensures value { result ≡ find_place nodes.now cap n byte }
@@ -27,10 +25,10 @@ pub fn find_place(nodes: &[u32], cap: usize, n: usize, byte: u8) -> Place
     for _ in 0..33usize {
         let link = link_of(nodes[slot]) as usize;
         if link == 0 {
-            return Place::Missing { slot };
+            return Some(Place::Missing { slot });
         }
         if cap < link {
-            return Place::Broken;
+            return None;
         }
         let child = link - 1;
         let b = byte_of(nodes[child]);
@@ -38,10 +36,10 @@ pub fn find_place(nodes: &[u32], cap: usize, n: usize, byte: u8) -> Place
             slot = child;
         } else {
             if b == byte as u32 {
-                return Place::Found { slot, child };
+                return Some(Place::Found { slot, child });
             }
-            return Place::Missing { slot };
+            return Some(Place::Missing { slot });
         }
     }
-    Place::Broken
+    None
 }

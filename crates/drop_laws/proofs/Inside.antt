@@ -1,5 +1,5 @@
 -- On any tables a removal writes words of the tries only: the tables keep their lengths, and the words outside stay.
-use Rattle.std.specs.Prelude.{Some, None, Ok, Err}
+use Rattle.std.specs.Prelude.{Some, None, Ok, Err, Option}
 use Prim.Native.Nat.{ℕ, zero, suc, ◌+◌, ◌-◌, ◌≤◌, ◌<◌}
 use native.Mathlib.Omega.{arith}
 use mathlib.Core.Path.{◌≡◌, refl}
@@ -18,7 +18,6 @@ use Rattle.children.specs.Order.{bare}
 use Rattle.children.specs.Places.{link_at}
 use Rattle.trie.specs.declared.path.Reach.{Reach}
 use Rattle.trie.specs.declared.path.Reach.TheVariants.{Leaf, Gap}
-use Rattle.trie.specs.declared.path.Reach.TheVariants as reach
 use Rattle.trie.specs.declared.path.Passed.{Passed}
 use Rattle.trie.specs.Descend.{descend_to, Inside as ReachInside, passed_at}
 use Rattle.trie.proofs.Inside.{descend-inside}
@@ -142,10 +141,10 @@ module _ (cap lo hi pcap base p : ℕ) (low : lo ≤ base) (high : base + pcap �
   unfolding remove_page
   page-within N P Y root free lr o = go (descend_to N cap root Y) (descend-inside N cap Y o root lr)
     where
-      go : (r : Reach) → ReachInside cap (length Y) r → GoneIn cap lo hi N P (remove_reached N P cap pcap base (passed_at N cap root Y) p free r)
-      go (Leaf at) h = at-within N P (passed_at N cap root Y) at.node at.slot at.level free h.0 h.1 (λ j l. passed-inside N cap root Y lr o j)
-      go (Gap at) h = (within_none, within_none)
-      go reach.Broken h = (within_none, within_none)
+      go : (r : Option Reach) → ReachInside cap (length Y) r → GoneIn cap lo hi N P (remove_reached N P cap pcap base (passed_at N cap root Y) p free r)
+      go (Some (Leaf at)) h = at-within N P (passed_at N cap root Y) at.node at.slot at.level free h.0 h.1 (λ j l. passed-inside N cap root Y lr o j)
+      go (Some (Gap at)) h = (within_none, within_none)
+      go None h = (within_none, within_none)
 
 -- ---- all blocks
 module _ (s : Settings) (S : List ℕ) (p : ℕ) (enough : s.blocks ≤ s.nodes) where

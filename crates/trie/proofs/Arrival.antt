@@ -1,4 +1,5 @@
 -- On tables that hold a trie, the way down goes as far as the page's bytes lead in it: to a leaf, or to an inner node without the child.
+use Rattle.std.specs.Prelude.{Option, Some, None}
 use Prim.Native.Nat.{ℕ, zero, suc, ◌-◌, ◌<◌, ◌≤◌}
 use native.Mathlib.Nat.{zero-add}
 use native.Mathlib.Numerals.{add-one}
@@ -25,7 +26,7 @@ use Rattle.trie_laws.proofs.Reach.{path-length, subtree-sound}
 use Rattle.trie.specs.declared.path.Step.TheVariants.{Child}
 use Rattle.trie.specs.declared.path.Step.TheVariants as step
 use Rattle.trie.specs.declared.path.Reach.{Reach}
-use Rattle.trie.specs.declared.path.Reach.TheVariants.{Leaf, Gap, Broken}
+use Rattle.trie.specs.declared.path.Reach.TheVariants.{Leaf, Gap}
 use Rattle.trie.specs.Descend.{step_by, step_to, descend, descend_to, passed, passed_at}
 use Rattle.trie.proofs.Descends.{step-leaf, step-inner, desc-leaf, desc-child, desc-gap}
 use Rattle.trie.proofs.Notes.{passed_start, passed_on}
@@ -92,10 +93,10 @@ module _ (cap pcap base : ℕ) (small : cap ≤ most_nodes) (bytes_of : ℕ → 
     pub none : spot.there ≡ gap
     pub deep : depth bytes_of 0 p (tree t) ≡ k
 
-  abbrev pub Arrives : Phys → Reach → Type 0
-  Arrives t (Leaf at) = AtLeaf t at.node at.slot at.level
-  Arrives t (Gap at) = AtGap t at.node at.slot at.level
-  Arrives t Broken = ⊥
+  abbrev pub Arrives : Phys → Option Reach → Type 0
+  Arrives t (Some (Leaf at)) = AtLeaf t at.node at.slot at.level
+  Arrives t (Some (Gap at)) = AtGap t at.node at.slot at.level
+  Arrives t None = ⊥
 
   deep-end : (t : Phys) (k : ℕ) (u : Phys) → Way cap pcap base small bytes_of p t k u → has_below (byte_at bytes_of k p) (tree u) ≡ false → depth bytes_of 0 p (tree t) ≡ k
   deep-end t k u w h = path-depth bytes_of p k 0 (tree t) w.path (rw (zero-add k, w.sub) h)
@@ -109,7 +110,7 @@ module _ (cap pcap base : ℕ) (small : cap ≤ most_nodes) (bytes_of : ℕ → 
     unfolding has_below
     at_leaf k s n ps w l =
         let z : kind_of N cap n ≡ kind.Leaf (first ps) = held-kind N cap n ps (there k (leaf_p n ps) w).0 w.sound.1 st.page_table.small in
-        subst (Arrives t) (desc-leaf N cap Y n s k (descend N cap Y n s k (length Y - k)) refl step.Leaf (step-leaf N cap Y n k (kind_of N cap n) refl (first ps) z) refl)
+        subst (Arrives t) (desc-leaf N cap Y n s k (descend N cap Y n s k (length Y - k)) refl (Some step.Leaf) (step-leaf N cap Y n k (kind_of N cap n) refl (first ps) z) refl)
         (record { pages = ps; way = w; linked = l; deep = deep-end t k (leaf_p n ps) w refl })
 
     module _ (k s n : ℕ) (ks : Kids) (w : Way cap pcap base small bytes_of p t k (inner_p n ks)) (l : k < length Y) (o : SpotK cap pcap base small ks n (byte_at bytes_of k p)) where
@@ -121,12 +122,12 @@ module _ (cap pcap base : ℕ) (small : cap ≤ most_nodes) (bytes_of : ℕ → 
       at_gap : o.there ≡ gap → Arrives t (descend N cap Y n s k (length Y - k))
       unfolding has_below
       at_gap e =
-          subst (Arrives t) (desc-gap N cap Y n s k (descend N cap Y n s k (length Y - k)) refl (step.Gap o.slot) (step_by_lem gap e) o.slot refl)
+          subst (Arrives t) (desc-gap N cap Y n s k (descend N cap Y n s k (length Y - k)) refl (Some (step.Gap o.slot)) (step_by_lem gap e) o.slot refl)
           (record { kids = ks; way = w; spot = o; slot = refl; none = e; deep = deep-end t k (inner_p n ks) w (spot-none cap pcap base small o e) })
 
       at-child : (u : Phys) → o.there ≡ held u → Arrives t (descend N cap Y (root u) o.slot (suc k) (length Y - suc k)) → Arrives t (descend N cap Y n s k (length Y - k))
       at-child u e r =
-          subst (Arrives t) (desc-child N cap Y n s k (descend N cap Y n s k (length Y - k)) refl (Child o.slot (root u)) (step_by_lem (held u) e) l (root u) o.slot refl)
+          subst (Arrives t) (desc-child N cap Y n s k (descend N cap Y n s k (length Y - k)) refl (Some (Child o.slot (root u))) (step_by_lem (held u) e) l (root u) o.slot refl)
           (rw (add-one k) r)
 
     at-node : (k s : ℕ) (u : Phys) → Linked t k u s →
@@ -169,5 +170,5 @@ module _ (cap pcap base : ℕ) (small : cap ≤ most_nodes) (bytes_of : ℕ → 
         let w : Way cap pcap base small bytes_of p t k (inner_p n l.kids) = way_to t k (inner_p n l.kids) l.above l.linked in
         let i : k < length Y = y.shallow k (children_of l.kids) w.path w.sub in
         rw add-one at
-        (passed_on N cap (root t) Y k n l.above (passes k (inner_p n l.kids) l.above l.linked) (Child l.spot.slot (root u))
-        (step_by_lem k l.above n l.kids w i l.spot (held u) l.here) (root u) s (ap (λ (x : ℕ). Child x (root u)) l.slot))
+        (passed_on N cap (root t) Y k n l.above (passes k (inner_p n l.kids) l.above l.linked) (Some (Child l.spot.slot (root u)))
+        (step_by_lem k l.above n l.kids w i l.spot (held u) l.here) (root u) s (ap (λ (x : ℕ). Some (Child x (root u))) l.slot))

@@ -1,4 +1,5 @@
 -- The nodes passed on the way down: one step of `passed_at`, and a step noted in the arrays of a path.
+use Rattle.std.specs.Prelude.{Option, Some, None}
 use Prim.Native.Nat.{ℕ, zero, suc, ◌+◌, ◌<◌}
 use native.Mathlib.Decide.{ℕ_discrete}
 use native.Mathlib.Numerals.{add-one}
@@ -22,7 +23,7 @@ module _ (N : List ℕ) (cap root : ℕ) (Y : List ℕ) where
   passed_start = refl
 
   -- on to a child that was found
-  pub passed_on : (k n s : ℕ) → passed_at N cap root Y k ≡ passed n s → (r : Step) → r ≡ step_to N cap Y n k → (c s' : ℕ) → r ≡ Child s' c →
+  pub passed_on : (k n s : ℕ) → passed_at N cap root Y k ≡ passed n s → (r : Option Step) → r ≡ step_to N cap Y n k → (c s' : ℕ) → r ≡ Some (Child s' c) →
       passed_at N cap root Y (k + 1) ≡ passed c s'
   unfolding passed_at
   passed_on k n s e r h c s' q = rw add-one (ap (λ (x : Passed). further x (step_to N cap Y x.node k)) e ∙ ap (further (passed n s)) (sym h ∙ q))
@@ -36,11 +37,11 @@ module _ (N : List ℕ) (cap root : ℕ) (Y : List ℕ) where
       let i = passed-inside l o k in
       go x i (step_to N cap Y x.node k) (step-inside N cap Y o x.node k i.0)
     where
-      go : (x : Passed) → (x.node < cap) × (x.slot < node_words cap) → (r : Step) → StepInside cap (length Y) k r → ((further x r).node < cap) × ((further x r).slot < node_words cap)
-      go x i (Child s c) h = (h.0, h.1)
-      go x i step.Leaf h = i
-      go x i (step.Gap s) h = i
-      go x i step.Broken h = i
+      go : (x : Passed) → (x.node < cap) × (x.slot < node_words cap) → (r : Option Step) → StepInside cap (length Y) k r → ((further x r).node < cap) × ((further x r).slot < node_words cap)
+      go x i (Some (Child s c)) h = (h.0, h.1)
+      go x i (Some step.Leaf) h = i
+      go x i (Some (step.Gap s)) h = i
+      go x i None h = i
 
 -- the next node noted
 pub note-on : (path : List Passed) (way : ℕ → Passed) (k n s : ℕ) → Noted (noted path) way k → way k ≡ passed n s → k < length path →

@@ -1,7 +1,7 @@
 -- The models, one step at a time.
 use Prim.Native.Nat.{ℕ, ◌-◌, ◌<◌, ◌≤◌}
 use mathlib.Core.Path.{◌≡◌, refl, ap, ◌∙◌, sym}
-use Rattle.std.specs.Prelude.{Result, Ok, Err}
+use Rattle.std.specs.Prelude.{Result, Ok, Err, Option, Some, None}
 use mathlib.Core.List.{List}
 use mathlib.Core.Bool.{cond}
 use native.Mathlib.Omega.{arith}
@@ -13,7 +13,7 @@ use Rattle.trie.specs.declared.Stop.{Stop}
 use Rattle.trie.specs.declared.Stop.TheVariants.{Full}
 use Rattle.trie.specs.declared.Stop.TheVariants as stop
 use Rattle.children.specs.declared.place.Place.{Place}
-use Rattle.children.specs.declared.place.Place.TheVariants.{Found, Missing, Broken}
+use Rattle.children.specs.declared.place.Place.TheVariants.{Found, Missing}
 use Rattle.children.proofs.Steps.{suc-pred}
 use Rattle.children.specs.Places.{find_place}
 use Rattle.trie.specs.Model.{link_leaf, made, grown, node_in, fresh_leaf, child_leaf, span_from}
@@ -38,16 +38,16 @@ pub got_in : (cap : ℕ) (r : Result Grown Stop) (n f : ℕ) → r ≡ Ok (grown
 got_in cap r n f e h = rw e at h
 
 -- `child_leaf`, by each way
-module _ (N : List ℕ) (cap n b free : ℕ) (r : Place) (e : r ≡ find_place N cap n b) where
-  pub child-found : (s c : ℕ) → r ≡ Found s c → made N (Ok (grown c free)) ≡ child_leaf N cap n b free
+module _ (N : List ℕ) (cap n b free : ℕ) (r : Option Place) (e : r ≡ find_place N cap n b) where
+  pub child-found : (s c : ℕ) → r ≡ Some (Found s c) → made N (Ok (grown c free)) ≡ child_leaf N cap n b free
   unfolding child_leaf
   child-found s c q = rw (sym e ∙ q) refl
 
-  pub child-made : (ns : List ℕ) (g : Result Grown Stop) (s : ℕ) → r ≡ Missing s → made ns g ≡ fresh_leaf N cap s b free → made ns g ≡ child_leaf N cap n b free
+  pub child-made : (ns : List ℕ) (g : Result Grown Stop) (s : ℕ) → r ≡ Some (Missing s) → made ns g ≡ fresh_leaf N cap s b free → made ns g ≡ child_leaf N cap n b free
   unfolding child_leaf
   child-made ns g s q m = rw (sym e ∙ q) m
 
-  pub child-nowhere : r ≡ Broken → made N (Err stop.Broken) ≡ child_leaf N cap n b free
+  pub child-nowhere : r ≡ None → made N (Err stop.Broken) ≡ child_leaf N cap n b free
   unfolding child_leaf
   child-nowhere q = rw (sym e ∙ q) refl
 

@@ -1,5 +1,5 @@
 -- What the code computes, as definitions on the tables: N is the node table, of cap nodes.
-use Rattle.std.specs.Prelude.{ℕ, zero, suc, ◌-◌, List, cond, ltb, eqb, set, Result, Ok, Err}
+use Rattle.std.specs.Prelude.{ℕ, zero, suc, ◌-◌, List, cond, ltb, eqb, set, Result, Ok, Err, Option, Some, None}
 use Rattle.layout.specs.Nodes.{state_at, empty_state}
 use Rattle.layout.specs.States.{next_free, with_free}
 use Rattle.children.specs.Places.{find_place}
@@ -9,7 +9,7 @@ use Rattle.trie.specs.declared.Stop.{Stop}
 use Rattle.trie.specs.declared.Stop.TheVariants.{Full}
 use Rattle.trie.specs.declared.Stop.TheVariants as stop
 use Rattle.children.specs.declared.place.Place.{Place}
-use Rattle.children.specs.declared.place.Place.TheVariants.{Found, Missing, Broken}
+use Rattle.children.specs.declared.place.Place.TheVariants.{Found, Missing}
 
 -- node f as an empty leaf with byte b, linked into slot s before what the slot linked to
 unfoldable pub link_leaf : List ℕ → ℕ → ℕ → ℕ → ℕ → List ℕ
@@ -34,10 +34,10 @@ fresh_leaf N cap s b free =
     (cond (ltb cap free) (made N (Err stop.Broken))
     (made (link_leaf N cap s (free - 1) b) (Ok (grown (free - 1) (next_free N (free - 1))))))
 
-abbrev pub made_at : List ℕ → ℕ → ℕ → ℕ → Place → Made
-made_at N cap b free (Found s c) = made N (Ok (grown c free))
-made_at N cap b free (Missing s) = fresh_leaf N cap s b free
-made_at N cap b free Broken = made N (Err stop.Broken)
+abbrev pub made_at : List ℕ → ℕ → ℕ → ℕ → Option Place → Made
+made_at N cap b free (Some (Found s c)) = made N (Ok (grown c free))
+made_at N cap b free (Some (Missing s)) = fresh_leaf N cap s b free
+made_at N cap b free None = made N (Err stop.Broken)
 
 -- the child of byte b of node n, which is made where it is missing
 unfoldable pub child_leaf : List ℕ → ℕ → ℕ → ℕ → ℕ → Made

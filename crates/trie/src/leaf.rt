@@ -71,10 +71,9 @@ pub fn child_leaf(
     ensures result_after { made nodes.new result ≡ child_leaf nodes.old cap n byte free }
     ensures inside { node_in result ≤ cap }
 {
-    match find_place(nodes, cap, n, byte) {
+    match find_place(nodes, cap, n, byte).ok_or(Stop::Broken)? {
         Place::Found { child, .. } => Ok(Grown { node: child, free }),
         Place::Missing { slot } => fresh_leaf(nodes, cap, slot, byte, free),
-        Place::Broken => Err(Stop::Broken),
     }
 }
 

@@ -7,36 +7,34 @@ use children::place::{Place, find_place};
 use layout::nodes::{Kind, kind_of};
 
 // What a node has for its next byte: the slot of a child, and the child; nothing, since it is a leaf; no child, and the slot where it
-// belongs. Broken is an answer among four: the one loop that asks has an arm for each.
+// belongs.
 #[derive(Clone, Copy, Debug, PartialEq, Eq)]
 pub enum Step {
     Child { slot: usize, child: usize },
     Leaf,
     Gap { slot: usize },
-    Broken,
 }
 
-// One step down from node n at a level, by the byte there.
+// One step down from node n at a level, by the byte there; none on unsound tables.
 #[tactic(auto, unfolding(crate::specs::Descend::step_to))]
-fn step_to(nodes: &[u32], cap: usize, bytes: &[u8], n: usize, level: usize) -> Step
+fn step_to(nodes: &[u32], cap: usize, bytes: &[u8], n: usize, level: usize) -> Option<Step>
     requires node_table { NodeTable cap nodes.now }
     requires n_lt_cap { n < cap }
     ensures value { result ≡ step_to nodes.now cap bytes.now n level }
     ensures inside { StepInside cap (length bytes.now) level result }
 {
     match kind_of(nodes, cap, n) {
-        Kind::Leaf(_) => return Step::Leaf,
-        Kind::Free => return Step::Broken,
+        Kind::Leaf(_) => return Some(Step::Leaf),
+        Kind::Free => return None,
         Kind::Inner => {}
     }
     if level >= bytes.len() {
-        return Step::Broken;
+        return None;
     }
-    // No `From`: the same three lines, for this one place.
-    match find_place(nodes, cap, n, bytes[level]) {
-        Place::Found { slot, child } => Step::Child { slot, child },
-        Place::Missing { slot } => Step::Gap { slot },
-        Place::Broken => Step::Broken,
+    // No `From`: the same two lines, for this one place.
+    match find_place(nodes, cap, n, bytes[level])? {
+        Place::Found { slot, child } => Some(Step::Child { slot, child }),
+        Place::Missing { slot } => Some(Step::Gap { slot }),
     }
 }
 
@@ -50,12 +48,10 @@ pub struct Reached {
 }
 
 // A leaf; or an inner node without a child for the next byte.
-// Broken is a third answer: an Option around two would trade an arm of each caller's match for a `?` or an `ok_or`.
 #[derive(Clone, Copy, Debug, PartialEq, Eq)]
 pub enum Reach {
     Leaf(Reached),
     Gap(Reached),
-    Broken,
 }
 
 // A node that a way down passes, and the slot that links to it, 0 at the root.
@@ -65,7 +61,7 @@ pub struct Passed {
     pub slot: u32,
 }
 
-// Down from a root by the bytes, a level for each; with NOTES, each inner node passed is noted at its level.
+// Down from a root by the bytes, a level for each; with NOTES, each inner node passed is noted at its level. None on unsound tables.
 #[tactic(auto, unfolding(crate::specs::Descend::descend_to, crate::specs::Descend::passed_at))]
 fn walk<const NOTES: bool>(
     nodes: &[u32],
@@ -73,7 +69,7 @@ fn walk<const NOTES: bool>(
     root: usize,
     bytes: &[u8],
     path: &mut [Passed],
-) -> Reach
+) -> Option<Reach>
     requires node_table { NodeTable cap nodes.now }
     requires root_lt_cap { root < cap }
     requires room { NOTES ≡ true → length bytes.now ≤ length path.old }
@@ -86,7 +82,7 @@ fn walk<const NOTES: bool>(
     let mut level = 0;
     // No `for`: a turn behind the last byte may end at a leaf, and behind a loop with that turn an answer would stand that is never given.
     loop {
-        match step_to(nodes, cap, bytes, n, level) {
+        match step_to(nodes, cap, bytes, n, level)? {
             Step::Child { slot: s, child } => {
                 if NOTES {
                     path[level] = Passed {
@@ -99,26 +95,25 @@ fn walk<const NOTES: bool>(
                 level += 1;
             }
             Step::Leaf => {
-                return Reach::Leaf(Reached {
+                return Some(Reach::Leaf(Reached {
                     node: n,
                     slot,
                     level,
-                });
+                }));
             }
             Step::Gap { slot } => {
-                return Reach::Gap(Reached {
+                return Some(Reach::Gap(Reached {
                     node: n,
                     slot,
                     level,
-                });
+                }));
             }
-            Step::Broken => return Reach::Broken,
         }
     }
 }
 
 // The way down, with nothing noted.
-pub fn descend_to(nodes: &[u32], cap: usize, root: usize, bytes: &[u8]) -> Reach
+pub fn descend_to(nodes: &[u32], cap: usize, root: usize, bytes: &[u8]) -> Option<Reach>
     requires node_table { NodeTable cap nodes.now }
     requires root_lt_cap { root < cap }
     ensures value { result ≡ descend_to nodes.now cap root bytes.now }
@@ -134,7 +129,7 @@ pub fn trace_to(
     root: usize,
     bytes: &[u8],
     path: &mut [Passed; 64],
-) -> Reach
+) -> Option<Reach>
     requires node_table { NodeTable cap nodes.now }
     requires root_lt_cap { root < cap }
     requires bytes_len_bound { length bytes.now ≤ 64 }

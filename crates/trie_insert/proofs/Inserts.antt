@@ -1,7 +1,7 @@
 -- `insert_page` is `insert`, if there are free nodes enough.
 use Prim.Native.Nat.{ℕ, suc, ◌+◌, ◌<◌, ◌≤◌}
 use mathlib.Core.Path.{◌≡◌, refl, ap, ◌∙◌, sym, subst}
-use Rattle.std.specs.Prelude.{Ok}
+use Rattle.std.specs.Prelude.{Ok, Option, Some, None}
 use mathlib.Core.List.{List, [], ◌∷◌}
 use native.Mathlib.Omega.{arith}
 use native.Mathlib.Numerals.{add-one}
@@ -20,7 +20,7 @@ use Rattle.children.proofs.Held.{gap, held}
 use Rattle.children.proofs.Spots.{spot-same}
 use Rattle.trie.proofs.Fresh.{fresh-state, fresh-is}
 use Rattle.trie.specs.declared.path.Reach.{Reach}
-use Rattle.trie.specs.declared.path.Reach.TheVariants.{Leaf, Gap, Broken}
+use Rattle.trie.specs.declared.path.Reach.TheVariants.{Leaf, Gap}
 use Rattle.trie.specs.Descend.{reached, descend_to}
 use Rattle.trie.proofs.Way.{go-in}
 use Rattle.trie.proofs.Arrival.{Leads, AtLeaf, AtGap, Arrives, arrives}
@@ -165,16 +165,16 @@ module _ (bytes_of : ℕ → List ℕ) (S τ Y : List ℕ) (r : Rows) (cap pcap 
     Result = Grown cap pcap base (root t) (nodes (tree t) + length fs) want G (insert_page S τ r cap pcap base N P Y (root t) p free)
 
     -- the leaf is there, or was made
-    from-leaf : (n s k : ℕ) → descend_to N cap (root t) Y ≡ Leaf (reached n s k) → insert_page S τ r cap pcap base N P Y (root t) p free ≡ grow_leaf S τ r cap pcap base N P k n p free
+    from-leaf : (n s k : ℕ) → descend_to N cap (root t) Y ≡ Some (Leaf (reached n s k)) → insert_page S τ r cap pcap base N P Y (root t) p free ≡ grow_leaf S τ r cap pcap base N P k n p free
     unfolding insert_page leaf_for
     from-leaf n s k e = rw e refl
 
-    from-gap : (n s k c next : ℕ) (ns : List ℕ) → descend_to N cap (root t) Y ≡ Gap (reached n s k) → fresh_leaf N cap s (get_or Y k 0) free ≡ made ns (Ok (grown c next)) →
+    from-gap : (n s k c next : ℕ) (ns : List ℕ) → descend_to N cap (root t) Y ≡ Some (Gap (reached n s k)) → fresh_leaf N cap s (get_or Y k 0) free ≡ made ns (Ok (grown c next)) →
         insert_page S τ r cap pcap base N P Y (root t) p free ≡ grow_leaf S τ r cap pcap base ns P (suc k) c p next
     unfolding insert_page leaf_for
     from-gap n s k c next ns e q = rw (e, q, add-one k) refl
 
-    at_leaf : (n s k : ℕ) → AtLeaf cap pcap base small bytes_of p t n s k → descend_to N cap (root t) Y ≡ Leaf (reached n s k) → nodes want ≤ nodes (tree t) + length fs → Result
+    at_leaf : (n s k : ℕ) → AtLeaf cap pcap base small bytes_of p t n s k → descend_to N cap (root t) Y ≡ Some (Leaf (reached n s k)) → nodes want ≤ nodes (tree t) + length fs → Result
     at_leaf n s k a e m =
         let C = a.way.context in
         let w : C.put (leaf_p n a.pages) ≡ t = a.way.is in
@@ -182,7 +182,7 @@ module _ (bytes_of : ℕ → List ℕ) (S τ Y : List ℕ) (r : Rows) (cap pcap 
         subst (λ (x : Tree). Grown cap pcap base (root t) (nodes x + length fs) (insert bytes_of r.bytes τ 0 p x) G (insert_page S τ r cap pcap base N P Y (root t) p free)) q
         (rw (from-leaf n s k e) (insert-at C (subst (λ (x : Phys). State cap pcap base N P free x fs (page (base + p) v ⊕ G)) (sym w) st) a.way.sound (rw q m)))
 
-    at_gap : (n s k : ℕ) (a : AtGap cap pcap base small bytes_of p t n s k) → descend_to N cap (root t) Y ≡ Gap (reached n s k) → nodes want ≤ nodes (tree t) + length fs → Result
+    at_gap : (n s k : ℕ) (a : AtGap cap pcap base small bytes_of p t n s k) → descend_to N cap (root t) Y ≡ Some (Gap (reached n s k)) → nodes want ≤ nodes (tree t) + length fs → Result
     at_gap n s k a e m = go fs st m
       where
         same_byte : byte_at bytes_of k p ≡ get_or Y k 0
@@ -197,10 +197,10 @@ module _ (bytes_of : ℕ → List ℕ) (S τ Y : List ℕ) (r : Rows) (cap pcap 
         go (f ∷ fs) st m =
             rw (from-gap n s k f (get_or N f 0) (link_leaf N cap a.spot.slot f (byte_at bytes_of k p)) e (same-leaf ∙ gap_is a st)) (insert-gap a st m)
 
-    by-reach : (x : Reach) → descend_to N cap (root t) Y ≡ x → Arrives cap pcap base small bytes_of p t x → nodes want ≤ nodes (tree t) + length fs → Result
-    by-reach (Leaf at) e a m = at_leaf at.node at.slot at.level a e m
-    by-reach (Gap at) e a m = at_gap at.node at.slot at.level a e m
-    by-reach Broken e a m = absurd a
+    by-reach : (x : Option Reach) → descend_to N cap (root t) Y ≡ x → Arrives cap pcap base small bytes_of p t x → nodes want ≤ nodes (tree t) + length fs → Result
+    by-reach (Some (Leaf at)) e a m = at_leaf at.node at.slot at.level a e m
+    by-reach (Some (Gap at)) e a m = at_gap at.node at.slot at.level a e m
+    by-reach None e a m = absurd a
 
     -- the theorem
     pub insert-right : nodes want ≤ nodes (tree t) + length fs → Result

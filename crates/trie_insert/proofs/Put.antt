@@ -1,7 +1,7 @@
 -- On a state with an inner node all of whose children are leaves, `put_leaf_m` is `put_leaf`, if there are free nodes enough.
 use Prim.Native.Nat.{ℕ, ◌+◌, ◌<◌, ◌≤◌}
 use mathlib.Core.Path.{◌≡◌, refl, ap, ◌∙◌, sym, subst}
-use Rattle.std.specs.Prelude.{Ok}
+use Rattle.std.specs.Prelude.{Ok, Some}
 use mathlib.Core.List.{List, [], ◌∷◌}
 use native.Mathlib.Omega.{arith}
 use lib.ListN.{length, get_or}
@@ -80,7 +80,7 @@ module _ (cap pcap base : ℕ) (small : cap ≤ most_nodes) (n b p : ℕ) (ks : 
         let i : s.put x ≡ ks = ap s.put (sym e) ∙ s.whole in
         let t : State cap pcap base N P free (inner_p n (s.put x)) fs (page (base + p) v ⊕ G) =
         subst (λ (z : Kids). State cap pcap base N P free (inner_p n z) fs (page (base + p) v ⊕ G)) (sym i) st in
-        let d : made N (Ok (grown c free)) ≡ child_leaf N cap n b free = child-found N cap n b free (Found s.slot c) (sym (place st x e)) s.slot c refl in
+        let d : made N (Ok (grown c free)) ≡ child_leaf N cap n b free = child-found N cap n b free (Some (Found s.slot c)) (sym (place st x e)) s.slot c refl in
         let k : children_of ks ≡ s.before (child b (leaf qs) K) = children-here x e in
         record {
           nodes_to = push_nodes N cap c p;
@@ -105,7 +105,7 @@ module _ (cap pcap base : ℕ) (small : cap ≤ most_nodes) (n b p : ℕ) (ks : 
         let N1 : List ℕ = link_leaf N cap s.slot f b in
         let t = fresh-state cap pcap base small st s h in
         let lf : f < cap = st.below.0 in
-        let d : made N1 (Ok (grown f (get_or N f 0))) ≡ child_leaf N cap n b free = child-made N cap n b free (Missing s.slot) (sym (place st gap h)) N1 (Ok (grown f (get_or N f 0))) s.slot refl (sym (fresh-is cap pcap base small st s h)) in
+        let d : made N1 (Ok (grown f (get_or N f 0))) ≡ child_leaf N cap n b free = child-made N cap n b free (Some (Missing s.slot)) (sym (place st gap h)) N1 (Ok (grown f (get_or N f 0))) s.slot refl (sym (fresh-is cap pcap base small st s h)) in
         record {
           nodes_to = push_nodes N1 cap f p;
           pages_to = push_pages P base p 0;

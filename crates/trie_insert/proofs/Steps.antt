@@ -2,7 +2,7 @@
 use Prim.Native.Nat.{ℕ, ◌+◌, ◌-◌, ◌<◌, ◌≤◌}
 use mathlib.Core.Path.{◌≡◌, refl, ap, ◌∙◌, sym}
 use mathlib.Core.List.{List}
-use Rattle.std.specs.Prelude.{Result, Ok, Err}
+use Rattle.std.specs.Prelude.{Result, Ok, Err, Option, Some, None}
 use mathlib.Core.Bool.{Bool, true, false, cond, false≢true}
 use native.Mathlib.Omega.{arith}
 use borrow.Author.Tests.{le-ltb, lt-ltb, eq-eqb, ne_eqb, ltb-true, ltb-false}
@@ -22,7 +22,7 @@ use Rattle.trie.specs.Model.{made, grown, fresh_leaf, child_leaf}
 use Rattle.children.proofs.Steps.{suc-pred}
 use Rattle.trie.specs.declared.path.Reached.{Reached}
 use Rattle.trie.specs.declared.path.Reach.{Reach}
-use Rattle.trie.specs.declared.path.Reach.TheVariants.{Leaf, Gap, Broken}
+use Rattle.trie.specs.declared.path.Reach.TheVariants.{Leaf, Gap}
 use Rattle.trie.specs.Descend.{descend_to}
 use Rattle.trie_insert.specs.declared.insert.Target.{Target}
 use Rattle.trie_insert.specs.Pages.{push_nodes, push_pages, pushed, push_page, After, after, put_leaf_m}
@@ -135,18 +135,18 @@ unfolding split_leaf
 split-leaf S r cap pcap base N P k n l free v ns ns' ps' a e o u = rw (← e, ← o) u
 
 -- `leaf_for`, by each way
-module _ (N : List ℕ) (cap : ℕ) (Y : List ℕ) (root free : ℕ) (x : Reach) (e : x ≡ descend_to N cap root Y) where
+module _ (N : List ℕ) (cap : ℕ) (Y : List ℕ) (root free : ℕ) (x : Option Reach) (e : x ≡ descend_to N cap root Y) where
   aim-step : aim_at N cap Y free x ≡ leaf_for N cap Y root free
   unfolding leaf_for
   aim-step = ap (aim_at N cap Y free) e
 
-  pub aim-leaf : (at : Reached) → x ≡ Leaf at → aimed N (Ok (ready at.node at.level free)) ≡ leaf_for N cap Y root free
+  pub aim-leaf : (at : Reached) → x ≡ Some (Leaf at) → aimed N (Ok (ready at.node at.level free)) ≡ leaf_for N cap Y root free
   aim-leaf at q = rw q at aim-step
 
-  pub aim-nowhere : x ≡ Broken → aimed N (Err stop.Broken) ≡ leaf_for N cap Y root free
+  pub aim-nowhere : x ≡ None → aimed N (Err stop.Broken) ≡ leaf_for N cap Y root free
   aim-nowhere q = rw q at aim-step
 
-  module _ (at : Reached) (q : x ≡ Gap at) (ns : List ℕ) (g : Result Grown Stop) (u : made ns g ≡ fresh_leaf N cap at.slot (get_or Y at.level 0) free) where
+  module _ (at : Reached) (q : x ≡ Some (Gap at)) (ns : List ℕ) (g : Result Grown Stop) (u : made ns g ≡ fresh_leaf N cap at.slot (get_or Y at.level 0) free) where
     aim-gap : aim_made (at.level + 1) (made ns g) ≡ leaf_for N cap Y root free
     aim-gap = ap (aim_made (at.level + 1)) u ∙ rw q at aim-step
 

@@ -1,11 +1,11 @@
 -- A page put into the leaf that its bytes Y lead to.
-use Rattle.std.specs.Prelude.{ℕ, suc, ◌+◌, List, get_or, Result, Ok, Err}
+use Rattle.std.specs.Prelude.{ℕ, suc, ◌+◌, List, get_or, Result, Ok, Err, Option, Some, None}
 use Rattle.blocks.specs.declared.Rows.{Rows}
 use Rattle.trie.specs.declared.Stop.{Stop}
 use Rattle.trie.specs.declared.Stop.TheVariants as stop
 use Rattle.trie.specs.Model.{Made, made, fresh_leaf}
 use Rattle.trie.specs.declared.path.Reach.{Reach}
-use Rattle.trie.specs.declared.path.Reach.TheVariants.{Leaf, Gap, Broken}
+use Rattle.trie.specs.declared.path.Reach.TheVariants.{Leaf, Gap}
 use Rattle.trie.specs.Descend.{descend_to}
 use Rattle.trie_insert.specs.declared.insert.Target.{Target}
 use Rattle.trie_insert.specs.Pages.{After, after}
@@ -28,10 +28,10 @@ abbrev pub aim_made : ℕ → Made → Aimed
 aim_made k (made N (Ok g)) = aimed N (Ok (ready g.node k g.free))
 aim_made k (made N (Err e)) = aimed N (Err e)
 
-abbrev pub aim_at : List ℕ → ℕ → List ℕ → ℕ → Reach → Aimed
-aim_at N cap Y free (Leaf at) = aimed N (Ok (ready at.node at.level free))
-aim_at N cap Y free (Gap at) = aim_made (at.level + 1) (fresh_leaf N cap at.slot (get_or Y at.level 0) free)
-aim_at N cap Y free Broken = aimed N (Err stop.Broken)
+abbrev pub aim_at : List ℕ → ℕ → List ℕ → ℕ → Option Reach → Aimed
+aim_at N cap Y free (Some (Leaf at)) = aimed N (Ok (ready at.node at.level free))
+aim_at N cap Y free (Some (Gap at)) = aim_made (at.level + 1) (fresh_leaf N cap at.slot (get_or Y at.level 0) free)
+aim_at N cap Y free None = aimed N (Err stop.Broken)
 
 -- the leaf that the bytes Y lead to from a root, which is made where it is missing
 unfoldable pub leaf_for : List ℕ → ℕ → List ℕ → ℕ → ℕ → Aimed

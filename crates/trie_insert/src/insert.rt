@@ -32,7 +32,7 @@ pub fn leaf_for(
     ensures result_after { aimed nodes.new result ≡ leaf_for nodes.old cap bytes.now root free }
     ensures inside { target_in result ≤ cap }
 {
-    match descend_to(nodes, cap, root, bytes) {
+    match descend_to(nodes, cap, root, bytes).ok_or(Stop::Broken)? {
         Reach::Leaf(at) => Ok(Target {
             leaf: at.node,
             level: at.level,
@@ -46,7 +46,6 @@ pub fn leaf_for(
                 free: made.free,
             })
         }
-        Reach::Broken => Err(Stop::Broken),
     }
 }
 

@@ -1,4 +1,5 @@
 -- `prune_up`, one step at a time.
+use Rattle.std.specs.Prelude.{Option, Some}
 use Prim.Native.Nat.{ℕ, zero, suc, ◌+◌, ◌-◌, ◌<◌, ◌≤◌}
 use native.Mathlib.Omega.{arith}
 use mathlib.Core.Path.{◌≡◌, refl, ap, ◌∙◌, sym}
@@ -60,6 +61,6 @@ prune-same cap path way (suc k) h N n s free =
     rw (h k (omega arith), prune-same cap path way k (λ j l. h j (omega arith)) (set M (state_at cap (way k).node) empty_state) (way k).node (way k).slot (n + 1)) refl
 
 -- the nodes that a way notes are in the table
-pub noted-within : (N : List ℕ) (cap root : ℕ) (Y : List ℕ) → root < cap → ((k : ℕ) → get_or Y k 0 < 256) → (r : Reach) (at : Reached) → r ≡ Leaf at →
+pub noted-within : (N : List ℕ) (cap root : ℕ) (Y : List ℕ) → root < cap → ((k : ℕ) → get_or Y k 0 < 256) → (r : Option Reach) (at : Reached) → r ≡ Some (Leaf at) →
     (path : ℕ → Passed) → Noted path (passed_at N cap root Y) (level_of r) → InTable cap path at.level
 noted-within N cap root Y l o r at e path h j m = rw ((rw e at h) j m) (passed-inside N cap root Y l o j)

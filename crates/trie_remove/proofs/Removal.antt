@@ -1,5 +1,5 @@
 -- On a state with a sound trie that has the page, `remove_page` is `remove`; the nodes that it takes out are free.
-use Rattle.std.specs.Prelude.{Some}
+use Rattle.std.specs.Prelude.{Some, Option, None}
 use Prim.Native.Nat.{ℕ, zero, suc, ◌+◌, ◌<◌, ◌≤◌}
 use native.Mathlib.Omega.{arith}
 use mathlib.Core.Path.{◌≡◌, refl, ap, ◌∙◌, sym, subst}
@@ -19,7 +19,7 @@ use Rattle.trie_laws.specs.Path.{subtree, path_of, depth}
 use Rattle.trie_laws.proofs.Path.{remove-at-leaf}
 use Rattle.trie_laws.proofs.Reach.{reach-leaf}
 use Rattle.trie.specs.declared.path.Reach.{Reach}
-use Rattle.trie.specs.declared.path.Reach.TheVariants.{Leaf, Gap, Broken}
+use Rattle.trie.specs.declared.path.Reach.TheVariants.{Leaf, Gap}
 use Rattle.trie.specs.declared.path.Passed.{Passed}
 use Rattle.trie.specs.Descend.{descend_to, passed, passed_at}
 use Rattle.trie.proofs.Way.{Way, go-in, go-out}
@@ -137,18 +137,18 @@ module _ {cap pcap base : ℕ} (bytes_of : ℕ → List ℕ) (p : ℕ) {N P : Li
   pub remove-right : RemoveDone cap pcap base bytes_of p N P t fs G (remove_page N P cap pcap base (root t) Y p free)
   remove-right = go (descend_to N cap (root t) Y) refl (arrives cap pcap base small bytes_of p st y)
     where
-      go : (r : Reach) → r ≡ descend_to N cap (root t) Y → Arrives cap pcap base small bytes_of p t r →
+      go : (r : Option Reach) → r ≡ descend_to N cap (root t) Y → Arrives cap pcap base small bytes_of p t r →
           RemoveDone cap pcap base bytes_of p N P t fs G (remove_page N P cap pcap base (root t) Y p free)
-      go (Leaf at) e a =
+      go (Some (Leaf at)) e a =
           let x = reached at.level a.deep in
           let o : leaf a.pages ≡ leaf x.0 = sym a.way.sub ∙ x.1 in
           let q : a.pages ≡ x.0 = cc in
           subst (RemoveDone cap pcap base bytes_of p N P t fs G)
-          (remove-leaf N P cap pcap base (root t) Y p free (Leaf at) e at way (remove_at N P cap pcap base way at.node at.slot at.level p free) refl (λ j l. refl) refl)
+          (remove-leaf N P cap pcap base (root t) Y p free (Some (Leaf at)) e at way (remove_at N P cap pcap base way at.node at.slot at.level p free) refl (λ j l. refl) refl)
           (at_leaf small bytes_of p st way (passes cap pcap base small bytes_of p st y) at.level at.node at.slot a.pages a.linked (rw q x.2))
-      go (Gap at) e a =
+      go (Some (Gap at)) e a =
           let x = reached at.level a.deep in
           let o : inner (children_of a.kids) ≡ leaf x.0 = sym a.way.sub ∙ x.1 in
           let i : ◌≡◌ {A = ℕ} 0 1 = cc in
           absurd (omega arith)
-      go Broken e a = absurd a
+      go None e a = absurd a

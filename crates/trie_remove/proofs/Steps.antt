@@ -1,5 +1,5 @@
 -- The models, one step at a time.
-use Rattle.std.specs.Prelude.{Some, None, Ok, Err, Result}
+use Rattle.std.specs.Prelude.{Some, None, Ok, Err, Result, Option}
 use Prim.Native.Nat.{ℕ, suc, ◌+◌, ◌-◌, ◌<◌, ◌≤◌}
 use mathlib.Core.Path.{◌≡◌, refl, ap, ◌∙◌, sym}
 use mathlib.Core.Bool.{cond}
@@ -15,7 +15,6 @@ use Rattle.layout.proofs.States.{first-most}
 use Rattle.trie.specs.declared.path.Reached.{Reached}
 use Rattle.trie.specs.declared.path.Reach.{Reach}
 use Rattle.trie.specs.declared.path.Reach.TheVariants.{Leaf, Gap}
-use Rattle.trie.specs.declared.path.Reach.TheVariants as reach
 use Rattle.trie.specs.declared.path.Passed.{Passed}
 use Rattle.trie.specs.Descend.{descend_to, passed_at, Noted, level_of}
 use Rattle.trie_remove.specs.declared.Lost.{Lost}
@@ -124,16 +123,16 @@ module _ (N P : List ℕ) (cap pcap base : ℕ) (path way : ℕ → Passed) (n s
       go (took ps (Err why)) = refl
 
 -- `remove_page`, by each way
-module _ (N P : List ℕ) (cap pcap base root : ℕ) (Y : List ℕ) (p free : ℕ) (r : Reach) (e : r ≡ descend_to N cap root Y) where
-  pub remove-leaf : (at : Reached) (path : ℕ → Passed) (R : Gone) → r ≡ Leaf at → Noted path (passed_at N cap root Y) (level_of r) →
+module _ (N P : List ℕ) (cap pcap base root : ℕ) (Y : List ℕ) (p free : ℕ) (r : Option Reach) (e : r ≡ descend_to N cap root Y) where
+  pub remove-leaf : (at : Reached) (path : ℕ → Passed) (R : Gone) → r ≡ Some (Leaf at) → Noted path (passed_at N cap root Y) (level_of r) →
       R ≡ remove_at N P cap pcap base path at.node at.slot at.level p free → R ≡ remove_page N P cap pcap base root Y p free
   unfolding remove_page
   remove-leaf at path R q m h = h ∙ at_same N P cap pcap base path (passed_at N cap root Y) at.node at.slot at.level p free (rw q at m) ∙ rw (← e, q) refl
 
-  pub remove-gap : (at : Reached) → r ≡ Gap at → gone N P None ≡ remove_page N P cap pcap base root Y p free
+  pub remove-gap : (at : Reached) → r ≡ Some (Gap at) → gone N P None ≡ remove_page N P cap pcap base root Y p free
   unfolding remove_page
   remove-gap at q = rw (← e, q) refl
 
-  pub remove-nowhere : r ≡ reach.Broken → gone N P None ≡ remove_page N P cap pcap base root Y p free
+  pub remove-nowhere : r ≡ None → gone N P None ≡ remove_page N P cap pcap base root Y p free
   unfolding remove_page
   remove-nowhere q = rw (← e, q) refl

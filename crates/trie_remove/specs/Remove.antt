@@ -4,7 +4,6 @@ use Rattle.layout.specs.Nodes.{state_at, empty_state}
 use Rattle.layout.specs.States.{kind_of, first_of, shorter}
 use Rattle.trie.specs.declared.path.Reach.{Reach}
 use Rattle.trie.specs.declared.path.Reach.TheVariants.{Leaf, Gap}
-use Rattle.trie.specs.declared.path.Reach.TheVariants as reach
 use Rattle.trie.specs.declared.path.Passed.{Passed}
 use Rattle.trie.specs.Descend.{descend_to, passed_at}
 use Rattle.trie_remove.specs.Take.{Took, took, take_page}
@@ -30,10 +29,10 @@ remove_taken N cap way n s k free (took P (Err e)) = gone N P None
 unfoldable pub remove_at : List ℕ → List ℕ → ℕ → ℕ → ℕ → (ℕ → Passed) → ℕ → ℕ → ℕ → ℕ → ℕ → Gone
 remove_at N P cap pcap base way n s k p free = remove_taken N cap way n s k free (take_page P pcap base (first_of (kind_of N cap n)) p)
 
-abbrev pub remove_reached : List ℕ → List ℕ → ℕ → ℕ → ℕ → (ℕ → Passed) → ℕ → ℕ → Reach → Gone
-remove_reached N P cap pcap base way p free (Leaf at) = remove_at N P cap pcap base way at.node at.slot at.level p free
-remove_reached N P cap pcap base way p free (Gap at) = gone N P None
-remove_reached N P cap pcap base way p free reach.Broken = gone N P None
+abbrev pub remove_reached : List ℕ → List ℕ → ℕ → ℕ → ℕ → (ℕ → Passed) → ℕ → ℕ → Option Reach → Gone
+remove_reached N P cap pcap base way p free (Some (Leaf at)) = remove_at N P cap pcap base way at.node at.slot at.level p free
+remove_reached N P cap pcap base way p free (Some (Gap at)) = gone N P None
+remove_reached N P cap pcap base way p free None = gone N P None
 
 -- page p out of the leaf where its bytes Y lead
 unfoldable pub remove_page : List ℕ → List ℕ → ℕ → ℕ → ℕ → ℕ → List ℕ → ℕ → ℕ → Gone

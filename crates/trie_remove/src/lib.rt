@@ -173,8 +173,8 @@ pub fn remove_page(
     requires bytes_len_bound { length bytes.now ≤ 64 }
     ensures { gone nodes.new pages.new result ≡ remove_page nodes.old pages.old block.nodes block.pages block.base root bytes.now p free }
 {
-    match trace_to(nodes, block.nodes, root, bytes, path) {
+    match trace_to(nodes, block.nodes, root, bytes, path)? {
         Reach::Leaf(leaf) => remove_at(nodes, pages, block, path, leaf, p, free),
-        Reach::Gap(_) | Reach::Broken => None,
+        Reach::Gap(_) => None,
     }
 }

@@ -1,5 +1,5 @@
 -- On tables that hold a trie, `nodes_needed` is `needed`.
-use Rattle.std.specs.Prelude.{Some}
+use Rattle.std.specs.Prelude.{Some, Option, None}
 use Prim.Native.Nat.{ℕ, suc, ◌<◌, ◌≤◌}
 use native.Mathlib.Nat.{zero-add}
 use native.Mathlib.Omega.{arith}
@@ -29,7 +29,7 @@ use Rattle.trie_laws.proofs.Reach.{subtree-count}
 use Rattle.trie_laws.proofs.Path.{needed-at-leaf, needed-at-gap}
 use Rattle.trie_laws.proofs.Nodes.{gap-nodes}
 use Rattle.trie.specs.declared.path.Reach.{Reach}
-use Rattle.trie.specs.declared.path.Reach.TheVariants.{Leaf, Gap, Broken}
+use Rattle.trie.specs.declared.path.Reach.TheVariants.{Leaf, Gap}
 use Rattle.trie.specs.Descend.{descend_to}
 use Rattle.children.proofs.Spots.{spot-none}
 use Rattle.trie.proofs.Way.{Way}
@@ -83,8 +83,8 @@ module _ {cap pcap base : ℕ} (small : cap ≤ most_nodes) (bytes_of : ℕ → 
   module _ {Y : List ℕ} (y : Leads bytes_of p (tree t) Y) (S τ : List ℕ) (r : Rows)
       (reads : (k x : ℕ) → any (eqb x) (pages_in (tree t)) ≡ true → byte_at bytes_of k x ≡ page_byte S (level_at r k) x) where
     -- where a descent has arrived
-    pub at_right : (g : Reach) → Arrives cap pcap base small bytes_of p t g → needed_at P S τ pcap base r Y N cap g ≡ Some (needed bytes_of (length Y) τ 0 p (tree t))
-    at_right (Leaf at) a =
+    pub at_right : (g : Option Reach) → Arrives cap pcap base small bytes_of p t g → needed_at P S τ pcap base r Y N cap g ≡ Some (needed bytes_of (length Y) τ 0 p (tree t))
+    at_right (Some (Leaf at)) a =
         let ps : List ℕ = a.pages in
         let u = part a.way in
         let link : first_of (kind_of N cap at.node) ≡ first ps = ap first_of (held-kind N cap at.node ps u.heap.holds.0.0 u.sound.1 u.page_table.small) in
@@ -92,10 +92,10 @@ module _ {cap pcap base : ℕ} (small : cap ≤ most_nodes) (bytes_of : ℕ → 
         rw (link, many, needed-at-leaf bytes_of (length Y) τ p at.level 0 (tree t) a.way.path ps a.way.sub, zero-add at.level)
         (leaf-right bytes_of P S τ pcap base r Y p y.bytes at.level ps (pages-linked N P base ps u.heap.holds.0.1.1) u.sound.1 (leaf-most u)
         (λ x m. reads at.level x (inside a.way x m)))
-    at_right (Gap at) a =
+    at_right (Some (Gap at)) a =
         rw (needed-at-gap bytes_of (length Y) τ p at.level 0 (tree t) a.way.path (children_of a.kids) a.way.sub (rw (zero-add at.level) (spot-none cap pcap base small a.spot a.none)), zero-add at.level)
         (ap Some (gap-right bytes_of τ (length Y) p (suc at.level)))
-    at_right Broken a = absurd a
+    at_right None a = absurd a
 
     pub needed-right : nodes_needed P S τ pcap base r Y N cap (root t) ≡ Some (needed bytes_of (length Y) τ 0 p (tree t))
     unfolding nodes_needed

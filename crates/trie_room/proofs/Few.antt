@@ -1,5 +1,5 @@
 -- On any tables, an answer is small.
-use Rattle.std.specs.Prelude.{Some}
+use Rattle.std.specs.Prelude.{Some, Option, None}
 use Prim.Native.Nat.{ℕ, suc, ◌+◌, ◌≤◌}
 use mathlib.Core.Bool.{Bool, true, false, cond, ◌&&◌}
 use mathlib.Core.List.{List}
@@ -11,7 +11,6 @@ use Rattle.blocks.specs.declared.Rows.{Rows}
 use Rattle.blocks.specs.Packed.{level_at}
 use Rattle.trie.specs.declared.path.Reach.{Reach}
 use Rattle.trie.specs.declared.path.Reach.TheVariants.{Leaf, Gap}
-use Rattle.trie.specs.declared.path.Reach.TheVariants as reach
 use Rattle.trie.specs.Descend.{descend_to}
 use Rattle.leaf_bytes.specs.Bytes.{count_in, distinct_bytes}
 use Rattle.leaf_bytes.proofs.Few.{distinct-few}
@@ -34,14 +33,14 @@ module _ (P S τ : List ℕ) (pcap base : ℕ) (r : Rows) where
       go true = omega arith
       go false = omega arith
 
-  pub at-few : (Y N : List ℕ) (cap : ℕ) (g : Reach) → count_in (needed_at P S τ pcap base r Y N cap g) ≤ pcap + 2
-  at-few Y N cap (Leaf at) = go (ltb at.level (length Y))
+  pub at-few : (Y N : List ℕ) (cap : ℕ) (g : Option Reach) → count_in (needed_at P S τ pcap base r Y N cap g) ≤ pcap + 2
+  at-few Y N cap (Some (Leaf at)) = go (ltb at.level (length Y))
     where
       go : (q : Bool) → count_in (cond q (leaf_needs P S τ pcap base r at.level (count_of N cap at.node) (first_of (kind_of N cap at.node)) (get_or Y at.level 0)) (Some 0)) ≤ pcap + 2
       go true = omega (arith, leaf-few at.level (count_of N cap at.node) (first_of (kind_of N cap at.node)) (get_or Y at.level 0))
       go false = omega arith
-  at-few Y N cap (Gap at) = omega (arith, gap-few (length Y) (suc at.level))
-  at-few Y N cap reach.Broken = omega arith
+  at-few Y N cap (Some (Gap at)) = omega (arith, gap-few (length Y) (suc at.level))
+  at-few Y N cap None = omega arith
 
   pub needed-few : (Y N : List ℕ) (cap root : ℕ) → count_in (nodes_needed P S τ pcap base r Y N cap root) ≤ pcap + 2
   unfolding nodes_needed

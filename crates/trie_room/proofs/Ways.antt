@@ -13,7 +13,6 @@ use Rattle.blocks.specs.Packed.{level_at}
 use Rattle.trie.specs.declared.path.Reached.{Reached}
 use Rattle.trie.specs.declared.path.Reach.{Reach}
 use Rattle.trie.specs.declared.path.Reach.TheVariants.{Leaf, Gap}
-use Rattle.trie.specs.declared.path.Reach.TheVariants as reach
 use Rattle.leaf_bytes.specs.Bytes.{distinct_bytes}
 use Rattle.trie_room.specs.Needs.{gap_needs, leaf_needs, needed_at}
 
@@ -44,8 +43,8 @@ module _ (P S τ : List ℕ) (pcap base : ℕ) (r : Rows) (k count link byte : �
   leaf-stays l = rw (lt-leb (get_or τ k 0) count l) refl
 
 -- `needed_at`
-module _ (P S τ : List ℕ) (pcap base : ℕ) (r : Rows) (Y N : List ℕ) (cap : ℕ) (g : Reach) where
-  module _ (at : Reached) (q : g ≡ Leaf at) where
+module _ (P S τ : List ℕ) (pcap base : ℕ) (r : Rows) (Y N : List ℕ) (cap : ℕ) (g : Option Reach) where
+  module _ (at : Reached) (q : g ≡ Some (Leaf at)) where
     pub at-end : length Y ≤ at.level → Some 0 ≡ needed_at P S τ pcap base r Y N cap g
     at-end l = rw (q, le-ltb at.level (length Y) l) refl
 
@@ -53,8 +52,8 @@ module _ (P S τ : List ℕ) (pcap base : ℕ) (r : Rows) (Y N : List ℕ) (cap 
         x ≡ leaf_needs P S τ pcap base r at.level count first (get_or Y at.level 0) → x ≡ needed_at P S τ pcap base r Y N cap g
     at_leaf l count c first f x e = rw (q, lt-ltb at.level (length Y) l, ← c, ← f) e
 
-  pub at_gap : (at : Reached) → g ≡ Gap at → (x : ℕ) → x ≡ gap_needs τ (length Y) (at.level + 1) → Some x ≡ needed_at P S τ pcap base r Y N cap g
+  pub at_gap : (at : Reached) → g ≡ Some (Gap at) → (x : ℕ) → x ≡ gap_needs τ (length Y) (at.level + 1) → Some x ≡ needed_at P S τ pcap base r Y N cap g
   at_gap at q x e = rw q (ap Some (e ∙ ap (gap_needs τ (length Y)) (add-one at.level)))
 
-  pub at_none : g ≡ reach.Broken → None ≡ needed_at P S τ pcap base r Y N cap g
+  pub at_none : g ≡ None → None ≡ needed_at P S τ pcap base r Y N cap g
   at_none q = rw q refl

@@ -5,7 +5,6 @@ use Rattle.blocks.specs.declared.Rows.{Rows}
 use Rattle.blocks.specs.Packed.{level_at}
 use Rattle.trie.specs.declared.path.Reach.{Reach}
 use Rattle.trie.specs.declared.path.Reach.TheVariants.{Leaf, Gap}
-use Rattle.trie.specs.declared.path.Reach.TheVariants as reach
 use Rattle.trie.specs.Descend.{descend_to}
 use Rattle.leaf_bytes.specs.Bytes.{distinct_bytes}
 
@@ -20,11 +19,11 @@ module _ (P S τ : List ℕ) (pcap base : ℕ) (r : Rows) where
   leaf_needs k count first byte = cond (leb (get_or τ k 0) count) (distinct_bytes P S pcap base (level_at r k) first byte) (Some 0)
 
   -- where the bytes Y of the page lead
-  abbrev pub needed_at : List ℕ → List ℕ → ℕ → Reach → Option ℕ
-  needed_at Y N cap (Leaf at) =
+  abbrev pub needed_at : List ℕ → List ℕ → ℕ → Option Reach → Option ℕ
+  needed_at Y N cap (Some (Leaf at)) =
       cond (ltb at.level (length Y)) (leaf_needs at.level (count_of N cap at.node) (first_of (kind_of N cap at.node)) (get_or Y at.level 0)) (Some 0)
-  needed_at Y N cap (Gap at) = Some (gap_needs τ (length Y) (suc at.level))
-  needed_at Y N cap reach.Broken = None
+  needed_at Y N cap (Some (Gap at)) = Some (gap_needs τ (length Y) (suc at.level))
+  needed_at Y N cap None = None
 
   unfoldable pub nodes_needed : List ℕ → List ℕ → ℕ → ℕ → Option ℕ
   nodes_needed Y N cap root = needed_at Y N cap (descend_to N cap root Y)

@@ -51,7 +51,7 @@ pub fn needed_at(
     pages: &[u32],
     growth: &Growth<'_>,
     bytes: &[u8],
-    reach: Reach,
+    reach: Option<Reach>,
 ) -> Option<usize>
     requires node_table { NodeTable growth.now.block.nodes nodes.now }
     requires page_table { PageTable growth.now.block.pages growth.now.block.base pages.now }
@@ -59,7 +59,7 @@ pub fn needed_at(
     requires inside { Inside growth.now.block.nodes growth.now.rows.bytes reach }
     ensures { result ≡ needed_at pages.now growth.now.sketches.now growth.now.thresholds.now growth.now.block.pages growth.now.block.base growth.now.rows bytes.now nodes.now growth.now.block.nodes reach }
 {
-    match reach {
+    match reach? {
         Reach::Leaf(at) => {
             if at.level >= bytes.len() {
                 return Some(0);
@@ -70,7 +70,6 @@ pub fn needed_at(
             leaf_needs(pages, growth, at.level, count, first, byte)
         }
         Reach::Gap(at) => Some(gap_needs(growth.thresholds, bytes.len(), at.level + 1)),
-        Reach::Broken => None,
     }
 }
 
