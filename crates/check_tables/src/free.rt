@@ -19,20 +19,15 @@ fn is_free(nodes: &[u32], cap: usize, x: usize) -> bool
 }
 
 // How many nodes are not free, where all on the chain are; none where one is not.
-// No `for`: what is left of the budget is the answer.
 #[tactic(auto, unfolding(crate::specs::Free::test_free))]
 pub fn test_free(nodes: &[u32], cap: usize, first: u32) -> Option<u32>
     requires { NodeTable cap nodes.now }
     ensures { result ≡ test_free nodes.now cap first }
 {
     let mut link = first;
-    let mut left = cap as u32;
-    loop {
+    for left in (0..cap as u32 + 1).rev() {
         if link == 0 {
             return Some(left);
-        }
-        if left == 0 {
-            return None;
         }
         let x = (link as usize) - 1;
         if x >= cap {
@@ -42,6 +37,6 @@ pub fn test_free(nodes: &[u32], cap: usize, first: u32) -> Option<u32>
             return None;
         }
         link = next_free(nodes, cap, x);
-        left -= 1;
     }
+    None
 }

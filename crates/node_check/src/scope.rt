@@ -5,7 +5,8 @@ use crate::mark::Window;
 use blocks::Rows;
 use layout::Block;
 
-// The tables, the block, its rows, and the nodes that a map has bits for.
+// The tables, the block, its rows, and the nodes that a map has bits for. No method gives its `Leaves`: the two literals are shorter than its
+// contract.
 #[derive(Clone, Copy, Drop)]
 pub struct Scope<'a> {
     pub nodes: &'a [u32],

@@ -1,14 +1,11 @@
 -- The function `test_free` is the definition `test_free`.
 use native.Mathlib.Omega.{arith}
 use borrow.Author.Rules.{rules}
-use Rattle.check_tables.proofs.FreeSteps.{chain-end, chain-spent, chain-broken, chain-used, chain_next}
+use Rattle.check_tables.proofs.FreeSteps.{chain-end, chain-broken, chain-used, chain_next}
 use Rattle.check_tables.proofs.free.test_free.Goals as goal
 
 pub returns-then-link-eq0 : goal.returns-then-link-eq0
 returns-then-link-eq0 c = search chain-end
-
-pub returns-then-left-eq0 : goal.returns-then-left-eq0
-returns-then-left-eq0 c = search chain-spent
 
 pub returns-then-x-cap : goal.returns-then-x-cap
 returns-then-x-cap c = search chain-broken
@@ -16,5 +13,5 @@ returns-then-x-cap c = search chain-broken
 pub returns-then-not-is_free : goal.returns-then-not-is_free
 returns-then-not-is_free c = search chain-used
 
-pub loop-link-preserved : goal.loop-link-preserved
-loop-link-preserved c = (search chain_next, omega arith, search rules)
+pub loop-left-preserved : goal.loop-left-preserved
+loop-left-preserved c = (search chain_next, omega arith, search rules)
