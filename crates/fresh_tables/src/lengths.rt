@@ -16,7 +16,7 @@ pub struct Lengths {
     pub working: u32,
 }
 
-// The lengths; or 4.
+// The lengths; or 4. It is asked and the header made as in `open`: one function for both would have a contract as long as these lines.
 #[tactic(auto, unfolding(crate::specs::Lengths::lengths_of))]
 pub fn needed(given: Numbers) -> Result<Lengths, Refusal>
     ensures { told result ≡ lengths_of (bare given) }

@@ -51,7 +51,7 @@ fn is_on_path(leaves: &Leaves<'_>, path: &[u8; 64], depth: usize, p: usize) -> b
 }
 
 // Tests the pages of a leaf, from a link on, of which there are at most `budget`. What is left of it; none where the test fails.
-// No `for`: what is left of the budget is the answer.
+// No `for`: tried downward over `0..=budget`, and the proof that its turns begin with the whole budget did not close.
 fn test_pages(
     leaves: &Leaves<'_>,
     path: &[u8; 64],

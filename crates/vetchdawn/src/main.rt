@@ -41,11 +41,9 @@ fn read_full(input: &mut Stdin, bytes: &mut [u8]) -> usize
     done
 }
 
-// The line at the beginning of a buffer; of length 0, none. A write that fails is passed over.
-fn write_line(out: Stdout, line: &[u8], count: usize)
-    requires { count ≤ length line.now }
-{
-    let _ = out.write_all(&line[..count]);
+// A line; of length 0, none. A write that fails is passed over.
+fn write_line(out: Stdout, line: &[u8]) {
+    let _ = out.write_all(line);
 }
 
 fn write_last(out: Stdout, count: usize)
@@ -66,7 +64,7 @@ fn run_on(out: Stdout, program: &mut Program<'_>, bytes: &[u8]) -> usize
     let mut m = 0;
     loop {
         let turn = take_turn(program, bytes, at, m);
-        write_line(out, program.line, turn.length);
+        write_line(out, &program.line[..turn.length]);
         at = turn.at;
         m = turn.m;
         if !turn.going {
