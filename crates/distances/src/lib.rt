@@ -75,11 +75,12 @@ const BYTE_DISTANCES: [u8; 2048] = [
     1, 1, 1, 1, 1, 1, 1, 1, 1, 1, 1, 1, 1, 1, 1, 1, 1, 1, 1, 1, 1, 1, 1, 1, 1, 1, 1, 1, 1, 1, 1, 1,
 ];
 
-// The table as a value, with the fact that it is the table of byte distances. A search makes it once and lends it to each step.
-#[derive(Drop)]
+// The table as a value, with the fact that it is the table of byte distances. A search makes it once and lends it to each step. Its parts
+// are open: who has the table from elsewhere makes the value of it.
+#[derive(Clone, Copy)]
 pub struct Distances {
-    table: [u8; 2048],
-    ghost is_table: { table ≡ distance_table },
+    pub table: [u8; 2048],
+    pub ghost is_table: { table ≡ distance_table },
 }
 
 impl Distances {

@@ -22,7 +22,7 @@ use Rattle.comparison.specs.Verdicts.{verdict_of}
 use Rattle.signature.proofs.Most.{signature-most}
 use Rattle.hits.specs.Hit.{Test, Fitting, far, is_hit, is_near, near_query, passes, verdict}
 use Rattle.layout.specs.Signature.{signature}
-use Rattle.hits.specs.Probes.{filters_of, signature_for}
+use Rattle.hits.specs.Probes.{filters_of, filter_for}
 
 -- where signatures cannot tell pages apart
 pub near-all : (h : Numbers) (pages : List ℕ) (s radius p : ℕ) → filters_of h radius ≡ false → true ≡ is_near h pages s radius p
@@ -101,7 +101,7 @@ verdict-beyond t p = go (passes t p)
     go false e = refl
 
 -- ---- the query's signature, where signatures tell pages apart
-module _ (h : Numbers) (query : List ℕ) (radius : ℕ) (s : Option ℕ) (e : s ≡ signature_for h query radius) where
+module _ (h : Numbers) (query : List ℕ) (radius : ℕ) (s : Option ℕ) (e : s ≡ filter_for h (signature h.b query) radius) where
   pub telling-none : s ≡ None → filters_of h radius ≡ false
   telling-none q = go (filters_of h radius) (sym e ∙ q)
     where

@@ -14,9 +14,9 @@ use Rattle.hits.specs.Hit.{Test, test}
 abbrev pub filters_of : Numbers → ℕ → Bool
 filters_of h radius = ltb radius (4 * per_byte h.b)
 
--- the query's signature, where they do
-abbrev pub signature_for : Numbers → List ℕ → ℕ → Option ℕ
-signature_for h query radius = cond (filters_of h radius) (Some (signature h.b query)) None
+-- the query's signature s, where they do
+abbrev pub filter_for : Numbers → ℕ → ℕ → Option ℕ
+filter_for h s radius = cond (filters_of h radius) (Some s) None
 
 abbrev pub probe_of : Header → Classes → List ℕ → ℕ → Probe
 probe_of h classes query radius = record {
@@ -24,7 +24,8 @@ probe_of h classes query radius = record {
   classes = classes;
   radius = radius;
   shape = shape_of h.b h.m;
-  signature = signature_for (numbers h) query radius;
+  signature = signature h.b query;
+  filter = filter_for (numbers h) (signature h.b query) radius;
 }
 
 -- a probe that was made for the query

@@ -3,12 +3,10 @@ ghost use Rattle.hits.specs.Hit.{Fitting};
 ghost use Rattle.hits.specs.Probes.{Prepared, test_by};
 
 use crate::Probe;
-use distances::Distances;
 
 // The tables of pages, the query, and what is worked out of it once.
 #[derive(Clone, Copy, Drop)]
 pub struct Trial<'a> {
-    pub distances: &'a Distances,
     pub pages: &'a [u32],
     pub sketches: &'a [u8],
     pub query: &'a [u8],

@@ -103,7 +103,7 @@ step-told m bytes at = go (ltb at (length bytes)) (eqb (form_at m bytes at) 0) r
     go true false e = ap refused (its-number (form_at m bytes at) (three-at m bytes at) (eqb-false (form_at m bytes at) 0 e))
     go false right e = refl
 
-pub stepped : {m : ℕ} {bytes : List ℕ} {at : ℕ} {s : Step} → s ≡ step_at m bytes at → Stepped m bytes at s
+pub stepped : {m : ℕ} {bytes : List ℕ} {at : ℕ} {s : Step Refusal} → s ≡ step_at m bytes at → Stepped m bytes at s
 stepped {m} {bytes} {at} e = record { told-right = ap (told m bytes) e ∙ step-told m bytes at; in_place = e }
 
 pub at-end : (m : ℕ) (bytes : List ℕ) (at : ℕ) → length bytes ≤ at → End ≡ step_at m bytes at
@@ -128,12 +128,12 @@ rest at bytes = take_all (length bytes - at) (drop at bytes) (omega (arith, leng
 
 -- ---- a command that was taken
 
-is_taken : Step → Bool
+is_taken : Step Refusal → Bool
 is_taken (Taken c to) = true
 is_taken (Refused r) = false
 is_taken End = false
 
-command_in : Command → Step → Command
+command_in : Command → Step Refusal → Command
 command_in other (Taken c to) = c
 command_in other (Refused r) = other
 command_in other End = other
@@ -148,7 +148,7 @@ taken-there m bytes at c to st = go (ltb at (length bytes)) (eqb (form_at m byte
         → Taken c to ≡ cond more (cond right (Taken (command_at bytes at) (at + taken m (drop at bytes))) (Refused (refusal_of (form_at m bytes at)))) End
         → (c ≡ command_at bytes at) × ((to ≡ at + taken m (drop at bytes)) × (to ≤ length bytes))
     go true true e f p =
-        let reached = ap (λ (s : Step). reached_by s 0) p in (
+        let reached = ap (λ (s : Step Refusal). reached_by s 0) p in (
           ap (command_in c) p,
           (reached, omega (arith, reached, behind-there m bytes at (ltb-true at (length bytes) e) (eqb-true (form_at m bytes at) 0 f))),
         )

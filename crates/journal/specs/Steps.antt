@@ -30,7 +30,7 @@ symbols_end m (Drop p) = 0
 symbols_end m (Register c) = 0
 
 -- what a step says
-unfoldable pub told : ℕ → List ℕ → Step → Next
+unfoldable pub told : ℕ → List ℕ → Step Refusal → Next
 told m bytes (Taken c to) = command-to (meant m bytes c) to
 told m bytes (Refused r) = refused (number_of r)
 told m bytes End = ended
@@ -57,7 +57,7 @@ command_at bytes at = command_of (drop at bytes) at
 abbrev pub refusal_of : ℕ → Refusal
 refusal_of n = cond (eqb n 1) UnknownCommand (cond (eqb n 2) MisplacedCommand MissingOperands)
 
-unfoldable pub step_at : ℕ → List ℕ → ℕ → Step
+unfoldable pub step_at : ℕ → List ℕ → ℕ → Step Refusal
 step_at m bytes at =
     cond (ltb at (length bytes)) (
     cond (eqb (form_at m bytes at) 0) (Taken (command_at bytes at) (at + taken m (drop at bytes)))
@@ -65,12 +65,12 @@ step_at m bytes at =
     End
 
 -- what is promised of a step: it says what the paper has there, and its symbols stand in their place
-pub record Stepped (m : ℕ) (bytes : List ℕ) (at : ℕ) (s : Step) : Type 0 where
+pub record Stepped (m : ℕ) (bytes : List ℕ) (at : ℕ) (s : Step Refusal) : Type 0 where
   pub told-right : told m bytes s ≡ next m bytes at
   pub in_place : s ≡ step_at m bytes at
 
--- the offset after a step
-unfoldable pub reached_by : Step → ℕ → ℕ
+-- the offset after a step, however a refusal is told
+unfoldable pub reached_by : {R : Type 0} → Step R → ℕ → ℕ
 reached_by (Taken c to) at = to
 reached_by (Refused r) at = at
 reached_by End at = at

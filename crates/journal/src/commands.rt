@@ -32,11 +32,12 @@ pub enum Command {
     },
 }
 
-// What stands at an offset: a command and the offset behind it, a command that 1 to 3 refuse, or nothing more.
+// What stands at an offset: a command and the offset behind it, a command that 1 to 3 refuse, or nothing more. Where a step leads does
+// not hang on how a refusal is told: by a `Refusal`, as the reader does, or by another type, as its number.
 #[derive(Clone, Copy, Debug, PartialEq, Eq)]
-pub enum Step {
+pub enum Step<R> {
     Taken { command: Command, to: usize },
-    Refused(Refusal),
+    Refused(R),
     End,
 }
 
@@ -128,7 +129,7 @@ fn mark_at(at: usize) -> u8
 
 // What stands at an offset, with m symbols a sketch.
 #[tactic(auto, unfolding(meaning::specs::Journal::form_at, meaning::specs::Journal::taken))]
-pub fn next_at(bytes: &[u8], at: usize, m: u8) -> Step
+pub fn next_at(bytes: &[u8], at: usize, m: u8) -> Step<Refusal>
     ensures { Stepped m bytes.now at result }
 {
     if bytes.len() <= at {
@@ -147,7 +148,7 @@ pub fn next_at(bytes: &[u8], at: usize, m: u8) -> Step
 
 // The offset reached by a step from another: that behind a command taken; else it stays.
 #[tactic(auto, unfolding(crate::specs::Steps::reached_by))]
-pub fn reached(step: Step, at: usize) -> usize
+pub fn reached<R: Copy>(step: Step<R>, at: usize) -> usize
     ensures { result ≡ reached_by step at }
 {
     match step {

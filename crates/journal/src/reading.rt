@@ -4,6 +4,7 @@ ghost use Rattle.std.specs.Prelude.{◌≡◌};
 ghost use Rattle.journal.specs.Steps.{Stepped, reached_by};
 
 use crate::commands::{Step, next_at, reached};
+use refusals::Refusal;
 
 #[derive(Clone, Copy)]
 pub struct Reader<'a> {
@@ -20,14 +21,14 @@ impl<'a> Reader<'a> {
     }
 
     // What stands where the reader is, with m symbols a sketch.
-    pub fn next(self, m: u8) -> Step
+    pub fn next(self, m: u8) -> Step<Refusal>
         ensures { Stepped m self.entry.bytes.now self.entry.at result }
     {
         next_at(self.bytes, self.at, m)
     }
 
     // The reader behind a command that was taken; where it was refused, and at the end, the offset stays.
-    pub fn advance(self, step: Step) -> Reader<'a>
+    pub fn advance<R: Copy>(self, step: Step<R>) -> Reader<'a>
         ensures { (result.bytes ≡ self.entry.bytes) × (result.at ≡ reached_by step self.entry.at) }
     {
         Reader {
@@ -38,7 +39,7 @@ impl<'a> Reader<'a> {
 }
 
 // What stands at an offset of the bytes.
-pub fn read(bytes: &[u8], at: usize, m: u8) -> Step
+pub fn read(bytes: &[u8], at: usize, m: u8) -> Step<Refusal>
     ensures { Stepped m bytes.now at result }
 {
     Reader::new(bytes, at).next(m)

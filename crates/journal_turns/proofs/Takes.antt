@@ -22,7 +22,7 @@ use Rattle.journal_answers.proofs.Same.{same_line, same-symbols}
 use Rattle.journal_calls.specs.Commands.{Executed}
 use Rattle.journal_turns.specs.Turns.{State, goes_on, state, Carried, Turned, ends, refuses, carries}
 
-pub moved_to : (m : ℕ) (bytes : List ℕ) (at : ℕ) {s t : Step} → s ≡ t → Stepped m bytes at s → Stepped m bytes at t
+pub moved_to : (m : ℕ) (bytes : List ℕ) (at : ℕ) {s t : Step Refusal} → s ≡ t → Stepped m bytes at s → Stepped m bytes at t
 moved_to m bytes at e h = rw (← e) h
 
 -- a line put at the beginning of a buffer can be read there

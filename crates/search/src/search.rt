@@ -12,7 +12,6 @@ ghost use Rattle.traversal.specs.Meets.{meet_blocks};
 ghost use Rattle.search_laws.specs.Answer.{Answered, AnsweredBy};
 
 use crate::questions;
-use distances::Distances;
 use hits::trial::Trial;
 use lent::{Lists, View};
 use listing::scope::Scope;
@@ -66,9 +65,7 @@ pub fn search(
     questions::ask_query(h, reader, radius, sketch)?;
     let classes = rights::entry(view.settings, reader as usize);
     let probe = hits::probe_of(h, classes, sketch, radius);
-    let distances = Distances::new();
     let trial = Trial {
-        distances: &distances,
         pages: view.pages,
         sketches: view.sketches,
         query: sketch,

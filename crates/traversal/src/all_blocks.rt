@@ -8,6 +8,7 @@ ghost use Rattle.traversal.specs.Meets.{meet_block, meet_from, meet_blocks};
 
 use crate::bytes::{Packed, pack};
 use crate::quest::Quest;
+use distances::Distances;
 use meeting::{Tally, chains_of, meet};
 use walk::batch::Rest;
 use walk_steps::frame::Frame;
@@ -24,6 +25,7 @@ pub struct Start {
 // Walks a block's trie from its root, node j for block j, and meets the pages of its leaves, a batch at a time.
 fn meet_block(
     quest: &Quest<'_>,
+    distances: &Distances,
     map: &mut [u32],
     counts: &mut [u32; 65],
     start: Start,
@@ -55,10 +57,10 @@ fn meet_block(
     // No `for`: the walk itself says when it is over.
     loop {
         let cs = chains_of(&batch.links, batch.n, base, 0);
-        tally = meet(&quest.trial, quest.words, map, counts, cs, tally)?;
+        tally = meet(&quest.trial, distances, quest.words, map, counts, cs, tally)?;
         match batch.rest {
             Rest::More { place } => {
-                batch = walk::batch::next(&walk, quest.trial.distances, &mut stack, place);
+                batch = walk::batch::next(&walk, distances, &mut stack, place);
             }
             Rest::Done { nodes } => {
                 // no `..tally`: it would stand for one part alone
@@ -75,6 +77,7 @@ fn meet_block(
 // Meets the pages of the leaf in each trie that the query's own bytes lead to: the descents of all blocks go on together, then their chains.
 fn meet_exact(
     quest: &Quest<'_>,
+    distances: &Distances,
     map: &mut [u32],
     counts: &mut [u32; 65],
     start: Tally,
@@ -93,7 +96,15 @@ fn meet_exact(
         left: (h.q * h.pages) as u32,
         count: start.count,
     };
-    let met = meet(&quest.trial, quest.words, map, counts, each, most)?;
+    let met = meet(
+        &quest.trial,
+        distances,
+        quest.words,
+        map,
+        counts,
+        each,
+        most,
+    )?;
     // no `..met`: it would stand for one part alone
     Some(Tally {
         left,
@@ -104,6 +115,7 @@ fn meet_exact(
 // Walks the trie of each block in turn, within a block radius that is not 0. What one leaves of the nodes is the next one's.
 fn meet_each(
     quest: &Quest<'_>,
+    distances: &Distances,
     map: &mut [u32],
     counts: &mut [u32; 65],
     radius: u32,
@@ -121,7 +133,7 @@ fn meet_each(
             radius,
             tally,
         };
-        tally = meet_block(quest, map, counts, start)?;
+        tally = meet_block(quest, distances, map, counts, start)?;
     }
     Some(tally)
 }
@@ -135,13 +147,14 @@ pub fn meet_blocks(quest: &Quest<'_>, map: &mut [u32], counts: &mut [u32; 65]) -
 {
     let h = quest.trial.probe.header;
     let q = h.q;
+    let distances = Distances::new();
     let radius = quest.trial.probe.radius / (q as u32);
     let start = Tally {
         left: (h.nodes - q) as u32,
         count: 0,
     };
     if radius == 0 {
-        return meet_exact(quest, map, counts, start);
+        return meet_exact(quest, &distances, map, counts, start);
     }
-    meet_each(quest, map, counts, radius, start)
+    meet_each(quest, &distances, map, counts, radius, start)
 }

@@ -3,6 +3,7 @@ use mathlib.Core.Path.{◌≡◌}
 use mathlib.Core.List.{[]}
 use Rattle.lent.specs.Lists.{output_of}
 use Rattle.journal_calls.specs.Desk.{tables_of}
+use Rattle.refusals.specs.declared.Refusal.{Refusal}
 use Rattle.journal.specs.declared.commands.Step.{Step}
 use Rattle.journal.specs.Steps.{Stepped}
 use Rattle.journal.proofs.Steps.{symbols-there}
@@ -11,7 +12,7 @@ use Rattle.journal_turns.proofs.turn.take_turn.Goals as goal
 use Rattle.journal_turns.proofs.turn.take_turn.Goals.{After-read}
 
 -- what was read
-stepped : (c : After-read) {s : Step} → c.read.result ≡ s → Stepped c.args.m c.args.bytes.now c.args.at s
+stepped : (c : After-read) {s : Step Refusal} → c.read.result ≡ s → Stepped c.args.m c.args.bytes.now c.args.at s
 stepped c e = moved_to _ _ _ e c.read.ensures
 
 pub carry_out-requires-clause-command_in_bounds : goal.carry_out-requires-clause-command_in_bounds
