@@ -1,6 +1,7 @@
 // Add: a page with its class and sketch. What it promises is in crates/promises/specs/Store.antt.
 ghost use Rattle.layout.specs.Headers.{numbers};
-ghost use Rattle.std.specs.Prelude.{◌≡◌, Ok};
+ghost use Rattle.layout.specs.Pages.{with_row};
+ghost use Rattle.std.specs.Prelude.{◌≡◌, ◌+◌, ◌*◌, ◌≤◌, length, Ok};
 ghost use Rattle.meaning.specs.Ledger.{add};
 ghost use Rattle.lent.specs.Lists.{lists, SameTables};
 ghost use Rattle.promises.specs.Store.{outcome, AddPromise};
@@ -16,6 +17,20 @@ use lent::Index;
 use refusals::Refusal;
 use signature::signature_of;
 use trie::Stop;
+
+// The sketch written as the row of page p. Not by `layout::pages::write_row`, which copies a slice: for that the archive for C would need
+// `memmove` from outside.
+#[tactic(auto, unfolding(layout::specs::Pages::with_row))]
+fn write_row(sketches: &mut [u8], m: usize, p: usize, x: &[u8])
+    requires m_in_bounds { p * m + m ≤ length sketches.old }
+    requires x_len { length x.now ≡ m }
+    ensures { sketches.new ≡ with_row m sketches.old p x.now }
+{
+    let start = p * m;
+    for i in 0..m {
+        sketches[start + i] = x[i];
+    }
+}
 
 // The page's row, its leaf in each trie, its page word and its signature. 14 where an insertion stops on unsound tables.
 fn put_page(
@@ -33,7 +48,7 @@ fn put_page(
     let settings = &mut *index.settings;
     let nodes = &mut *index.nodes;
     let pages = &mut *index.pages;
-    layout::pages::write_row(sketches, h.m, p, sketch);
+    write_row(sketches, h.m, p, sketch);
     let free = settings::free_link(settings);
     let thresholds = settings::thresholds(settings);
     let link = insert_all(nodes, pages, sketches, thresholds, h, sketch, p, free).ok_or(

@@ -1,13 +1,13 @@
 -- Decimal digits; and a run of stores that is made of two.
-use Prim.Native.Nat.{ℕ, suc, ◌+◌, ◌^◌, ◌<◌, ◌≤◌}
+use Prim.Native.Nat.{ℕ, zero, suc, ◌+◌, ◌/◌, ◌%◌, ◌^◌, ◌<◌, ◌≤◌}
 use mathlib.Core.Path.{◌≡◌, refl, sym, ap, ap₂, ◌∙◌}
-use mathlib.Core.List.{List, [], ◌∷◌, ◌++◌}
+use mathlib.Core.Bool.{Bool, true, false, cond}
+use mathlib.Core.List.{List, [], ◌∷◌, ◌++◌, append_assoc}
 use native.Mathlib.Omega.{arith}
-use lib.ListN.{length, set, take, drop, length-append}
-use lib.Seq.{sets, sets-eq, take_all}
-use borrow.Rule.Slice.PartMut.{put_mid}
-use Rattle.std.proofs.lemmas.Slice.{put_mid-paste}
-use borrow.Author.Tests.{lt-ltb, le-ltb}
+use lib.Dec.{ltb}
+use lib.ListN.{length, set, take, drop, length-append, take-append-drop}
+use lib.Seq.{sets, sets-eq}
+use borrow.Author.Tests.{lt-ltb, le-ltb, ltb-true, ltb-false}
 use Rattle.std.specs.Fmt.{decimal as text}
 use Rattle.std.proofs.lemmas.Fmt.{AppendsLastDigit, decimal_from_appends, length-decimal-le, length-decimal-le_succ}
 use Rattle.meaning.specs.Journal.{digits, decimal, field, fields}
@@ -24,19 +24,58 @@ same-decimal n h = sym (decimal_from_appends digits digits-append (suc n) n (ome
 pub ten-digits : (n : ℕ) → n < 2 ^ 32 → length (decimal n) ≤ 10
 ten-digits n h = omega (arith, ap length (same-decimal n h), length-decimal-le 10 n (omega arith) (omega arith) (omega arith))
 
+-- ---- how many digits
+
+-- any count of digits above the number gives the same
+digits-enough : (f g n : ℕ) → n < f → n < g → digits f n ≡ digits g n
+unfolding digits
+digits-enough zero g n h k = absurd (omega arith)
+digits-enough (suc f) zero n h k = absurd (omega arith)
+digits-enough (suc f) (suc g) n h k = go (ltb n 10) refl (λ e. digits-enough f g (n / 10) (omega (arith, ltb-false n 10 e)) (omega (arith, ltb-false n 10 e)))
+  where
+    go : (t : Bool) → ltb n 10 ≡ t → (ltb n 10 ≡ false → digits f (n / 10) ≡ digits g (n / 10))
+        → cond t ((48 + n) ∷ []) (digits f (n / 10) ++ ((48 + n % 10) ∷ [])) ≡ cond t ((48 + n) ∷ []) (digits g (n / 10) ++ ((48 + n % 10) ∷ []))
+    go true e ih = refl
+    go false e ih = ap (λ (ds : List ℕ). ds ++ ((48 + n % 10) ∷ [])) (ih e)
+
+pub one-digit : (n : ℕ) → n < 10 → decimal n ≡ (48 + n) ∷ []
+unfolding decimal digits
+one-digit n h = rw (lt-ltb n 10 h)
+
+pub more-digits : (n : ℕ) → 10 ≤ n → decimal n ≡ decimal (n / 10) ++ ((48 + n % 10) ∷ [])
+unfolding decimal digits
+more-digits n h = rw (le-ltb n 10 h) (ap (λ (ds : List ℕ). ds ++ ((48 + n % 10) ∷ [])) (digits-enough n (suc (n / 10)) (n / 10) (omega arith) (omega arith)))
+
+pub one-long : (n : ℕ) → n < 10 → length (decimal n) ≡ 1
+one-long n h = ap length (one-digit n h)
+
+pub more-long : (n : ℕ) → 10 ≤ n → length (decimal n) ≡ length (decimal (n / 10)) + 1
+more-long n h = ap length (more-digits n h) ∙ length-append (decimal (n / 10)) ((48 + n % 10) ∷ [])
+
+pub some_digit : (n : ℕ) → 1 ≤ length (decimal n)
+some_digit n = go (ltb n 10) refl
+  where
+    go : (t : Bool) → ltb n 10 ≡ t → 1 ≤ length (decimal n)
+    go true e = omega (arith, one-long n (ltb-true n 10 e))
+    go false e = omega (arith, more-long n (ltb-false n 10 e))
+
 -- ---- stores
 
 pub sets-append : (l : List ℕ) (at : ℕ) (xs ys : List ℕ) → sets l at (xs ++ ys) ≡ sets (sets l at xs) (at + length xs) ys
 sets-append l at [] ys = ap (λ (k : ℕ). sets l k ys) (omega arith)
 sets-append l at (x ∷ xs) ys = sets-append (set l at x) (suc at) xs ys ∙ ap (λ (k : ℕ). sets (sets (set l at x) (suc at) xs) k ys) (omega arith)
 
--- a number's text, copied to an offset
-pub number-stored : (l : List ℕ) (at k n : ℕ) (ys ds : List ℕ) → n < 2 ^ 32 → ys ≡ ds → ds ≡ text n → k ≡ length ds → at + length ds ≤ length l
-    → put_mid at k l ys ≡ sets l at (decimal n)
-number-stored l at k n ys ds h e d long fits =
-    put_mid-paste at k l ys ds (length ds) e (sym long) refl
-    ∙ (ap (λ (s : List ℕ). (take at l ++ s) ++ drop (at + length ds) l) (take_all (length ds) ds (omega arith))
-    ∙ (sym (sets-eq ds l at fits) ∙ ap (sets l at) (d ∙ same-decimal n h)))
+-- a number's text, written at an offset
+pub number-stored : (l new : List ℕ) (at n r m k : ℕ) → n < 2 ^ 32 → at + length (decimal n) ≤ length l → r ≡ at → m ≡ n → k ≡ at + length (decimal n)
+    → take r new ≡ take r l → drop r new ≡ text m ++ drop k l → new ≡ sets l at (decimal n)
+number-stored l new at n r m k h fits here same long before behind =
+    sym (take-append-drop r new)
+    ∙ (ap₂ (λ (a b : List ℕ). a ++ b) before behind
+    ∙ (ap (λ (i : ℕ). take i l ++ (text m ++ drop k l)) here
+    ∙ (ap (λ (i : ℕ). take at l ++ (text i ++ drop k l)) same
+    ∙ (ap (λ (i : ℕ). take at l ++ (text n ++ drop i l)) long
+    ∙ (ap (λ (ds : List ℕ). take at l ++ (ds ++ drop (at + length (decimal n)) l)) (same-decimal n h)
+    ∙ (sym (append_assoc (take at l) (decimal n) (drop (at + length (decimal n)) l)) ∙ sym (sets-eq (decimal n) l at fits)))))))
 
 -- ---- fields
 
