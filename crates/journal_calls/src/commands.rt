@@ -2,8 +2,9 @@
 ghost use Rattle.std.specs.Prelude.{◌≤◌, ◌≡◌, length, replicate};
 ghost use Rattle.meaning.specs.Ledger.{settings_given};
 ghost use Rattle.promises.specs.Tables.{tables};
-ghost use Rattle.promises.specs.Calls.{OpenPromise};
+ghost use Rattle.promises.specs.Calls.{OpenPromise, RightsPromise};
 ghost use Rattle.promises.specs.Readings.{SearchPromise};
+ghost use Rattle.rights.specs.Changes.{change_meant};
 ghost use Rattle.journal.specs.Steps.{meant, symbols_end};
 ghost use Rattle.journal_answers.specs.Answers.{page_capacity, node_capacity};
 ghost use Rattle.journal_calls.specs.Commands.{Executed};
@@ -18,6 +19,7 @@ use journal::commands::{Command, symbols_at};
 use layout::Numbers;
 use lent::{Index, Lists};
 use refusals::Refusal;
+use rights::Change;
 use search::search::search;
 
 // The capacities of the program's tables.
@@ -67,6 +69,13 @@ fn search_in(
     search(index.view(sketches), working, reader, radius, query, output)
 }
 
+// A change of the register: on the settings table alone.
+fn change_register(settings: &mut [u32], change: Change) -> Result<(), Refusal>
+    ensures { RightsPromise (change_meant change) settings.old (answer_number result) settings.new }
+{
+    register::change(settings, change)
+}
+
 // Carries a command out, by a match: each call has operands of its own. A search gives its count, and any other 0. Its m symbols, where
 // it has any, lie in the journal's bytes.
 #[tactic(auto, unfolding(journal::specs::Steps::symbols_end, journal::specs::Steps::meant))]
@@ -99,7 +108,7 @@ pub fn execute(desk: &mut Desk<'_>, bytes: &[u8], m: u8, command: Command) -> Re
             let sketches = &mut *desk.sketches;
             uncounted(drop_page(&mut desk.index, sketches, page))
         }
-        Command::Register(change) => uncounted(register::change(desk.index.settings, change)),
+        Command::Register(change) => uncounted(change_register(desk.index.settings, change)),
         Command::Search {
             reader,
             radius,

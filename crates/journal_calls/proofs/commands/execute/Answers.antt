@@ -25,7 +25,7 @@ pub returns-in-Register-clause-executed : goal.returns-in-Register-clause-execut
 unfolding meant
 returns-in-Register-clause-executed c =
     rw c.in-Register.is
-    (change-executed _ _ _ c.uncounted-in-Register.ensures.number c.uncounted-in-Register.ensures.count _ _ c.change.ensures)
+    (change-executed _ _ _ c.uncounted-in-Register.ensures.number c.uncounted-in-Register.ensures.count _ _ c.change_register.ensures)
 
 pub returns-in-Search-clause-executed : goal.returns-in-Search-clause-executed
 unfolding meant
